@@ -1,0 +1,42 @@
+-- The flush, and 35h SYNCHRONIZE CACHE.
+use Prim.Native.Nat.{ℕ, _+_, _-_}
+use mathlib.Core.Bool.{cond}
+use lib.ListN.{set}
+use lib.Dec.{eqb}
+use Rattle.disc.specs.Types.{Fragment, Disc, Flush, Skip, Record, Nothing, Verdict}
+use Rattle.disc.specs.Fragment.{firstUnrecorded}
+use Rattle.disc.specs.Records.{numbered}
+use Rattle.disc.specs.Verdict.{accept, noReply, plan}
+
+-- the record whose pending block, n sectors of it given, is recorded with zeros for the missing ones
+abbrev pub flushedRecord : ℕ → Fragment → Fragment
+flushedRecord n f =
+    record {
+      session = f .session;
+      start = f .start;
+      length = f .length;
+      recorded = f .recorded + 1;
+      zeroed = f .zeroed + (16 - n);
+      kind = f .kind;
+    }
+
+-- the disc after a "flush": the pending block is recorded; with none pending nothing happens
+unfoldable pub flush : Disc → Disc
+flush d =
+    cond (eqb (d .pending) 0) d
+    (record {
+      capacity = d .capacity;
+      finalized = d .finalized;
+      sense = d .sense;
+      pending = 0;
+      owner = 0;
+      fragments = set (d .fragments) (d .owner - 1) (flushedRecord (d .pending) (numbered d (d .owner)));
+    })
+
+-- the same for the bytes
+unfoldable pub flushPlan : Disc → Flush
+flushPlan d = cond (eqb (d .pending) 0) Skip (Record (firstUnrecorded (numbered d (d .owner))) (d .pending))
+
+-- 35h flushes and does nothing else
+unfoldable pub synchronizeCache : Disc → Verdict
+synchronizeCache d = accept d (flush d) noReply (plan (flushPlan d) Nothing)

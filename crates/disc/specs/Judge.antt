@@ -1,0 +1,46 @@
+-- What the drive decides about a command: from the disc, the command block and the lengths of data and reply buffer alone.
+use Prim.Native.Nat.{ℕ}
+use mathlib.Core.Bool.{cond, not}
+use mathlib.Core.List.{List}
+use Rattle.disc.specs.Types.{Disc, Verdict, Command, TestUnitReady, RequestSense, ReadCapacity, Read, Write, SynchronizeCache, ReserveTrack, CloseTrackSession, ReadDiscInformation, ReadTrackInformation, Unlisted, InvalidOperationCode, MediumSize, UnsoundState, TransferLength}
+use Rattle.disc.specs.Command.{decode}
+use Rattle.disc.specs.Sound.{allowedState}
+use Rattle.disc.specs.Blank.{inRange}
+use Rattle.disc.specs.Lengths.{lengthsFit}
+use Rattle.disc.specs.Verdict.{accept, refuse, refuseLink, noReply, noPlan}
+use Rattle.disc.specs.Flush.{synchronizeCache}
+use Rattle.disc.specs.Read.{read}
+use Rattle.disc.specs.Write.{write}
+use Rattle.disc.specs.Reserve.{reserve}
+use Rattle.disc.specs.Close.{close}
+use Rattle.disc.specs.Reports.{requestSense, readCapacity, readDiscInformation, readTrackInformation}
+
+-- 00h is accepted
+unfoldable pub testUnitReady : Disc → Verdict
+testUnitReady d = accept d d noReply noPlan
+
+-- each listed command; an opcode that is not listed is refused
+unfoldable pub perform : Disc → Command → Verdict
+perform d TestUnitReady = testUnitReady d
+perform d (RequestSense allocation) = requestSense d allocation
+perform d ReadCapacity = readCapacity d
+perform d (Read a n) = read d a n
+perform d (Write a n) = write d a n
+perform d SynchronizeCache = synchronizeCache d
+perform d (ReserveTrack size) = reserve d size
+perform d (CloseTrackSession function n) = close d function n
+perform d (ReadDiscInformation dataType allocation) = readDiscInformation d dataType allocation
+perform d (ReadTrackInformation addressType n allocation) = readTrackInformation d addressType n allocation
+perform d Unlisted = refuse d InvalidOperationCode
+
+-- the link refusals that need no buffer, in order (L2 of the capacity, L3, L4), then the drive
+unfoldable pub judgeCommand : Disc → Command → ℕ → ℕ → Verdict
+judgeCommand d c dataLent replyLent =
+    cond (not (inRange (d .capacity))) (refuseLink d MediumSize)
+    (cond (not (allowedState d)) (refuseLink d UnsoundState)
+    (cond (not (lengthsFit c dataLent replyLent)) (refuseLink d TransferLength)
+    (perform d c)))
+
+-- the block's bytes matter by the fields that are decoded from them and no other way
+unfoldable pub judge : Disc → List ℕ → ℕ → ℕ → Verdict
+judge d b dataLent replyLent = judgeCommand d (decode b) dataLent replyLent

@@ -1,0 +1,30 @@
+-- 53h RESERVE TRACK.
+use Prim.Native.Nat.{ℕ, _+_}
+use mathlib.Core.Bool.{cond, not}
+use lib.Dec.{eqb, leb}
+use Rattle.disc.specs.Types.{Fragment, Reserved, Disc, Verdict, WriteProtected, InvalidFieldInCommand, NoMoreReservations, EndOfUserArea}
+use Rattle.disc.specs.Address.{blocksFor}
+use Rattle.disc.specs.Fragment.{end, nextFragmentStart, tailFrom}
+use Rattle.disc.specs.Records.{limit, used, lastRecord, withRecord, hasBlankTail}
+use Rattle.disc.specs.Verdict.{accept, refuse, noReply, noPlan}
+
+-- the reserved fragment of b blocks in the place of the tail f
+abbrev pub reservedAt : Fragment → ℕ → Fragment
+reservedAt f b =
+    record { session = f .session; start = f .start; length = b; recorded = 0; zeroed = 0; kind = Reserved }
+
+-- the blank tail becomes a reserved fragment of b blocks and a tail behind it
+unfoldable pub splitTail : Disc → ℕ → Disc
+splitTail d b =
+    let f = reservedAt (lastRecord d) b in
+    withRecord (withRecord d (used d) f) (used d + 1) (tailFrom (d .capacity) (f .session) (nextFragmentStart (end f)))
+
+-- 53h with its refusals in the table's order; nothing is flushed
+unfoldable pub reserve : Disc → ℕ → Verdict
+reserve d size =
+    cond (d .finalized) (refuse d WriteProtected)
+    (cond (eqb size 0) (refuse d InvalidFieldInCommand)
+    (cond (not (hasBlankTail d)) (refuse d NoMoreReservations)
+    (cond (eqb (used d) limit) (refuse d NoMoreReservations)
+    (cond (leb (d .capacity) (nextFragmentStart (end (reservedAt (lastRecord d) (blocksFor size))) .0)) (refuse d EndOfUserArea)
+    (accept d (splitTail d (blocksFor size)) noReply noPlan)))))

@@ -1,0 +1,40 @@
+-- The three kinds of verdict: accepted, refused by the drive, refused on the link.
+use Prim.Native.Nat.{ℕ, _-_, min}
+use mathlib.Core.List.{List, [], _++_}
+use lib.ListN.{length, replicate}
+use Rattle.disc.specs.Types.{Disc, DriveRefusal, LinkRefusal, Accepted, Link, Drive, Reply, Flush, Skip, Transfer, Nothing, Plan, Verdict}
+use Rattle.disc.specs.Answer.{noSense, refusalSense}
+use Rattle.disc.specs.Records.{sumRecorded, withSense}
+
+-- a report, of which at most `allocation` bytes are sent: the one place where replies are cut
+abbrev pub report : List ℕ → ℕ → Reply
+report bytes allocation =
+    record { bytes = bytes ++ replicate (36 - length bytes) 0; length = min (length bytes) allocation }
+
+-- a reply of no bytes
+abbrev pub noReply : Reply
+noReply = report [] 0
+
+abbrev pub plan : Flush → Transfer → Plan
+plan f t = record { flush = f; transfer = t }
+
+abbrev pub noPlan : Plan
+noPlan = plan Skip Nothing
+
+-- the number of blocks recorded: by how much the recorded blocks of all fragments rise
+abbrev pub rise : Disc → Disc → ℕ
+rise before after = sumRecorded (after .fragments) - sumRecorded (before .fragments)
+
+-- accepted: the sense is cleared; `before` and `after` are the disc before and after the command
+unfoldable pub accept : Disc → Disc → Reply → Plan → Verdict
+accept before after r p =
+    record { answer = Accepted; disc = withSense after noSense; reply = r; recorded = rise before after; plan = p }
+
+-- refused by the drive: only the sense changes
+unfoldable pub refuse : Disc → DriveRefusal → Verdict
+refuse d r =
+    record { answer = Drive r; disc = withSense d (refusalSense r); reply = noReply; recorded = 0; plan = noPlan }
+
+-- refused on the link: nothing changes
+unfoldable pub refuseLink : Disc → LinkRefusal → Verdict
+refuseLink d r = record { answer = Link r; disc = d; reply = noReply; recorded = 0; plan = noPlan }

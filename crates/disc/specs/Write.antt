@@ -1,0 +1,60 @@
+-- 2Ah WRITE: the decision, the new list and the plan.
+use Prim.Native.Nat.{ℕ, _+_, _-_, _/_, _%_}
+use mathlib.Core.Bool.{cond}
+use lib.ListN.{set}
+use lib.Dec.{eqb, ltb}
+use Rattle.disc.specs.Types.{Lba, Fragment, Disc, Found, Number, Nowhere, Flush, Skip, Gather, Verdict, WriteProtected, InvalidAddressForWrite, EndOfUserArea}
+use Rattle.disc.specs.Address.{firstSector}
+use Rattle.disc.specs.Fragment.{end, firstUnrecorded, pendingIn}
+use Rattle.disc.specs.Records.{numbered, writableAt}
+use Rattle.disc.specs.Verdict.{accept, refuse, noReply, noPlan, plan}
+use Rattle.disc.specs.Flush.{flush, flushPlan}
+
+-- sectors pending in another fragment are flushed first: the disc after that, and the plan for it
+unfoldable pub flushOthers : Disc → ℕ → Disc
+flushOthers d n = cond (eqb (d .owner) n) d (flush d)
+
+unfoldable pub flushOthersPlan : Disc → ℕ → Flush
+flushOthersPlan d n = cond (eqb (d .owner) n) Skip (flushPlan d)
+
+abbrev pub grownRecord : ℕ → Fragment → Fragment
+grownRecord blocks f =
+    record {
+      session = f .session;
+      start = f .start;
+      length = f .length;
+      recorded = f .recorded + blocks;
+      zeroed = f .zeroed;
+      kind = f .kind;
+    }
+
+-- n more sectors gather in the fragment with this number; each sixteen are recorded, the rest stays pending
+unfoldable pub gather : Disc → ℕ → ℕ → Disc
+gather d number n =
+    let held = pendingIn d number + n in
+    record {
+      capacity = d .capacity;
+      finalized = d .finalized;
+      sense = d .sense;
+      pending = held % 16;
+      owner = cond (eqb (held % 16) 0) 0 number;
+      fragments = set (d .fragments) (number - 1) (grownRecord (held / 16) (numbered d number));
+    }
+
+-- a WRITE of n sectors whose address is the next writable one of the fragment with this number: it must fit whole
+unfoldable pub writeTo : Disc → Lba → ℕ → ℕ → Verdict
+writeTo d a n number =
+    cond (ltb (firstSector (end (numbered d number)) .0) (a .0 + n)) (refuse d EndOfUserArea)
+    (accept d (gather (flushOthers d number) number n) noReply
+    (plan (flushOthersPlan d number) (Gather (firstUnrecorded (numbered d number)) (pendingIn d number) n)))
+
+unfoldable pub writeFound : Disc → Lba → ℕ → Found → Verdict
+writeFound d a n (Number number) = writeTo d a n number
+writeFound d a n Nowhere = refuse d InvalidAddressForWrite
+
+-- a length of 0 is accepted wherever it points; then the refusals of 2Ah in the table's order, judged on the disc as it stands
+unfoldable pub write : Disc → Lba → ℕ → Verdict
+write d a n =
+    cond (eqb n 0) (accept d d noReply noPlan)
+    (cond (d .finalized) (refuse d WriteProtected)
+    (writeFound d a n (writableAt d a)))

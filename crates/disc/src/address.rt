@@ -1,0 +1,35 @@
+// Block numbers and sector addresses: two kinds of number, with the factor 16 between them in this file alone.
+ghost use mathlib.Core.Path.{_≡_};
+ghost use Rattle.disc.specs.Address.{sectorsIn, blocksFor, firstSector};
+
+// The number of an ECC block, from 0. A disc's block numbers fit 32 bits.
+pub struct Block(pub u32);
+
+// A sector's logical block address. It has 64 bits, so that the sum of an address and a length never wraps.
+pub struct Lba(pub u64);
+
+// Sectors in an ECC block.
+const SECTORS_PER_BLOCK: u64 = 16;
+
+// How many sectors that many blocks have.
+pub(crate) fn sectors_in(blocks: u32) -> u64
+    ensures { λ r. ⌜ r ≡ sectorsIn blocks ⌝ }
+{
+    SECTORS_PER_BLOCK * (blocks as u64)
+}
+
+// How many blocks hold that many sectors, the last one perhaps in part.
+pub(crate) fn blocks_for(sectors: u32) -> u32
+    ensures { λ r. ⌜ r ≡ blocksFor sectors ⌝ }
+{
+    ((sectors as u64 + (SECTORS_PER_BLOCK - 1)) / SECTORS_PER_BLOCK) as u32
+}
+
+impl Block {
+    // The address of the block's first sector.
+    pub fn first_sector(self) -> Lba
+        ensures { λ r. ⌜ r ≡ firstSector self ⌝ }
+    {
+        Lba(sectors_in(self.0))
+    }
+}

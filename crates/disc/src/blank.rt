@@ -1,0 +1,88 @@
+// The blank disc.
+use crate::address::Block;
+use crate::answer::Answer;
+use crate::answer::LinkRefusal;
+use crate::answer::Sense;
+use crate::fragment::Fragment;
+use crate::fragment::Kind;
+use crate::state::Disc;
+ghost use mathlib.Core.Path.{_≡_};
+ghost use Rattle.disc.specs.Fragment.{unusedRecord};
+ghost use Rattle.disc.specs.Blank.{inRange, zeroState, Blanked};
+
+// A new disc with the answer beside it.
+pub struct Blank {
+    pub answer: Answer,
+    pub disc: Disc,
+}
+
+impl Fragment {
+    // An unused record.
+    pub(crate) fn unused() -> Fragment
+        ensures { λ r. ⌜ r ≡ unusedRecord ⌝ }
+    {
+        Fragment {
+            session: 0,
+            start: Block(0),
+            length: 0,
+            recorded: 0,
+            zeroed: 0,
+            kind: Kind::Reserved,
+        }
+    }
+}
+
+impl Disc {
+    // The all-zero state.
+    pub(crate) fn zero() -> Disc
+        ensures { λ r. ⌜ r ≡ zeroState ⌝ }
+    {
+        let sense = Sense {
+            key: 0,
+            asc: 0,
+            ascq: 0,
+        };
+        let fragments = [Fragment::unused(); Disc::LIMIT];
+        Disc {
+            capacity: 0,
+            finalized: false,
+            sense,
+            pending: 0,
+            owner: 0,
+            fragments,
+        }
+    }
+
+    // Whether a disc can have that many blocks.
+    pub(crate) fn in_range(capacity: u32) -> bool
+        ensures { λ r. ⌜ r ≡ inRange capacity ⌝ }
+    {
+        Disc::SMALLEST <= capacity && capacity <= Disc::LARGEST
+    }
+
+    // The blank disc of a capacity; for a capacity out of range L2 and the all-zero state.
+    pub fn blank(capacity: u32) -> Blank
+        ensures { λ r. ⌜ Blanked capacity r ⌝ }
+    {
+        let mut disc = Disc::zero();
+        if Disc::in_range(capacity) {
+            disc.capacity = capacity;
+            disc.fragments[0] = Fragment {
+                session: 1,
+                start: Block(0),
+                length: capacity,
+                recorded: 0,
+                zeroed: 0,
+                kind: Kind::Appended,
+            };
+            return Blank {
+                answer: Answer::Accepted,
+                disc,
+            };
+        }
+        Blank {
+            answer: Answer::Link(LinkRefusal::MediumSize),
+            disc,
+        }
+    }
+}

@@ -1,0 +1,28 @@
+// The lower layer of the drive: addresses, fragments and sense.
+// It knows what is on the disc by the disc state alone and never sees a sector's bytes. Every value goes in and comes back by value.
+// Document 01 is the specification; specs/ restates it as definitions, and every contract cites those.
+mod address;
+mod answer;
+mod blank;
+mod command;
+mod fragment;
+mod state;
+mod verdict;
+
+pub use address::Block;
+pub use address::Lba;
+pub use answer::Answer;
+pub use answer::DriveRefusal;
+pub use answer::LinkRefusal;
+pub use answer::Sense;
+pub use blank::Blank;
+pub use command::Command;
+pub use fragment::Fragment;
+pub use fragment::Kind;
+pub use state::Disc;
+pub use state::Found;
+pub use verdict::Flush;
+pub use verdict::Plan;
+pub use verdict::Reply;
+pub use verdict::Transfer;
+pub use verdict::Verdict;

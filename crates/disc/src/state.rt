@@ -1,0 +1,32 @@
+// The disc state. It goes into every command and comes back from it by value.
+use crate::answer::Sense;
+use crate::fragment::Fragment;
+
+pub struct Disc {
+    // Capacity in blocks (document 01's C).
+    pub capacity: u32,
+    pub finalized: bool,
+    pub sense: Sense,
+    // Pending sectors, 0 to 15: accepted, and their block not yet recorded.
+    pub pending: u8,
+    // The number of the fragment that they belong to, from 1 along the list; 0 with none pending.
+    pub owner: u8,
+    // The records in use first; the others are all zero.
+    pub fragments: [Fragment; Disc::LIMIT],
+}
+
+impl Disc {
+    // How many fragments a disc can have, the tail included.
+    pub const LIMIT: usize = 64;
+
+    // The smallest and the largest capacity in blocks.
+    pub const SMALLEST: u32 = 256;
+
+    pub const LARGEST: u32 = 143_444;
+}
+
+// What a search along the list finds: a fragment's number, from 1, or that there is none.
+pub enum Found {
+    Number(usize),
+    Nowhere,
+}

@@ -6,6 +6,8 @@ pub mod Command
 pub mod Fragment
 pub mod Records
 pub mod Sound
+pub mod Check
+pub mod Rules
 pub mod Blank
 pub mod Lengths
 pub mod Verdict

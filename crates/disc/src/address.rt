@@ -1,6 +1,7 @@
 // Block numbers and sector addresses: two kinds of number, with the factor 16 between them in this file alone.
 ghost use mathlib.Core.Path.{_≡_};
-ghost use Rattle.disc.specs.Address.{sectorsIn, blocksFor, firstSector};
+ghost use Prim.Native.Nat.{_+_};
+ghost use Rattle.disc.specs.Address.{sectorsIn, blocksFor, block, firstSector};
 
 // The number of an ECC block, from 0. A disc's block numbers fit 32 bits.
 pub struct Block(pub u32);
@@ -31,5 +32,12 @@ impl Block {
         ensures { λ r. ⌜ r ≡ firstSector self ⌝ }
     {
         Lba(sectors_in(self.0))
+    }
+
+    // The address of the first sector of the block that is so many blocks on.
+    pub(crate) fn sector_after(self, blocks: u32) -> Lba
+        ensures { λ r. ⌜ r ≡ firstSector (block (self .0 + blocks)) ⌝ }
+    {
+        Lba(SECTORS_PER_BLOCK * (self.0 as u64 + blocks as u64))
     }
 }

@@ -57,7 +57,7 @@ impl Disc {
     pub(crate) fn in_range(capacity: u32) -> bool
         ensures { λ r. ⌜ r ≡ inRange capacity ⌝ }
     {
-        Disc::SMALLEST <= capacity && capacity <= Disc::LARGEST
+        (Disc::SMALLEST <= capacity) & (capacity <= Disc::LARGEST)
     }
 
     // The blank disc of a capacity; for a capacity out of range L2 and the all-zero state.

@@ -4,6 +4,7 @@
 mod address;
 mod answer;
 mod blank;
+mod check;
 mod command;
 mod fragment;
 mod state;

@@ -1,9 +1,46 @@
--- Tests joined by `&&`, taken apart and put together.
-use mathlib.Core.Path.{_≡_}
-use mathlib.Core.Bool.{Bool, true, _&&_, and-eq-true-iff}
+-- Tests joined by `&&`, taken apart and put together; a proof by the two cases of a test.
+use mathlib.Core.Path.{_≡_, refl, sym, _∙_}
+use mathlib.Core.Bool.{Bool, true, false, _&&_, _||_, and-eq-true-iff, false≢true, or-true, or-assoc, or-false}
 
 pub and-left : (a b : Bool) → (a && b) ≡ true → a ≡ true
 and-left a b h = and-eq-true-iff a b .0 h .0
 
 pub and-right : (a b : Bool) → (a && b) ≡ true → b ≡ true
 and-right a b h = and-eq-true-iff a b .0 h .1
+
+pub and-both : {a b : Bool} → a ≡ true → b ≡ true → (a && b) ≡ true
+and-both {a} {b} h k = and-eq-true-iff a b .1 (h, k)
+
+pub and-first : (a b : Bool) → a ≡ true → (a && b) ≡ b
+and-first a b h = rw h
+
+pub and-false : (a b : Bool) → a ≡ false → (a && b) ≡ false
+and-false a b h = rw h
+
+pub by-cases {ℓ} : {P : Type ℓ} (b : Bool) → (b ≡ true → P) → (b ≡ false → P) → P
+by-cases true yes-case no-case = yes-case refl
+by-cases false yes-case no-case = no-case refl
+
+-- a row of tests joined from the left, as code joins them, and from the right, as a list of tests is joined
+pub or-row :
+    (t a b c d e f g h i j : Bool)
+    → (t || a || b || c || d || e || f || g || h || i || j) ≡ (t || (a || (b || (c || (d || (e || (f || (g || (h || (i || (j || false)))))))))))
+or-row t a b c d e f g h i j = simp (or-assoc, or-false)
+
+pub or-left : {a : Bool} (b : Bool) → a ≡ true → (a || b) ≡ true
+or-left b h = rw h
+
+pub or-right : (a : Bool) {b : Bool} → b ≡ true → (a || b) ≡ true
+or-right a h = rw h (or-true a)
+
+pub or-cases {ℓ} : {P : Type ℓ} (a b : Bool) → (a ≡ true → P) → (b ≡ true → P) → (a || b) ≡ true → P
+or-cases true b left right h = left refl
+or-cases false b left right h = right h
+
+pub contradiction : {b : Bool} → b ≡ true → b ≡ false → ⊥
+contradiction h k = false≢true (sym k ∙ h)
+
+-- two tests that imply each other are the same
+pub same-test : {a b : Bool} → (a ≡ true → b ≡ true) → (b ≡ true → a ≡ true) → a ≡ b
+same-test {a} {b} there back =
+    by-cases a (λ h. h ∙ sym (there h)) (λ h. by-cases b (λ k. absurd (contradiction (back k) h)) (λ k. h ∙ sym k))

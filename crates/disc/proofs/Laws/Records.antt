@@ -1,0 +1,108 @@
+-- The list of records: its length, the records in use, tests of every record, and one step along it.
+use Prim.Native.Nat.{ℕ, zero, suc, _+_, _≤_, _<_}
+use mathlib.Core.Path.{_≡_, refl, sym, _∙_, ap}
+use mathlib.Core.Bool.{Bool, true, _&&_}
+use mathlib.Core.List.{List, [], _∷_, map}
+use native.Mathlib.Numerals.{add-one}
+use native.Mathlib.Omega.{arith}
+use borrow.Author.Tests.{eq-eqb, ne-eqb, eqb-true, eqb-false}
+use lib.Dec.{eqb}
+use lib.ListN.{length, getD, drop, drop-of-length-le, length-map}
+use lib.Seq.{drop-cons}
+use Rattle.disc.specs.Types.{Fragment}
+use Rattle.disc.specs.Fragment.{unusedRecord}
+use Rattle.disc.specs.Records.{listed, every}
+use Rattle.disc.proofs.Laws.Bool.{and-left, and-right, and-both, by-cases}
+
+-- the length of an array of structs, as what owning it tells has it
+pub array-length : (X Y : Type 0) (f : X → Y) (l : List X) (n : ℕ) → length (map f l) ≡ n → length l ≡ n
+array-length X Y f l n e = sym (length-map l f) ∙ e
+
+pub every-step :
+    (p : Fragment → Bool) (fs : List Fragment) (i : ℕ) (d : Fragment)
+    → i < length fs → every p (drop i fs) ≡ (p (getD fs i d) && every p (drop (i + 1) fs))
+unfolding every
+every-step p fs i d h = rw (add-one, drop-cons fs i d h)
+
+pub every-end : (p : Fragment → Bool) (fs : List Fragment) (i : ℕ) → length fs ≤ i → every p (drop i fs) ≡ true
+unfolding every
+every-end p fs i h = rw (drop-of-length-le fs h)
+
+-- a test of every record, at an index and back
+pub every-at :
+    (p : Fragment → Bool) (fs : List Fragment) (i : ℕ) (d : Fragment) → every p fs ≡ true → i < length fs → p (getD fs i d) ≡ true
+unfolding every
+every-at p [] i d e h = absurd (omega arith)
+every-at p (f ∷ fs) zero d e h = and-left (p f) (every p fs) e
+every-at p (f ∷ fs) (suc i) d e h = every-at p fs i d (and-right (p f) (every p fs) e) (omega arith)
+
+pub at-every :
+    (p : Fragment → Bool) (fs : List Fragment) (d : Fragment) → ((i : ℕ) → i < length fs → p (getD fs i d) ≡ true) → every p fs ≡ true
+unfolding every
+at-every p [] d h = refl
+at-every p (f ∷ fs) d h = and-both (h 0 (omega arith)) (at-every p fs d (λ i l. h (suc i) (omega arith)))
+
+pub every-implies :
+    (p q : Fragment → Bool) (fs : List Fragment) → ((f : Fragment) → p f ≡ true → q f ≡ true) → every p fs ≡ true → every q fs ≡ true
+unfolding every
+every-implies p q [] h e = refl
+every-implies p q (f ∷ fs) h e = and-both (h f (and-left (p f) (every p fs) e)) (every-implies p q fs h (and-right (p f) (every p fs) e))
+
+-- a record is in use or not
+pub use-cases {ℓ} : {P : Type ℓ} (f : Fragment) → (f .length ≡ 0 → P) → ((f .length ≡ 0 → ⊥) → P) → P
+use-cases f off on = by-cases (eqb (f .length) 0) (λ e. off (eqb-true _ _ e)) (λ e. on (eqb-false _ _ e))
+
+pub listed-off : (f : Fragment) (fs : List Fragment) → f .length ≡ 0 → listed (f ∷ fs) ≡ []
+unfolding listed
+listed-off f fs e = rw (eq-eqb _ _ e)
+
+pub listed-on : (f : Fragment) (fs : List Fragment) → (f .length ≡ 0 → ⊥) → listed (f ∷ fs) ≡ f ∷ listed fs
+unfolding listed
+listed-on f fs e = rw (ne-eqb _ _ e)
+
+pub listed-le : (fs : List Fragment) → length (listed fs) ≤ length fs
+unfolding listed
+listed-le [] = omega arith
+listed-le (f ∷ fs) =
+    use-cases f (λ e. rw (listed-off f fs e) (omega arith)) (λ e. rw (listed-on f fs e) (omega (arith, listed-le fs)))
+
+-- a record in use, at its index
+pub listed-at : (fs : List Fragment) (i : ℕ) (d : Fragment) → i < length (listed fs) → getD (listed fs) i d ≡ getD fs i d
+unfolding listed
+listed-at [] i d h = refl
+listed-at (f ∷ fs) zero d h =
+    use-cases f (λ e. absurd (let k : 0 < 0 = rw (listed-off f fs e) at h in omega arith)) (λ e. rw (listed-on f fs e))
+listed-at (f ∷ fs) (suc i) d h =
+    use-cases f
+    (λ e. absurd (let k : suc i < 0 = rw (listed-off f fs e) at h in omega arith))
+    (λ e.
+    let k : suc i < suc (length (listed fs)) = rw (listed-on f fs e) at h in
+    rw (listed-on f fs e) (listed-at fs i d (omega arith)))
+
+pub listed-used : (fs : List Fragment) (i : ℕ) → i < length (listed fs) → getD fs i unusedRecord .length ≡ 0 → ⊥
+unfolding listed
+listed-used [] i h z = omega arith
+listed-used (f ∷ fs) zero h z = let k : 0 < 0 = rw (listed-off f fs z) at h in omega arith
+listed-used (f ∷ fs) (suc i) h z =
+    use-cases f
+    (λ e. let k : suc i < 0 = rw (listed-off f fs e) at h in omega arith)
+    (λ e.
+    let k : suc i < suc (length (listed fs)) = rw (listed-on f fs e) at h in
+    listed-used fs i (omega arith) z)
+
+-- the first index without a record in use is how many there are
+pub listed-count :
+    (fs : List Fragment) (n : ℕ)
+    → ((i : ℕ) → i < n → getD fs i unusedRecord .length ≡ 0 → ⊥) → getD fs n unusedRecord .length ≡ 0 → length (listed fs) ≡ n
+unfolding listed
+listed-count [] zero h z = refl
+listed-count [] (suc n) h z = absurd (h 0 (omega arith) refl)
+listed-count (f ∷ fs) zero h z = rw (listed-off f fs z)
+listed-count (f ∷ fs) (suc n) h z =
+    rw (listed-on f fs (h 0 (omega arith))) (ap suc (listed-count fs n (λ i l. h (suc i) (omega arith)) z))
+
+pub listed-stop : (fs : List Fragment) → getD fs (length (listed fs)) unusedRecord .length ≡ 0
+unfolding listed
+listed-stop [] = refl
+listed-stop (f ∷ fs) =
+    use-cases f (λ e. rw (listed-off f fs e) e) (λ e. rw (listed-on f fs e) (listed-stop fs))

@@ -5,9 +5,13 @@ use lib.Dec.{eqb, leb, ltb}
 use Rattle.disc.specs.Types.{Block, Lba, Kind, Reserved, Appended, Fragment, Disc}
 use Rattle.disc.specs.Address.{block, lba, firstSector}
 
+-- a record by session, start block, L, W, F and kind
+abbrev pub fragment : ℕ → ℕ → ℕ → ℕ → ℕ → Kind → Fragment
+fragment s b l w f k = record { session = s; start = block b; length = l; recorded = w; zeroed = f; kind = k }
+
 -- a record that is not in use: all zero, reserved being the kind's zero
 abbrev pub unusedRecord : Fragment
-unusedRecord = record { session = 0; start = block 0; length = 0; recorded = 0; zeroed = 0; kind = Reserved }
+unusedRecord = fragment 0 0 0 0 0 Reserved
 
 -- a record is in use if it has a length
 abbrev pub unused : Fragment → Bool

@@ -8,6 +8,7 @@ pub mod Records
 pub mod Sound
 pub mod Check
 pub mod Rules
+pub mod Examples
 pub mod Blank
 pub mod Lengths
 pub mod Verdict

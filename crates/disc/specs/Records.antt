@@ -4,7 +4,7 @@ use mathlib.Core.Bool.{Bool, true, false, not, cond, _&&_, _||_}
 use mathlib.Core.List.{List, [], _∷_}
 use lib.ListN.{length, getD, set}
 use lib.Dec.{eqb, leb}
-use Rattle.disc.specs.Types.{Lba, Sense, Fragment, Disc, Found, Number, Nowhere}
+use Rattle.disc.specs.Types.{Lba, Sense, Fragment, Disc, Found, Number, Nowhere, Last}
 use Rattle.disc.specs.Fragment.{unusedRecord, unused, complete, isTail, isBlank, nextWritable, holds, holdsRecorded, lastRecorded}
 
 -- how many fragments a disc can have, the tail included
@@ -33,6 +33,9 @@ numbered d n = getD (d .fragments) (n - 1) unusedRecord
 abbrev pub lastRecord : Disc → Fragment
 lastRecord d = numbered d (used d)
 
+abbrev pub lastOf : Disc → Last
+lastOf d = record { number = used d; fragment = lastRecord d }
+
 -- the disc with one record changed
 abbrev pub withRecord : Disc → ℕ → Fragment → Disc
 withRecord d n f =
@@ -59,6 +62,9 @@ withSense d s =
 -- in a sound list the tail, where there is one, is the last record
 abbrev pub hasTail : Disc → Bool
 hasTail d = isTail (lastRecord d)
+
+abbrev pub tailNumber : Disc → Found
+tailNumber d = cond (hasTail d) (Number (used d)) Nowhere
 
 abbrev pub hasBlankTail : Disc → Bool
 hasBlankTail d = hasTail d && isBlank d (used d) (lastRecord d)

@@ -5,11 +5,10 @@ use mathlib.Core.Path.{_≡_, refl}
 use mathlib.Core.Bool.{cond}
 use mathlib.Core.List.{List, [], _∷_, map}
 use lib.ListN.{take, replicate}
-use Rattle.disc.specs.Types.{Sense, Kind, Reserved, Appended, Fragment, Disc, Verdict}
+use Rattle.disc.specs.Types.{Sense, Reserved, Appended, Fragment, Disc, Verdict}
 use Rattle.disc.specs.Answer.{sense, number, isRefusalSense, allowedSense}
-use Rattle.disc.specs.Address.{block}
 use Rattle.disc.specs.Command.{decode}
-use Rattle.disc.specs.Fragment.{nextWritable}
+use Rattle.disc.specs.Fragment.{fragment, nextWritable}
 use Rattle.disc.specs.Records.{records, used, lastRecord, hasTail, listed, some, every, find, sumRecorded, lastReadable, firstOfSession}
 use Rattle.disc.specs.Sound.{usedFirst, firstAtZero, followsFrom, inOrder, endsWithin, recordedWithin, zeroedWithin, incompleteLast, tailLast, tailOrFull, pendingNamed, finalizedComplete, sound, allowedState}
 use Rattle.disc.specs.Blank.{blank}
@@ -58,10 +57,6 @@ run d (b ∷ bs) =
 pub record Line : Type 0 where
   pub command : List ℕ
   pub expected : Shown
-
--- a record by session, start block, L, W, F and kind
-abbrev fragment : ℕ → ℕ → ℕ → ℕ → ℕ → Kind → Fragment
-fragment s b l w f k = record { session = s; start = block b; length = l; recorded = w; zeroed = f; kind = k }
 
 abbrev line : List ℕ → ℕ → ℕ → List ℕ → Sense → ℕ → ℕ → List Fragment → Line
 line b a n r s t p fs =

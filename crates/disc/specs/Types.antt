@@ -24,3 +24,4 @@ pub use Rattle.disc.specs.declared.verdict.Transfer.{Transfer}
 pub use Rattle.disc.specs.declared.verdict.Transfer.the-variants.{Nothing, Send, Gather, Fill}
 pub use Rattle.disc.specs.declared.verdict.Plan.{Plan}
 pub use Rattle.disc.specs.declared.verdict.Verdict.{Verdict}
+pub use Rattle.disc.specs.declared.find.Last.{Last}

@@ -1,7 +1,7 @@
 // Block numbers and sector addresses: two kinds of number, with the factor 16 between them in this file alone.
 ghost use mathlib.Core.Path.{_≡_};
 ghost use Prim.Native.Nat.{_+_};
-ghost use Rattle.disc.specs.Address.{sectorsIn, blocksFor, block, firstSector};
+ghost use Rattle.disc.specs.Address.{sectorsIn, blocksFor, block, lba, firstSector};
 
 // The number of an ECC block, from 0. A disc's block numbers fit 32 bits.
 pub struct Block(pub u32);
@@ -39,5 +39,12 @@ impl Block {
         ensures { λ r. ⌜ r ≡ firstSector (block (self .0 + blocks)) ⌝ }
     {
         Lba(SECTORS_PER_BLOCK * (self.0 as u64 + blocks as u64))
+    }
+
+    // The address of a sector, counted from 0, in the block that is so many blocks on.
+    pub(crate) fn sector_in(self, blocks: u32, sector: u8) -> Lba
+        ensures { λ r. ⌜ r ≡ lba (firstSector (block (self .0 + blocks)) .0 + sector) ⌝ }
+    {
+        Lba(SECTORS_PER_BLOCK * (self.0 as u64 + blocks as u64) + sector as u64)
     }
 }

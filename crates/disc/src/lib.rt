@@ -6,6 +6,7 @@ mod answer;
 mod blank;
 mod check;
 mod command;
+mod find;
 mod fragment;
 mod state;
 mod verdict;

@@ -97,9 +97,9 @@ follows-cases :
     → (f .session ≡ p .session → f .start .0 ≡ nextFragmentStart (end p) .0 → P)
     → (f .session ≡ p .session + 1 → f .start .0 ≡ nextSessionStart (end p) .0 → P) → follows p f ≡ true → P
 follows-cases p f here there e =
-    or-cases (eqb (f .session) (p .session) && eqb (f .start .0) (end p .0 + 1)) _
-    (λ a. here (eqb-true _ _ (and-left _ (eqb (f .start .0) (end p .0 + 1)) a)) (eqb-true _ _ (and-right (eqb (f .session) (p .session)) _ a)))
-    (λ b. there (eqb-true _ _ (and-left _ (eqb (f .start .0) (end p .0 + 128)) b)) (eqb-true _ _ (and-right (eqb (f .session) (p .session + 1)) _ b)))
+    or-cases (eqb (f .session) (p .session) && eqb (f .start .0) (nextFragmentStart (end p) .0)) _
+    (λ a. here (eqb-true _ _ (and-left _ (eqb (f .start .0) (nextFragmentStart (end p) .0)) a)) (eqb-true _ _ (and-right (eqb (f .session) (p .session)) _ a)))
+    (λ b. there (eqb-true _ _ (and-left _ (eqb (f .start .0) (nextSessionStart (end p) .0)) b)) (eqb-true _ _ (and-right (eqb (f .session) (p .session + 1)) _ b)))
     e
 
 -- sessions never fall along a list
@@ -118,7 +118,7 @@ continues-tail o p f e = not-true (isTail p) (and-left (not (isTail p)) _ e)
 continues-follows : (o : Bool) (p f : Fragment) → continues o p f ≡ true → follows p f ≡ true
 unfolding continues
 continues-follows true p f e =
-    or-cases (eqb (f .session) (p .session) && eqb (f .start .0) (end p .0 + 1)) false (or-left _)
+    or-cases (eqb (f .session) (p .session) && eqb (f .start .0) (nextFragmentStart (end p) .0)) false (or-left _)
     (λ h. absurd (contradiction h refl)) (and-right (not (isTail p)) _ e)
 continues-follows false p f e = and-right (not (isTail p)) (follows p f) e
 
@@ -126,7 +126,7 @@ continues-open : (o : Bool) (p f : Fragment) → o ≡ true → continues o p f 
 unfolding continues
 continues-open true p f h e =
     eqb-true _ _
-    (and-left _ (eqb (f .start .0) (end p .0 + 1)) (or-cases _ false (λ k. k) (λ k. absurd (contradiction k refl)) (and-right (not (isTail p)) _ e)))
+    (and-left _ (eqb (f .start .0) (nextFragmentStart (end p) .0)) (or-cases _ false (λ k. k) (λ k. absurd (contradiction k refl)) (and-right (not (isTail p)) _ e)))
 continues-open false p f h e = absurd (contradiction h refl)
 
 open-incomplete : (o : Bool) (p f : Fragment) → complete f ≡ false → openAfter o p f ≡ true
@@ -182,7 +182,7 @@ module _ (c : ℕ) (fin full o : Bool) (p f : Fragment) (rs : List Fragment) whe
         and-both {a = not (isTail p)} (rw rest-tail)
         (follows-cases p f
         (λ s b. or-left _ (and-both (eq-eqb _ _ s) (eq-eqb _ _ b)))
-        (λ s b. or-right (eqb (f .session) (p .session) && eqb (f .start .0) (end p .0 + 1)) (and-both {a = not o} (by-cases o (λ t. absurd (omega (arith, r .session t, sessions-rise f rs (and-right (follows p f) (followsFrom f rs) (r .follow))))) (λ t. rw t)) (and-both (eq-eqb _ _ s) (eq-eqb _ _ b))))
+        (λ s b. or-right (eqb (f .session) (p .session) && eqb (f .start .0) (nextFragmentStart (end p) .0)) (and-both {a = not o} (by-cases o (λ t. absurd (omega (arith, r .session t, sessions-rise f rs (and-right (follows p f) (followsFrom f rs) (r .follow))))) (λ t. rw t)) (and-both (eq-eqb _ _ s) (eq-eqb _ _ b))))
         rest-follows)
 
     rest-step : Rest c fin full (openAfter o p f) f rs

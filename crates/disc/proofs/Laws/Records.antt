@@ -1,7 +1,7 @@
 -- The list of records: its length, the records in use, tests of every record, and one step along it.
 use Prim.Native.Nat.{ℕ, zero, suc, _+_, _≤_, _<_}
 use mathlib.Core.Path.{_≡_, refl, sym, _∙_, ap}
-use mathlib.Core.Bool.{Bool, true, _&&_}
+use mathlib.Core.Bool.{Bool, true, false, _&&_}
 use mathlib.Core.List.{List, [], _∷_, map}
 use native.Mathlib.Numerals.{add-one}
 use native.Mathlib.Omega.{arith}
@@ -9,9 +9,9 @@ use borrow.Author.Tests.{eq-eqb, ne-eqb, eqb-true, eqb-false}
 use lib.Dec.{eqb}
 use lib.ListN.{length, getD, drop, drop-of-length-le, length-map}
 use lib.Seq.{drop-cons}
-use Rattle.disc.specs.Types.{Fragment}
+use Rattle.disc.specs.Types.{Fragment, Number, Nowhere}
 use Rattle.disc.specs.Fragment.{unusedRecord}
-use Rattle.disc.specs.Records.{listed, every}
+use Rattle.disc.specs.Records.{listed, every, find}
 use Rattle.disc.proofs.Laws.Bool.{and-left, and-right, and-both, by-cases}
 
 -- the length of an array of structs, as what owning it tells has it
@@ -106,3 +106,35 @@ unfolding listed
 listed-stop [] = refl
 listed-stop (f ∷ fs) =
     use-cases f (λ e. rw (listed-off f fs e) e) (λ e. rw (listed-on f fs e) (listed-stop fs))
+
+-- one step along the records in use
+module _ (fs : List Fragment) (i : ℕ) (d : Fragment) (h : i < length fs) where
+  pub listed-drop-off : getD fs i d .length ≡ 0 → listed (drop i fs) ≡ []
+  listed-drop-off e = rw (drop-cons fs i d h) (listed-off (getD fs i d) (drop (suc i) fs) e)
+
+  pub listed-drop-on : (getD fs i d .length ≡ 0 → ⊥) → listed (drop i fs) ≡ getD fs i d ∷ listed (drop (i + 1) fs)
+  listed-drop-on e = rw (add-one, drop-cons fs i d h) (listed-on (getD fs i d) (drop (suc i) fs) e)
+
+  pub find-off : (p : ℕ → Fragment → Bool) → getD fs i d .length ≡ 0 → find p (i + 1) (listed (drop i fs)) ≡ Nowhere
+  unfolding find
+  find-off p e = rw (listed-drop-off e)
+
+  pub find-here :
+      (p : ℕ → Fragment → Bool) → (getD fs i d .length ≡ 0 → ⊥) → p (i + 1) (getD fs i d) ≡ true
+      → find p (i + 1) (listed (drop i fs)) ≡ Number (i + 1)
+  unfolding find
+  find-here p e t = rw (listed-drop-on e) (rw t)
+
+  pub find-on :
+      (p : ℕ → Fragment → Bool) → (getD fs i d .length ≡ 0 → ⊥) → p (i + 1) (getD fs i d) ≡ false
+      → find p (i + 1) (listed (drop i fs)) ≡ find p (i + 1 + 1) (listed (drop (i + 1) fs))
+  unfolding find
+  find-on p e t = rw (listed-drop-on e) (rw t)
+
+pub listed-drop-end : (fs : List Fragment) (i : ℕ) → length fs ≤ i → listed (drop i fs) ≡ []
+unfolding listed
+listed-drop-end fs i h = rw (drop-of-length-le fs h)
+
+pub find-end : (p : ℕ → Fragment → Bool) (fs : List Fragment) (i n : ℕ) → length fs ≤ i → find p n (listed (drop i fs)) ≡ Nowhere
+unfolding find
+find-end p fs i n h = rw (listed-drop-end fs i h)

@@ -9,7 +9,7 @@ use borrow.Author.Tests.{eq-eqb, ne-eqb, eqb-true, eqb-false, le-leb, leb-true, 
 use lib.Dec.{eqb, leb, ltb}
 use lib.ListN.{length, getD}
 use Rattle.disc.specs.Types.{Fragment, Disc, Kind, Reserved, Appended}
-use Rattle.disc.specs.Fragment.{unusedRecord, unused, end, complete, isReserved, isTail}
+use Rattle.disc.specs.Fragment.{unusedRecord, unused, end, complete, isReserved, isTail, nextFragmentStart, nextSessionStart}
 use Rattle.disc.specs.Records.{limit, listed, records, used, isListed, numbered, lastRecord, hasTail, every}
 use Rattle.disc.specs.Sound.{isZero, usedFirst, firstAtZero, follows, followsFrom, inOrder, endsWithin, recordedWithin, zeroedWithin, incompleteLast, tailLast, tailOrFull, pendingNamed, finalizedComplete, sound}
 use Rattle.disc.specs.Rules.{at, Follows, Owned, Sound}
@@ -75,16 +75,16 @@ at-used-first (f ∷ fs) h =
 -- the order of the records
 pub follows-either : (p f : Fragment) → follows p f ≡ true → Follows p f
 follows-either p f e =
-    or-cases (eqb (f .session) (p .session) && eqb (f .start .0) (end p .0 + 1)) _
-    (λ a. inl (eqb-true _ _ (and-left _ (eqb (f .start .0) (end p .0 + 1)) a), eqb-true _ _ (and-right (eqb (f .session) (p .session)) _ a)))
-    (λ b. inr (eqb-true _ _ (and-left _ (eqb (f .start .0) (end p .0 + 128)) b), eqb-true _ _ (and-right (eqb (f .session) (p .session + 1)) _ b)))
+    or-cases (eqb (f .session) (p .session) && eqb (f .start .0) (nextFragmentStart (end p) .0)) _
+    (λ a. inl (eqb-true _ _ (and-left _ (eqb (f .start .0) (nextFragmentStart (end p) .0)) a), eqb-true _ _ (and-right (eqb (f .session) (p .session)) _ a)))
+    (λ b. inr (eqb-true _ _ (and-left _ (eqb (f .start .0) (nextSessionStart (end p) .0)) b), eqb-true _ _ (and-right (eqb (f .session) (p .session + 1)) _ b)))
     e
 
 pub either-follows : (p f : Fragment) → Follows p f → follows p f ≡ true
 either-follows p f w =
     ⊎-elim
     (λ h. or-left _ (and-both (eq-eqb _ _ (h .0)) (eq-eqb _ _ (h .1))))
-    (λ h. or-right (eqb (f .session) (p .session) && eqb (f .start .0) (end p .0 + 1)) (and-both (eq-eqb _ _ (h .0)) (eq-eqb _ _ (h .1))))
+    (λ h. or-right (eqb (f .session) (p .session) && eqb (f .start .0) (nextFragmentStart (end p) .0)) (and-both (eq-eqb _ _ (h .0)) (eq-eqb _ _ (h .1))))
     w
 
 pub follows-at :

@@ -1,0 +1,98 @@
+use lib.ListN.{drop}
+use lib.Dec.{eqb}
+use mathlib.Core.Bool.{not, _&&_}
+use Rattle.disc.specs.Fragment.{complete, nextWritable}
+use Rattle.disc.specs.Records.{limit, listed, find, writableAt}
+use Rattle.disc.proofs.Laws.Records.{array-length, find-off, find-here, find-on, find-end}
+use borrow.Author.Needs.{needs}
+use mathlib.Core.Path.{_≡_, refl, sym, _∙_}
+use native.Mathlib.Omega.{arith}
+use Prim.Native.Nat.{_+_, _-_, _≤_}
+use lib.ListN.{length}
+use Rattle.disc.proofs.state.Disc.writable_at.Statement.{statement}
+use Rattle.disc.proofs.state.Disc.writable_at.Tie as tie
+
+abbrev Inv-loop : tie.InvT-loop
+Inv-loop address self pending owner i₀ i =
+    (i ≤ limit) × (length (self .fragments) ≡ limit)
+    × (writableAt self address
+    ≡ find (λ n f. not (complete f) && eqb (address .0) (nextWritable self n f .0)) (i + 1) (listed (drop i (self .fragments))))
+
+abbrev μ-loop : tie.MeasureT-loop
+μ-loop address self pending owner i₀ i = limit - i
+
+loop-holds : tie.Need-loop-holds Inv-loop μ-loop
+loop-holds c = (omega arith, search array-length, refl)
+
+mul-f : tie.Need-mul-f Inv-loop μ-loop
+mul-f c = search needs
+
+element-copy-out-f : tie.Need-element-copy-out-f Inv-loop μ-loop
+element-copy-out-f c = search needs
+
+returns : tie.Need-returns Inv-loop μ-loop
+returns c =
+    let w = c .before .before .before .before .loop in
+    sym (w .inv .2 ∙ find-off (c .before .before .before .before .before .args .t1 .fragments) (w .i) _ (omega arith) (λ n f. not (complete f) && eqb (c .before .before .before .before .before .args .address .0) (nextWritable (c .before .before .before .before .before .args .t1) n f .0)) (c .if1 .taken))
+
+add-pending-of : tie.Need-add-pending-of Inv-loop μ-loop
+add-pending-of c = search needs
+
+pending-of-requires : tie.Need-pending-of-requires Inv-loop μ-loop
+pending-of-requires c κs = search needs
+
+takes-requires : tie.Need-takes-requires Inv-loop μ-loop
+takes-requires c κs = search needs
+
+add-t15 : tie.Need-add-t15 Inv-loop μ-loop
+add-t15 c = search needs
+
+returns-2 : tie.Need-returns-2 Inv-loop μ-loop
+returns-2 c =
+    let w = c .before .before .before .before .before .before .before .loop in
+    sym
+    (w .inv .2
+    ∙ find-here (c .before .before .before .before .before .before .before .before .args .t1 .fragments) (w .i) _ (omega arith) (λ n f. not (complete f) && eqb (c .before .before .before .before .before .before .before .before .args .address .0) (nextWritable (c .before .before .before .before .before .before .before .before .args .t1) n f .0)) (c .before .before .before .if1 .left)
+    (rw (← c .before .before .pending-of .ensures) (sym (c .before .takes .ensures) ∙ c .if2 .taken)))
+
+add-i : tie.Need-add-i Inv-loop μ-loop
+add-i c = search needs
+
+loop-less : tie.Need-loop-less Inv-loop μ-loop
+loop-less c = search needs
+
+loop-again : tie.Need-loop-again Inv-loop μ-loop
+loop-again c =
+    let w = c .before .before .before .before .before .before .before .loop in (
+      omega arith,
+      w .inv .1,
+      w .inv .2
+          ∙ find-on (c .before .before .before .before .before .before .before .before .args .t1 .fragments) (w .i) _ (omega arith) (λ n f. not (complete f) && eqb (c .before .before .before .before .before .before .before .before .args .address .0) (nextWritable (c .before .before .before .before .before .before .before .before .args .t1) n f .0)) (c .before .before .before .if1 .left)
+          (rw (← c .before .before .pending-of .ensures) (sym (c .before .takes .ensures) ∙ c .if2 .left)),
+    )
+
+returns-3 : tie.Need-returns-3 Inv-loop μ-loop
+returns-3 c =
+    sym
+    (c .before .loop .inv .2
+    ∙ find-end (λ n f. not (complete f) && eqb (c .before .before .args .address .0) (nextWritable (c .before .before .args .t1) n f .0)) (c .before .before .args .t1 .fragments) (c .before .loop .i) (c .before .loop .i + 1) (omega arith))
+
+pub writable-at-spec : {M : Type 1} → statement M
+writable-at-spec =
+    tie.close
+    (tie.spec
+    Inv-loop
+    μ-loop
+    loop-holds
+    mul-f
+    element-copy-out-f
+    returns
+    add-pending-of
+    pending-of-requires
+    takes-requires
+    add-t15
+    returns-2
+    add-i
+    loop-less
+    loop-again
+    returns-3)

@@ -1,0 +1,107 @@
+-- Examples of disc states on 300 blocks: for each rule states that break it and no other, and sound states that no command leads to.
+use Prim.Native.Nat.{ℕ, zero, suc, _+_, _-_}
+use mathlib.Core.Path.{_≡_, refl}
+use mathlib.Core.Bool.{Bool, true, false}
+use mathlib.Core.List.{List, [], _∷_, _++_, map}
+use lib.ListN.{length, replicate, set}
+use Rattle.disc.specs.Types.{Reserved, Appended, Fragment, Disc}
+use Rattle.disc.specs.Answer.{sense, noSense, isRefusalSense, allowedSense}
+use Rattle.disc.specs.Fragment.{fragment, unusedRecord}
+use Rattle.disc.specs.Records.{limit, listed, records, lastRecord, every}
+use Rattle.disc.specs.Sound.{usedFirst, firstAtZero, followsFrom, inOrder, endsWithin, recordedWithin, zeroedWithin, incompleteLast, tailLast, tailOrFull, pendingNamed, finalizedComplete, sound, allowedState}
+
+-- every rule of L3 by itself, in the order of `sound`, and last the sense
+unfoldable pub rules : Disc → List Bool
+rules d =
+    usedFirst (d .fragments) ∷ firstAtZero (records d) ∷ inOrder (records d) ∷ endsWithin (d .capacity) (records d)
+    ∷ recordedWithin (records d) ∷ zeroedWithin (records d) ∷ incompleteLast (lastRecord d .session) (records d)
+    ∷ tailLast (d .capacity) (records d) ∷ tailOrFull d ∷ pendingNamed d ∷ finalizedComplete d ∷ allowedSense (d .sense) ∷ []
+
+-- all hold but the one with this index
+abbrev allBut : ℕ → List Bool
+allBut k = set (replicate 12 true) k false
+
+-- a state by its pending count, its owner, whether it is finalized, and its records
+abbrev state : ℕ → ℕ → Bool → List Fragment → Disc
+state p o fin fs =
+    record {
+      capacity = 300;
+      finalized = fin;
+      sense = noSense;
+      pending = p;
+      owner = o;
+      fragments = fs ++ replicate (limit - length fs) unusedRecord;
+    }
+
+abbrev tail : Fragment
+tail = fragment 1 0 300 0 0 Appended
+
+-- a state, and the rule that it breaks
+pub record Broken : Type 0 where
+  pub disc : Disc
+  pub rule : ℕ
+
+abbrev breaks : ℕ → Disc → Broken
+breaks k d = record { disc = d; rule = k }
+
+abbrev pub brokenStates : List Broken
+brokenStates =
+    -- a record in use behind an unused one; an unused record that is not all zero
+    breaks 0 (state 0 0 false (tail ∷ unusedRecord ∷ fragment 1 0 1 0 0 Reserved ∷ []))
+    ∷ breaks 0 (state 0 0 false (tail ∷ fragment 0 0 0 0 0 Appended ∷ []))
+    -- the first record in session 2, or at block 1
+    ∷ breaks 1 (state 0 0 false (fragment 2 0 300 0 0 Appended ∷ []))
+    ∷ breaks 1 (state 0 0 false (fragment 1 1 299 0 0 Appended ∷ []))
+    -- no dividing block, 127 blocks between sessions, a session left out
+    ∷ breaks 2 (state 0 0 false (fragment 1 0 2 2 0 Appended ∷ fragment 1 2 298 0 0 Appended ∷ []))
+    ∷ breaks 2 (state 0 0 false (fragment 1 0 2 2 0 Appended ∷ fragment 2 129 171 0 0 Appended ∷ []))
+    ∷ breaks 2 (state 0 0 false (fragment 1 0 2 2 0 Appended ∷ fragment 3 130 170 0 0 Appended ∷ []))
+    -- a fragment that ends a block past the capacity
+    ∷ breaks 3 (state 0 0 false (fragment 1 0 301 301 0 Reserved ∷ []))
+    -- more blocks recorded than the fragment has
+    ∷ breaks 4 (state 0 0 false (fragment 1 0 2 3 0 Reserved ∷ fragment 1 3 297 0 0 Appended ∷ []))
+    -- more sectors zero-filled than recorded
+    ∷ breaks 5 (state 0 0 false (fragment 1 0 300 1 17 Appended ∷ []))
+    -- an incomplete fragment in a session before the last one
+    ∷ breaks 6 (state 0 0 false (fragment 1 0 2 1 0 Reserved ∷ fragment 2 130 170 0 0 Appended ∷ []))
+    -- a tail that ends before the capacity, and one that is not last
+    ∷ breaks 7 (state 0 0 false (fragment 1 0 299 0 0 Appended ∷ []))
+    ∷ breaks 7 (state 0 0 false (fragment 1 0 2 1 0 Appended ∷ fragment 1 3 297 0 0 Appended ∷ []))
+    -- no tail, though two blocks are left
+    ∷ breaks 8 (state 0 0 false (fragment 1 0 298 298 0 Appended ∷ []))
+    -- sixteen sectors pending; pending sectors of no fragment, of one that is not listed and of a complete one; a number with none pending
+    ∷ breaks 9 (state 16 1 false (tail ∷ []))
+    ∷ breaks 9 (state 3 0 false (tail ∷ []))
+    ∷ breaks 9 (state 3 2 false (tail ∷ []))
+    ∷ breaks 9 (state 3 1 false (fragment 1 0 2 2 0 Appended ∷ fragment 1 3 297 0 0 Appended ∷ []))
+    ∷ breaks 9 (state 0 1 false (tail ∷ []))
+    -- a finalized disc with a tail
+    ∷ breaks 10 (state 0 0 true (tail ∷ []))
+    -- a sense that no command leaves
+    ∷ breaks 11 (record { capacity = 300; finalized = false; sense = sense 5 0x21 0x01; pending = 0; owner = 0; fragments = state 0 0 false (tail ∷ []) .fragments })
+    ∷ []
+
+pub broken-states : map (λ b. rules (b .disc)) brokenStates ≡ map (λ b. allBut (b .rule)) brokenStates
+unfolding
+    rules listed every usedFirst firstAtZero followsFrom inOrder endsWithin recordedWithin zeroedWithin incompleteLast tailLast
+    tailOrFull pendingNamed finalizedComplete allowedSense isRefusalSense
+broken-states = refl
+
+-- n reserved fragments of a block each behind one another, from a block on, complete
+unfoldable pub column : ℕ → ℕ → List Fragment
+column zero b = []
+column (suc n) b = fragment 1 b 1 1 0 Reserved ∷ column n (b + 2)
+
+-- a full list whose last record is an incomplete reserved one
+abbrev pub fullOfReserved : Disc
+fullOfReserved = state 0 0 false (column 63 0 ++ (fragment 1 126 5 0 0 Reserved ∷ []))
+
+-- an incomplete reserved last record that leaves one block, and sectors pending in it
+abbrev pub reservedToTheEnd : Disc
+reservedToTheEnd = state 3 1 false (fragment 1 0 299 1 0 Reserved ∷ [])
+
+pub sound-unreached : map allowedState (fullOfReserved ∷ reservedToTheEnd ∷ []) ≡ true ∷ true ∷ []
+unfolding
+    allowedState sound column listed every usedFirst firstAtZero followsFrom inOrder endsWithin recordedWithin zeroedWithin
+    incompleteLast tailLast tailOrFull pendingNamed finalizedComplete allowedSense isRefusalSense
+sound-unreached = refl

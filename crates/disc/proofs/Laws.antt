@@ -7,3 +7,5 @@ pub mod Check
 pub mod Rules
 pub mod Sound
 pub mod Blank
+pub mod Flush
+pub mod Write

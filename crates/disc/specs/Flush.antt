@@ -37,6 +37,10 @@ flush d =
 unfoldable pub flushPlan : Disc → Flush
 flushPlan d = cond (eqb (d .pending) 0) Skip (Record (firstUnrecorded (numbered d (d .owner))) (d .pending))
 
+-- and the number of blocks that it records
+unfoldable pub flushCount : Disc → ℕ
+flushCount d = cond (eqb (d .pending) 0) 0 1
+
 -- 35h flushes and does nothing else
 unfoldable pub synchronizeCache : Disc → Verdict
 synchronizeCache d = accept d (flush d) noReply (plan (flushPlan d) Nothing)

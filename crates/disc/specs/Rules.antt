@@ -4,7 +4,7 @@ use Prim.Native.Nat.{ℕ, suc, _+_, _≤_, _<_}
 use mathlib.Core.Path.{_≡_}
 use mathlib.Core.Bool.{true, false}
 use mathlib.Core.Logic.{_⊎_}
-use lib.ListN.{getD}
+use lib.ListN.{length, getD}
 use Rattle.disc.specs.Types.{Fragment, Disc}
 use Rattle.disc.specs.Address.{sectorsIn}
 use Rattle.disc.specs.Fragment.{unusedRecord, end, complete, isTail, nextFragmentStart, nextSessionStart}
@@ -27,6 +27,8 @@ pub record Owned (d : Disc) : Type 0 where
   pub incomplete : complete (numbered d (d .owner)) ≡ false
 
 pub record Sound (d : Disc) : Type 0 where
+  -- the records are one array
+  pub array : length (d .fragments) ≡ limit
   -- there is a record, the used ones come first, and the others are all zero
   pub some : 1 ≤ used d
   pub unused : (i : ℕ) → used d ≤ i → at d i ≡ unusedRecord

@@ -74,11 +74,15 @@ pendingNamed d =
 unfoldable pub finalizedComplete : Disc → Bool
 finalizedComplete d = not (d .finalized) || every complete (records d) && eqb (d .pending) 0
 
+-- the records are one array of as many as a disc can have, which no value of the code's type breaks
+abbrev pub isArray : Disc → Bool
+isArray d = eqb (length (d .fragments)) limit
+
 unfoldable pub sound : Disc → Bool
 sound d =
     usedFirst (d .fragments) && firstAtZero (records d) && inOrder (records d) && endsWithin (d .capacity) (records d)
     && recordedWithin (records d) && zeroedWithin (records d) && incompleteLast (lastRecord d .session) (records d)
-    && tailLast (d .capacity) (records d) && tailOrFull d && pendingNamed d && finalizedComplete d
+    && tailLast (d .capacity) (records d) && tailOrFull d && pendingNamed d && finalizedComplete d && isArray d
 
 -- what L3 tests
 unfoldable pub allowedState : Disc → Bool

@@ -25,10 +25,14 @@ noPlan = plan Skip Nothing
 abbrev pub rise : Disc → Disc → ℕ
 rise before after = sumRecorded (after .fragments) - sumRecorded (before .fragments)
 
--- accepted: the sense is cleared; `before` and `after` are the disc before and after the command
+-- accepted: the sense is cleared
+unfoldable pub accepted : Disc → ℕ → Reply → Plan → Verdict
+accepted after recorded r p =
+    record { answer = Accepted; disc = withSense after noSense; reply = r; recorded = recorded; plan = p }
+
+-- the same, from the discs before and after the command
 unfoldable pub accept : Disc → Disc → Reply → Plan → Verdict
-accept before after r p =
-    record { answer = Accepted; disc = withSense after noSense; reply = r; recorded = rise before after; plan = p }
+accept before after r p = accepted after (rise before after) r p
 
 -- refused by the drive: only the sense changes
 unfoldable pub refuse : Disc → DriveRefusal → Verdict

@@ -1,14 +1,15 @@
 -- 2Ah WRITE: the decision, the new list and the plan.
-use Prim.Native.Nat.{ℕ, _+_, _-_, _/_, _%_}
-use mathlib.Core.Bool.{cond}
+use Prim.Native.Nat.{ℕ, _+_, _-_, _/_, _%_, _^_, _≤_, _<_}
+use mathlib.Core.Path.{_≡_}
+use mathlib.Core.Bool.{false, cond}
 use lib.ListN.{set}
 use lib.Dec.{eqb, ltb}
 use Rattle.disc.specs.Types.{Lba, Fragment, Disc, Found, Number, Nowhere, Flush, Skip, Gather, Verdict, WriteProtected, InvalidAddressForWrite, EndOfUserArea}
 use Rattle.disc.specs.Address.{firstSector}
-use Rattle.disc.specs.Fragment.{end, firstUnrecorded, pendingIn}
-use Rattle.disc.specs.Records.{numbered, writableAt}
+use Rattle.disc.specs.Fragment.{end, firstUnrecorded, complete, pendingIn, nextWritable}
+use Rattle.disc.specs.Records.{limit, used, numbered, writableAt}
 use Rattle.disc.specs.Verdict.{accept, refuse, noReply, noPlan, plan}
-use Rattle.disc.specs.Flush.{flush, flushPlan}
+use Rattle.disc.specs.Flush.{flush, flushPlan, flushCount}
 
 -- sectors pending in another fragment are flushed first: the disc after that, and the plan for it
 unfoldable pub flushOthers : Disc → ℕ → Disc
@@ -16,6 +17,9 @@ flushOthers d n = cond (eqb (d .owner) n) d (flush d)
 
 unfoldable pub flushOthersPlan : Disc → ℕ → Flush
 flushOthersPlan d n = cond (eqb (d .owner) n) Skip (flushPlan d)
+
+unfoldable pub flushOthersCount : Disc → ℕ → ℕ
+flushOthersCount d n = cond (eqb (d .owner) n) 0 (flushCount d)
 
 abbrev pub grownRecord : ℕ → Fragment → Fragment
 grownRecord blocks f =
@@ -40,6 +44,21 @@ gather d number n =
       owner = cond (eqb (held % 16) 0) 0 number;
       fragments = set (d .fragments) (number - 1) (grownRecord (held / 16) (numbered d number));
     }
+
+-- what the code that gathers asks: the number is a record's, and its counts do not overflow
+pub record Gathering (d : Disc) (number n : ℕ) : Type 0 where
+  pub from : 1 ≤ number
+  pub to : number ≤ limit
+  pub sectors : n < 2 ^ 24
+  pub pending : d .pending < 16
+  pub blocks : numbered d number .recorded + (pendingIn d number + n) / 16 < 2 ^ 24
+
+-- the address is the next writable one of the fragment with this number
+pub record Writable (d : Disc) (a : Lba) (number : ℕ) : Type 0 where
+  pub from : 1 ≤ number
+  pub listed : number ≤ used d
+  pub incomplete : complete (numbered d number) ≡ false
+  pub here : a .0 ≡ nextWritable d number (numbered d number) .0
 
 -- a WRITE of n sectors whose address is the next writable one of the fragment with this number: it must fit whole
 unfoldable pub writeTo : Disc → Lba → ℕ → ℕ → Verdict

@@ -10,20 +10,20 @@ pub struct Block(pub u32);
 pub struct Lba(pub u64);
 
 // Sectors in an ECC block.
-const SECTORS_PER_BLOCK: u64 = 16;
+pub(crate) const SECTORS_PER_BLOCK: u32 = 16;
 
 // How many sectors that many blocks have.
 pub(crate) fn sectors_in(blocks: u32) -> u64
     ensures { λ r. ⌜ r ≡ sectorsIn blocks ⌝ }
 {
-    SECTORS_PER_BLOCK * (blocks as u64)
+    SECTORS_PER_BLOCK as u64 * (blocks as u64)
 }
 
 // How many blocks hold that many sectors, the last one perhaps in part.
 pub(crate) fn blocks_for(sectors: u32) -> u32
     ensures { λ r. ⌜ r ≡ blocksFor sectors ⌝ }
 {
-    ((sectors as u64 + (SECTORS_PER_BLOCK - 1)) / SECTORS_PER_BLOCK) as u32
+    ((sectors as u64 + (SECTORS_PER_BLOCK - 1) as u64) / SECTORS_PER_BLOCK as u64) as u32
 }
 
 impl Block {
@@ -38,13 +38,13 @@ impl Block {
     pub(crate) fn sector_after(self, blocks: u32) -> Lba
         ensures { λ r. ⌜ r ≡ firstSector (block (self .0 + blocks)) ⌝ }
     {
-        Lba(SECTORS_PER_BLOCK * (self.0 as u64 + blocks as u64))
+        Lba(SECTORS_PER_BLOCK as u64 * (self.0 as u64 + blocks as u64))
     }
 
     // The address of a sector, counted from 0, in the block that is so many blocks on.
     pub(crate) fn sector_in(self, blocks: u32, sector: u8) -> Lba
         ensures { λ r. ⌜ r ≡ lba (firstSector (block (self .0 + blocks)) .0 + sector) ⌝ }
     {
-        Lba(SECTORS_PER_BLOCK * (self.0 as u64 + blocks as u64) + sector as u64)
+        Lba(SECTORS_PER_BLOCK as u64 * (self.0 as u64 + blocks as u64) + sector as u64)
     }
 }

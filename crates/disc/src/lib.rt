@@ -4,12 +4,15 @@
 mod address;
 mod answer;
 mod blank;
+mod change;
 mod check;
 mod command;
 mod find;
+mod flush;
 mod fragment;
 mod state;
 mod verdict;
+mod write;
 
 pub use address::Block;
 pub use address::Lba;

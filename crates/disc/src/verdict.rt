@@ -2,7 +2,12 @@
 use crate::address::Block;
 use crate::address::Lba;
 use crate::answer::Answer;
+use crate::answer::DriveRefusal;
+use crate::answer::Sense;
 use crate::state::Disc;
+ghost use mathlib.Core.Path.{_≡_};
+ghost use Rattle.disc.specs.Records.{withSense};
+ghost use Rattle.disc.specs.Verdict.{noReply, plan, noPlan, accepted, refuse};
 
 // A report's bytes by value: the whole report, zeros after it, and how many bytes of it are sent.
 pub struct Reply {
@@ -13,6 +18,16 @@ pub struct Reply {
 impl Reply {
     // The longest report's bytes.
     pub const LIMIT: usize = 36;
+
+    // A reply of no bytes.
+    pub(crate) fn none() -> Reply
+        ensures { λ r. ⌜ r ≡ noReply ⌝ }
+    {
+        Reply {
+            bytes: [0; Reply::LIMIT],
+            length: 0,
+        }
+    }
 }
 
 // Whether the pending block is recorded before anything else, its missing sectors zero.
@@ -54,4 +69,64 @@ pub struct Verdict {
     pub reply: Reply,
     pub recorded: u32,
     pub plan: Plan,
+}
+
+impl Plan {
+    pub(crate) fn new(flush: Flush, transfer: Transfer) -> Plan
+        ensures { λ r. ⌜ r ≡ plan flush transfer ⌝ }
+    {
+        Plan { flush, transfer }
+    }
+
+    // Nothing to do to the bytes.
+    pub(crate) fn none() -> Plan
+        ensures { λ r. ⌜ r ≡ noPlan ⌝ }
+    {
+        Plan {
+            flush: Flush::Skip,
+            transfer: Transfer::Nothing,
+        }
+    }
+}
+
+impl Disc {
+    // The same disc with another sense.
+    pub(crate) fn with_sense(mut self, sense: Sense) -> Disc
+        ensures { λ r. ⌜ r ≡ withSense self sense ⌝ }
+    {
+        self.sense = sense;
+        self
+    }
+}
+
+impl Verdict {
+    // Accepted: the disc after the command, its sense cleared.
+    pub(crate) fn accepted(after: Disc, recorded: u32, reply: Reply, plan: Plan) -> Verdict
+        ensures { λ r. ⌜ r ≡ accepted after recorded reply plan ⌝ }
+    {
+        let disc = after.with_sense(Sense::new(0x0, 0x00, 0x00));
+        Verdict {
+            answer: Answer::Accepted,
+            disc,
+            reply,
+            recorded,
+            plan,
+        }
+    }
+
+    // Refused by the drive: the disc as it was, with the refusal's sense.
+    pub(crate) fn refused(disc: Disc, refusal: DriveRefusal) -> Verdict
+        ensures { λ r. ⌜ r ≡ refuse disc refusal ⌝ }
+    {
+        let disc = disc.with_sense(refusal.sense());
+        let reply = Reply::none();
+        let plan = Plan::none();
+        Verdict {
+            answer: Answer::Drive(refusal),
+            disc,
+            reply,
+            recorded: 0,
+            plan,
+        }
+    }
 }

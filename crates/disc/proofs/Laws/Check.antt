@@ -459,6 +459,7 @@ module _ (d : Disc) (l : length (d .fragments) ≡ limit) where
             let k = owner-number d o n in
             absurd (contradiction (record-at complete d (d .owner - 1) (p .1 .all f) (omega (arith, owner-listed d o n (p .0)))) (owner-open d o n))))))
             (λ f. rw f);
+        array = eq-eqb _ _ l;
       }
 
   tests-check : Tests d → (listSound (d .capacity) (d .finalized) (d .fragments) && ownerIncomplete d) ≡ true

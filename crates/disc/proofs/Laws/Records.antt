@@ -7,11 +7,11 @@ use native.Mathlib.Numerals.{add-one}
 use native.Mathlib.Omega.{arith}
 use borrow.Author.Tests.{eq-eqb, ne-eqb, eqb-true, eqb-false}
 use lib.Dec.{eqb}
-use lib.ListN.{length, getD, drop, drop-of-length-le, length-map}
+use lib.ListN.{length, getD, set, drop, drop-of-length-le, length-map}
 use lib.Seq.{drop-cons}
 use Rattle.disc.specs.Types.{Fragment, Number, Nowhere}
 use Rattle.disc.specs.Fragment.{unusedRecord}
-use Rattle.disc.specs.Records.{listed, every, find}
+use Rattle.disc.specs.Records.{listed, every, find, sumRecorded}
 use Rattle.disc.proofs.Laws.Bool.{and-left, and-right, and-both, by-cases}
 
 -- the length of an array of structs, as what owning it tells has it
@@ -138,3 +138,32 @@ listed-drop-end fs i h = rw (drop-of-length-le fs h)
 pub find-end : (p : ℕ → Fragment → Bool) (fs : List Fragment) (i n : ℕ) → length fs ≤ i → find p n (listed (drop i fs)) ≡ Nowhere
 unfolding find
 find-end p fs i n h = rw (listed-drop-end fs i h)
+
+-- the sum of the recorded blocks with one record changed
+pub sum-set :
+    (fs : List Fragment) (k : ℕ) (g d : Fragment)
+    → k < length fs → sumRecorded (set fs k g) + getD fs k d .recorded ≡ sumRecorded fs + g .recorded
+unfolding sumRecorded
+sum-set [] k g d h = absurd (omega arith)
+sum-set (f ∷ fs) zero g d h = omega arith
+sum-set (f ∷ fs) (suc k) g d h = let r = sum-set fs k g d (omega arith) in omega arith
+
+-- what a search finds: an index whose record passes the test
+pub record Hit (p : ℕ → Fragment → Bool) (k n : ℕ) (rs : List Fragment) : Type 0 where
+  pub index : ℕ
+  pub number : n ≡ k + index
+  pub within : index < length rs
+  pub passes : p n (getD rs index unusedRecord) ≡ true
+
+pub find-hit : (p : ℕ → Fragment → Bool) (k n : ℕ) (rs : List Fragment) → find p k rs ≡ Number n → Hit p k n rs
+unfolding find
+find-hit p k n [] e = absurd (let z : _≡_ {A = ℕ} 0 1 = cc in omega arith)
+find-hit p k n (f ∷ fs) e =
+    by-cases (p k f)
+    (λ t.
+    let w : Number k ≡ Number n = rw t at e in
+    let same : k ≡ n = cc in
+    record { index = 0; number = omega arith; within = omega arith; passes = rw (← same) t })
+    (λ t.
+    let h = find-hit p (k + 1) n fs (rw t at e) in
+    record { index = suc (h .index); number = omega (arith, h .number); within = omega (arith, h .within); passes = h .passes })

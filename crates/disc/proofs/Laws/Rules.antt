@@ -11,7 +11,7 @@ use lib.ListN.{length, getD}
 use Rattle.disc.specs.Types.{Fragment, Disc, Kind, Reserved, Appended}
 use Rattle.disc.specs.Fragment.{unusedRecord, unused, end, complete, isReserved, isTail, nextFragmentStart, nextSessionStart}
 use Rattle.disc.specs.Records.{limit, listed, records, used, isListed, numbered, lastRecord, hasTail, every}
-use Rattle.disc.specs.Sound.{isZero, usedFirst, firstAtZero, follows, followsFrom, inOrder, endsWithin, recordedWithin, zeroedWithin, incompleteLast, tailLast, tailOrFull, pendingNamed, finalizedComplete, sound}
+use Rattle.disc.specs.Sound.{isZero, usedFirst, firstAtZero, follows, followsFrom, inOrder, endsWithin, recordedWithin, zeroedWithin, incompleteLast, tailLast, tailOrFull, pendingNamed, finalizedComplete, isArray, sound}
 use Rattle.disc.specs.Rules.{at, Follows, Owned, Sound}
 use Rattle.disc.proofs.Laws.Bool.{and-left, and-right, and-both, by-cases, or-left, or-right, or-cases, contradiction}
 use Rattle.disc.proofs.Laws.Records.{every-at, at-every, use-cases, listed-off, listed-on, listed-at}
@@ -152,6 +152,7 @@ pub record Tests (d : Disc) : Type 0 where
   pub full : tailOrFull d ≡ true
   pub pending : pendingNamed d ≡ true
   pub closed : finalizedComplete d ≡ true
+  pub array : isArray d ≡ true
 
 pub sound-tests : (d : Disc) → sound d ≡ true → Tests d
 unfolding sound
@@ -167,7 +168,9 @@ sound-tests d e =
     let t-full = tailOrFull d in
     let t-pending = pendingNamed d in
     let t-closed = finalizedComplete d in
-    let e10 = e in
+    let t-array = isArray d in
+    let e11 = e in
+    let e10 = and-left (t-first && t-begin && t-order && t-ends && t-recorded && t-zeroed && t-incomplete && t-tail && t-full && t-pending && t-closed) t-array e11 in
     let e9 = and-left (t-first && t-begin && t-order && t-ends && t-recorded && t-zeroed && t-incomplete && t-tail && t-full && t-pending) t-closed e10 in
     let e8 = and-left (t-first && t-begin && t-order && t-ends && t-recorded && t-zeroed && t-incomplete && t-tail && t-full) t-pending e9 in
     let e7 = and-left (t-first && t-begin && t-order && t-ends && t-recorded && t-zeroed && t-incomplete && t-tail) t-full e8 in
@@ -189,12 +192,13 @@ sound-tests d e =
       full = and-right (t-first && t-begin && t-order && t-ends && t-recorded && t-zeroed && t-incomplete && t-tail) t-full e8;
       pending = and-right (t-first && t-begin && t-order && t-ends && t-recorded && t-zeroed && t-incomplete && t-tail && t-full) t-pending e9;
       closed = and-right (t-first && t-begin && t-order && t-ends && t-recorded && t-zeroed && t-incomplete && t-tail && t-full && t-pending) t-closed e10;
+      array = and-right (t-first && t-begin && t-order && t-ends && t-recorded && t-zeroed && t-incomplete && t-tail && t-full && t-pending && t-closed) t-array e11;
     }
 
 pub tests-sound : (d : Disc) → Tests d → sound d ≡ true
 unfolding sound
 tests-sound d t =
-    and-both (and-both (and-both (and-both (and-both (and-both (and-both (and-both (and-both (and-both (t .first) (t .begin)) (t .order)) (t .ends)) (t .recorded)) (t .zeroed)) (t .incomplete)) (t .tail)) (t .full)) (t .pending)) (t .closed)
+    and-both (and-both (and-both (and-both (and-both (and-both (and-both (and-both (and-both (and-both (and-both (t .first) (t .begin)) (t .order)) (t .ends)) (t .recorded)) (t .zeroed)) (t .incomplete)) (t .tail)) (t .full)) (t .pending)) (t .closed)) (t .array)
 
 -- a test of every record in use, at an index and back
 pub record-at : (p : Fragment → Bool) (d : Disc) (i : ℕ) → every p (records d) ≡ true → i < used d → p (at d i) ≡ true
@@ -264,6 +268,7 @@ sound-rules d e =
     let begin = first-at (records d) unusedRecord (t .begin) in
     let zeroth = listed-at (d .fragments) 0 unusedRecord (begin .0) in
     record {
+      array = eqb-true _ _ (t .array);
       some = begin .0;
       unused = λ i h. used-first-at (d .fragments) i (t .first) h;
       firstSession = rw zeroth at (begin .1);
@@ -340,4 +345,5 @@ rules-sound d s =
           by-cases (d .finalized)
           (λ f. rw f (and-both (at-records complete d (s .closed f)) (eq-eqb _ _ (s .settled f))))
           (λ f. rw f);
+      array = eq-eqb _ _ (s .array);
     })

@@ -1,4 +1,4 @@
-use lib.ListN.{drop}
+use lib.ListN.{drop, length}
 use Rattle.disc.specs.Fragment.{holds}
 use Rattle.disc.specs.Records.{limit, listed, find, atAddress}
 use Rattle.disc.proofs.Laws.Records.{array-length, find-off, find-here, find-on, find-end}
@@ -6,7 +6,6 @@ use borrow.Author.Needs.{needs}
 use mathlib.Core.Path.{_≡_, refl, sym, _∙_}
 use native.Mathlib.Omega.{arith}
 use Prim.Native.Nat.{_+_, _-_, _≤_}
-use lib.ListN.{length}
 use Rattle.disc.proofs.state.Disc.at_address.Statement.{statement}
 use Rattle.disc.proofs.state.Disc.at_address.Tie as tie
 

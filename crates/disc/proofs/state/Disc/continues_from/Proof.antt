@@ -4,13 +4,12 @@ use Rattle.disc.proofs.Laws.Bool.{and-first, and-false}
 use Rattle.disc.proofs.Laws.Check.{walk-stop, walk-on, walk-end}
 use Rattle.disc.specs.Records.{limit}
 use Rattle.disc.specs.Check.{walk}
-use lib.ListN.{drop}
+use lib.ListN.{drop, length}
 use Rattle.disc.proofs.Laws.Records.{array-length}
 use borrow.Author.Needs.{needs}
 use mathlib.Core.Path.{_≡_, refl, sym, _∙_}
 use native.Mathlib.Omega.{arith}
 use Prim.Native.Nat.{_-_, _≤_}
-use lib.ListN.{length}
 use Rattle.disc.proofs.state.Disc.continues_from.Statement.{statement}
 use Rattle.disc.proofs.state.Disc.continues_from.Tie as tie
 

@@ -1,4 +1,4 @@
-use lib.ListN.{drop}
+use lib.ListN.{drop, length}
 use borrow.Author.Tests.{not-true, not-false}
 use Rattle.disc.specs.Records.{limit, every}
 use Rattle.disc.specs.Sound.{isZero}
@@ -8,7 +8,6 @@ use borrow.Author.Needs.{needs}
 use mathlib.Core.Path.{_≡_, refl, sym, _∙_}
 use native.Mathlib.Omega.{arith}
 use Prim.Native.Nat.{_-_, _≤_}
-use lib.ListN.{length}
 use Rattle.disc.proofs.state.Disc.unused_from.Statement.{statement}
 use Rattle.disc.proofs.state.Disc.unused_from.Tie as tie
 

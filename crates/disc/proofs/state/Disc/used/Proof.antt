@@ -1,11 +1,10 @@
-use lib.ListN.{drop}
+use lib.ListN.{drop, length}
 use Rattle.disc.specs.Records.{limit, listed}
 use Rattle.disc.proofs.Laws.Records.{array-length, listed-drop-off, listed-drop-on, listed-drop-end}
 use borrow.Author.Needs.{needs}
 use mathlib.Core.Path.{_≡_, ap}
 use native.Mathlib.Omega.{arith}
 use Prim.Native.Nat.{_+_, _-_, _≤_}
-use lib.ListN.{length}
 use Rattle.disc.proofs.state.Disc.used.Statement.{statement}
 use Rattle.disc.proofs.state.Disc.used.Tie as tie
 

@@ -1,4 +1,4 @@
-use lib.ListN.{drop}
+use lib.ListN.{drop, length}
 use lib.Dec.{eqb}
 use mathlib.Core.Bool.{not, _&&_}
 use Rattle.disc.specs.Fragment.{complete, nextWritable}
@@ -8,7 +8,6 @@ use borrow.Author.Needs.{needs}
 use mathlib.Core.Path.{_≡_, refl, sym, _∙_}
 use native.Mathlib.Omega.{arith}
 use Prim.Native.Nat.{_+_, _-_, _≤_}
-use lib.ListN.{length}
 use Rattle.disc.proofs.state.Disc.writable_at.Statement.{statement}
 use Rattle.disc.proofs.state.Disc.writable_at.Tie as tie
 

@@ -1,0 +1,82 @@
+-- What a flush computes with, what it records, and that it keeps a list sound.
+use Prim.Native.Nat.{ℕ, _+_, _-_, _*_, _≤_, _<_}
+use mathlib.Core.Path.{_≡_}
+use native.Mathlib.Omega.{arith}
+use borrow.Author.Tests.{eqb-false}
+use lib.Dec.{eqb}
+use lib.ListN.{length, length-set}
+use Rattle.disc.specs.Types.{Disc}
+use Rattle.disc.specs.Fragment.{unusedRecord}
+use Rattle.disc.specs.Records.{limit, used, numbered, sumRecorded}
+use Rattle.disc.specs.Ready.{Ready}
+use Rattle.disc.specs.Flush.{flushedRecord, flush, flushCount}
+use Rattle.disc.specs.Verdict.{rise}
+use Rattle.disc.proofs.Laws.Bool.{by-cases}
+use Rattle.disc.proofs.Laws.Records.{listed-le, sum-set}
+use Rattle.disc.proofs.Laws.Rules.{sound-rules}
+use Rattle.disc.proofs.Laws.Sound.{incomplete-room}
+use Rattle.disc.proofs.Laws.Blank.{range-most}
+
+pub used-limit : (d : Disc) → Ready d → used d ≤ limit
+used-limit d r = omega (arith, listed-le (d .fragments), sound-rules d (r .sound) .array)
+
+-- the numbers of a record in use
+pub record Numbers (d : Disc) (n : ℕ) : Type 0 where
+  pub ends : numbered d n .start .0 + numbered d n .length ≤ 143444
+  pub recorded : numbered d n .recorded ≤ numbered d n .length
+  pub zeroed : numbered d n .zeroed ≤ 16 * numbered d n .recorded
+
+pub numbers : (d : Disc) (n : ℕ) → Ready d → 1 ≤ n → n ≤ used d → Numbers d n
+numbers d n r o l =
+    let s = sound-rules d (r .sound) in
+    let ends = s .ends (n - 1) (omega arith) in
+    record {
+      ends = omega (arith, range-most (d .capacity) (r .range));
+      recorded = s .recorded (n - 1) (omega arith);
+      zeroed = s .zeroed (n - 1) (omega arith);
+    }
+
+-- the record that the pending sectors name
+pub record Owner (d : Disc) : Type 0 where
+  pub number : 1 ≤ d .owner
+  pub listed : d .owner ≤ used d
+  pub slot : d .owner ≤ limit
+  pub few : d .pending < 16
+  pub room : numbered d (d .owner) .recorded < numbered d (d .owner) .length
+  pub fits : Numbers d (d .owner)
+
+pub owner : (d : Disc) → Ready d → (d .pending ≡ 0 → ⊥) → Owner d
+owner d r n =
+    let s = sound-rules d (r .sound) in
+    let o = s .owned n in
+    let l = listed-le (d .fragments) in
+    record {
+      number = o .number;
+      listed = o .listed;
+      slot = omega (arith, o .listed, s .array);
+      few = s .few;
+      room = incomplete-room d s (d .owner - 1) (omega (arith, o .number, o .listed)) (o .incomplete);
+      fits = numbers d (d .owner) r (o .number) (o .listed);
+    }
+
+-- a flush records a block if sectors are pending
+pub flush-sum : (d : Disc) → Ready d → sumRecorded (flush d .fragments) ≡ sumRecorded (d .fragments) + flushCount d
+unfolding flush flushCount
+flush-sum d r =
+    by-cases (eqb (d .pending) 0)
+    (λ z. rw z (omega arith))
+    (λ z.
+    let o = owner d r (eqb-false _ _ z) in
+    let f = numbered d (d .owner) in
+    let k = sum-set (d .fragments) (d .owner - 1) (flushedRecord (d .pending) f) unusedRecord (omega (arith, o .slot, o .number, sound-rules d (r .sound) .array)) in
+    rw z (omega arith))
+
+pub rise-flush : (d : Disc) → Ready d → rise d (flush d) ≡ flushCount d
+rise-flush d r = omega (arith, flush-sum d r)
+
+pub flush-length : (d : Disc) → length (flush d .fragments) ≡ length (d .fragments)
+unfolding flush
+flush-length d = by-cases (eqb (d .pending) 0) (λ z. rw z) (λ z. rw z (simp length-set))
+
+pub rise-same : (d : Disc) → rise d d ≡ 0
+rise-same d = omega arith

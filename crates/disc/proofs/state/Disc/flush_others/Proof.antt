@@ -1,0 +1,22 @@
+use Rattle.disc.specs.Write.{flushOthers}
+use borrow.Author.Tests.{eq-eqb, ne-eqb}
+use borrow.Author.Needs.{needs}
+use Rattle.disc.proofs.state.Disc.flush_others.Statement.{statement}
+use Rattle.disc.proofs.state.Disc.flush_others.Tie as tie
+
+cast-if1 : tie.Need-cast-if1
+cast-if1 c = search needs
+
+returns : tie.Need-returns
+unfolding flushOthers
+returns c = simp (eq-eqb _ _ (c .if1 .taken))
+
+flush-requires : tie.Need-flush-requires
+flush-requires c κs = search needs
+
+returns-2 : tie.Need-returns-2
+unfolding flushOthers
+returns-2 c = simp (c .flush .ensures, ne-eqb _ _ (c .before .if1 .left))
+
+pub flush-others-spec : {M : Type 1} → statement M
+flush-others-spec = tie.close (tie.spec cast-if1 returns flush-requires returns-2)

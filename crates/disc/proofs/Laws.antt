@@ -7,5 +7,7 @@ pub mod Check
 pub mod Rules
 pub mod Sound
 pub mod Blank
+pub mod Verdict
 pub mod Flush
 pub mod Write
+pub mod Reserve

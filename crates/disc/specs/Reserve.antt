@@ -1,5 +1,5 @@
 -- 53h RESERVE TRACK.
-use Prim.Native.Nat.{ℕ, _+_}
+use Prim.Native.Nat.{ℕ, _+_, _≤_, _<_}
 use mathlib.Core.Bool.{cond, not}
 use lib.Dec.{eqb, leb}
 use Rattle.disc.specs.Types.{Fragment, Reserved, Disc, Verdict, WriteProtected, InvalidFieldInCommand, NoMoreReservations, EndOfUserArea}
@@ -18,6 +18,12 @@ unfoldable pub splitTail : Disc → ℕ → Disc
 splitTail d b =
     let f = reservedAt (lastRecord d) b in
     withRecord (withRecord d (used d) f) (used d + 1) (tailFrom (d .capacity) (f .session) (nextFragmentStart (end f)))
+
+-- what the code that splits asks: there is a record, one is free, and the new tail starts within the capacity
+pub record Splitting (d : Disc) (b : ℕ) : Type 0 where
+  pub from : 1 ≤ used d
+  pub free : used d < limit
+  pub start : nextFragmentStart (end (reservedAt (lastRecord d) b)) .0 < d .capacity
 
 -- 53h with its refusals in the table's order; nothing is flushed
 unfoldable pub reserve : Disc → ℕ → Verdict

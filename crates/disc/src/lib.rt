@@ -10,6 +10,7 @@ mod command;
 mod find;
 mod flush;
 mod fragment;
+mod reserve;
 mod state;
 mod verdict;
 mod write;

@@ -1,6 +1,6 @@
 -- Tests joined by `&&`, taken apart and put together; a proof by the two cases of a test.
 use mathlib.Core.Path.{_≡_, refl, sym, _∙_}
-use mathlib.Core.Bool.{Bool, true, false, _&&_, _||_, and-eq-true-iff, false≢true, or-true, or-assoc, or-false}
+use mathlib.Core.Bool.{Bool, true, false, cond, _&&_, _||_, and-eq-true-iff, false≢true, or-true, or-assoc, or-false}
 
 pub and-left : (a b : Bool) → (a && b) ≡ true → a ≡ true
 and-left a b h = and-eq-true-iff a b .0 h .0
@@ -44,3 +44,10 @@ contradiction h k = false≢true (sym k ∙ h)
 pub same-test : {a b : Bool} → (a ≡ true → b ≡ true) → (b ≡ true → a ≡ true) → a ≡ b
 same-test {a} {b} there back =
     by-cases a (λ h. h ∙ sym (there h)) (λ h. by-cases b (λ k. absurd (contradiction (back k) h)) (λ k. h ∙ sym k))
+
+-- a choice by a test whose outcome is known; unlike a rewrite it leaves other places of the test alone
+pub cond-yes {ℓ} : {A : Type ℓ} (b : Bool) (x y : A) → b ≡ true → cond b x y ≡ x
+cond-yes b x y e = rw e
+
+pub cond-no {ℓ} : {A : Type ℓ} (b : Bool) (x y : A) → b ≡ false → cond b x y ≡ y
+cond-no b x y e = rw e

@@ -23,3 +23,6 @@ order-cases a b less same more =
 
 pub equal-cases {ℓ} : {P : Type ℓ} (a b : ℕ) → (a ≡ b → P) → ((a ≡ b → ⊥) → P) → P
 equal-cases a b same other = by-cases (eqb a b) (λ e. same (eqb-true a b e)) (λ e. other (eqb-false a b e))
+
+pub below-limit : {a b : ℕ} → a ≤ b → (a ≡ b → ⊥) → a < b
+below-limit h n = omega arith

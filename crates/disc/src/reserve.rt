@@ -1,0 +1,66 @@
+// 53h.
+use crate::address;
+use crate::address::Block;
+use crate::answer::DriveRefusal;
+use crate::fragment::Fragment;
+use crate::state::Disc;
+use crate::verdict::Plan;
+use crate::verdict::Reply;
+use crate::verdict::Verdict;
+ghost use mathlib.Core.Path.{_≡_};
+ghost use mathlib.Core.Bool.{true};
+ghost use Prim.Native.Nat.{_≤_, _<_};
+ghost use Rattle.disc.specs.Records.{limit, used, lastRecord, hasBlankTail};
+ghost use Rattle.disc.specs.Fragment.{end, nextFragmentStart};
+ghost use Rattle.disc.specs.Ready.{Ready};
+ghost use Rattle.disc.specs.Reserve.{reservedAt, Splitting, splitTail, reserve};
+
+impl Disc {
+    // The last record is a tail with no block recorded and no sector pending.
+    pub(crate) fn has_blank_tail(self) -> bool
+        ensures { λ r. ⌜ r ≡ hasBlankTail self ⌝ }
+    {
+        let last = self.last();
+        let f = last.fragment;
+        f.is_tail() & self.is_blank(last.number, f)
+    }
+
+    // The disc whose blank tail is a reserved fragment of so many blocks with a tail behind it.
+    pub(crate) fn split_tail(self, blocks: u32) -> Disc
+        requires { ⌜ Splitting self blocks ⌝ }
+        ensures { λ r. ⌜ r ≡ splitTail self blocks ⌝ }
+    {
+        let number = self.used();
+        let tail = self.fragments[number - 1];
+        let f = tail.reserved(blocks);
+        let start = Block(f.next_start() as u32);
+        let rest = Fragment::tail_from(self.capacity, f.session, start);
+        self.with_record(number, f).with_record(number + 1, rest)
+    }
+
+    // 53h.
+    pub(crate) fn reserve(self, size: u32) -> Verdict
+        requires { ⌜ Ready self ⌝ }
+        ensures { λ r. ⌜ r ≡ reserve self size ⌝ }
+    {
+        if self.finalized {
+            return Verdict::refused(self, DriveRefusal::WriteProtected);
+        }
+        if size == 0 {
+            return Verdict::refused(self, DriveRefusal::InvalidFieldInCommand);
+        }
+        if !self.has_blank_tail() {
+            return Verdict::refused(self, DriveRefusal::NoMoreReservations);
+        }
+        let number = self.used();
+        if number == Disc::LIMIT {
+            return Verdict::refused(self, DriveRefusal::NoMoreReservations);
+        }
+        let blocks = address::blocks_for(size);
+        let tail = self.fragments[number - 1];
+        if self.capacity as u64 <= tail.reserved(blocks).next_start() {
+            return Verdict::refused(self, DriveRefusal::EndOfUserArea);
+        }
+        Verdict::accepted(self.split_tail(blocks), 0, Reply::none(), Plan::none())
+    }
+}

@@ -6,8 +6,10 @@ pub mod Records
 pub mod Check
 pub mod Rules
 pub mod Sound
+pub mod Grow
 pub mod Blank
 pub mod Verdict
 pub mod Flush
 pub mod Write
 pub mod Reserve
+pub mod Close

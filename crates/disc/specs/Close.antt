@@ -1,5 +1,5 @@
 -- 5Bh CLOSE TRACK/SESSION: 001 fragment, 010 session, 110 finalize. An accepted one flushes first, a refused one never.
-use Prim.Native.Nat.{ℕ, _+_, _-_}
+use Prim.Native.Nat.{ℕ, _+_, _-_, _≤_, _<_}
 use mathlib.Core.Bool.{Bool, true, cond, not, _&&_, _||_}
 use lib.Dec.{eqb, ltb}
 use Rattle.disc.specs.Types.{Kind, Reserved, Appended, Fragment, Disc, Nothing, Fill, Verdict, InvalidFieldInCommand, IncompleteTrackInSession, EmptyTrack, NoMoreReservations, EndOfUserArea}
@@ -71,6 +71,13 @@ closeTail d =
 unfoldable pub openSession : Disc → Disc
 openSession d =
     withRecord d (used d + 1) (tailFrom (d .capacity) (lastRecord d .session + 1) (nextSessionStart (end (lastRecord d))))
+
+-- what the code that opens asks: a record is free, and the new tail starts within the capacity
+pub record Opening (d : Disc) : Type 0 where
+  pub from : 1 ≤ used d
+  pub free : used d < limit
+  pub start : nextSessionStart (end (lastRecord d)) .0 ≤ d .capacity
+  pub session : lastRecord d .session < 255
 
 -- 010: nothing is done on a finalized disc or where the last session is only a blank tail. Else no reserved fragment may be
 -- incomplete, a record must be free and a block must be left for the new tail, all judged on the flushed list

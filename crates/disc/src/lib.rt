@@ -6,6 +6,7 @@ mod answer;
 mod blank;
 mod change;
 mod check;
+mod close;
 mod command;
 mod find;
 mod flush;

@@ -1,20 +1,22 @@
 -- What a flush computes with, what it records, and that it keeps a list sound.
 use Prim.Native.Nat.{ℕ, _+_, _-_, _*_, _≤_, _<_}
-use mathlib.Core.Path.{_≡_}
+use mathlib.Core.Path.{refl, _≡_}
 use native.Mathlib.Omega.{arith}
-use borrow.Author.Tests.{eqb-false}
+use borrow.Author.Tests.{eqb-true, eqb-false}
 use lib.Dec.{eqb}
 use lib.ListN.{length, length-set}
-use Rattle.disc.specs.Types.{Disc}
+use Rattle.disc.specs.Types.{Fragment, Disc}
 use Rattle.disc.specs.Fragment.{unusedRecord}
 use Rattle.disc.specs.Records.{limit, used, numbered, sumRecorded}
 use Rattle.disc.specs.Ready.{Ready}
+use Rattle.disc.specs.Rules.{Sound}
 use Rattle.disc.specs.Flush.{flushedRecord, flush, flushCount}
 use Rattle.disc.specs.Verdict.{rise}
 use Rattle.disc.proofs.Laws.Bool.{by-cases}
 use Rattle.disc.proofs.Laws.Records.{listed-le, sum-set}
-use Rattle.disc.proofs.Laws.Rules.{sound-rules}
+use Rattle.disc.proofs.Laws.Rules.{sound-rules, rules-sound}
 use Rattle.disc.proofs.Laws.Sound.{incomplete-room}
+use Rattle.disc.proofs.Laws.Grow.{GrownRecord, Grown, set-grown, same-grown, grown-used, grown-sound}
 use Rattle.disc.proofs.Laws.Blank.{range-most}
 
 pub used-limit : (d : Disc) → Ready d → used d ≤ limit
@@ -80,3 +82,62 @@ flush-length d = by-cases (eqb (d .pending) 0) (λ z. rw z) (λ z. rw z (simp le
 
 pub rise-same : (d : Disc) → rise d d ≡ 0
 rise-same d = omega arith
+
+-- a flush keeps a list sound and the capacity
+flush-grown : (n : ℕ) (f : Fragment) → n < 16 → f .recorded < f .length → f .zeroed ≤ 16 * f .recorded → GrownRecord f (flushedRecord n f)
+flush-grown n f few room z =
+    record {
+      session = refl;
+      start = refl;
+      size = refl;
+      kind = refl;
+      more = omega arith;
+      recorded = omega arith;
+      zeroed = omega arith;
+    }
+
+pub flush-grows : (d : Disc) → Ready d → Grown d (flush d)
+unfolding flush
+flush-grows d r =
+    let s = sound-rules d (r .sound) in
+    by-cases (eqb (d .pending) 0)
+    (λ z. rw z (same-grown d s))
+    (λ z.
+    let o = owner d r (eqb-false (d .pending) 0 z) in
+    let f = numbered d (d .owner) in
+    rw z
+    (set-grown d _ (d .owner - 1) (flushedRecord (d .pending) f) s (omega (arith, o .number, o .listed)) refl refl refl
+    (flush-grown (d .pending) f (o .few) (o .room) (o .fits .zeroed))))
+
+pub flush-pending : (d : Disc) → flush d .pending ≡ 0
+unfolding flush
+flush-pending d = by-cases (eqb (d .pending) 0) (λ z. rw z (eqb-true _ _ z)) (λ z. rw z)
+
+pub flush-owner : (d : Disc) → Ready d → flush d .owner ≡ 0
+unfolding flush
+flush-owner d r =
+    by-cases (eqb (d .pending) 0) (λ z. rw z (sound-rules d (r .sound) .none (eqb-true _ _ z))) (λ z. rw z)
+
+pub flush-sound : (d : Disc) → Ready d → Sound (flush d)
+flush-sound d r =
+    let p = flush-pending d in
+    grown-sound d (flush d) (sound-rules d (r .sound)) (flush-grows d r)
+    (omega arith)
+    (λ q. flush-owner d r)
+    (λ q. absurd (q p))
+    (λ q. p)
+
+pub flush-used : (d : Disc) → Ready d → used (flush d) ≡ used d
+flush-used d r = grown-used d (flush d) (sound-rules d (r .sound)) (flush-grows d r)
+
+pub flush-capacity : (d : Disc) → flush d .capacity ≡ d .capacity
+unfolding flush
+flush-capacity d = by-cases (eqb (d .pending) 0) (λ z. rw z) (λ z. rw z)
+
+pub flush-finalized : (d : Disc) → flush d .finalized ≡ d .finalized
+unfolding flush
+flush-finalized d = by-cases (eqb (d .pending) 0) (λ z. rw z) (λ z. rw z)
+
+pub flush-ready : (d : Disc) → Ready d → Ready (flush d)
+flush-ready d r =
+    record { sound = rules-sound (flush d) (flush-sound d r); range = rw (flush-capacity d) (r .range) }

@@ -1,24 +1,22 @@
 -- What RESERVE computes with and that it records nothing.
-use Prim.Native.Nat.{ℕ, suc, _+_, _-_, _≤_, _<_}
-use mathlib.Core.Path.{_≡_, refl, sym, _∙_, ap}
-use mathlib.Core.Bool.{true, false, not, _&&_}
+use Prim.Native.Nat.{ℕ, _+_, _-_, _≤_, _<_}
+use mathlib.Core.Path.{_≡_, _∙_, ap}
+use mathlib.Core.Bool.{true, false, not}
 use native.Mathlib.Omega.{arith}
 use borrow.Author.Tests.{eqb-true, eq-eqb, ne-eqb, le-leb, lt-leb}
 use lib.Dec.{eqb, leb}
-use lib.ListN.{length, getD, set, length-set}
+use lib.ListN.{getD, set, length-set}
 use lib.Seq.{getD-set-other}
 use Rattle.disc.specs.Types.{Fragment, Disc, NoMoreReservations, EndOfUserArea}
 use Rattle.disc.specs.Fragment.{unusedRecord, end, pendingIn, isBlank, nextFragmentStart, tailFrom}
 use Rattle.disc.specs.Records.{limit, used, lastRecord, withRecord, hasTail, hasBlankTail, sumRecorded}
 use Rattle.disc.specs.Rules.{Sound}
-use Rattle.disc.specs.Ready.{Ready}
-use Rattle.disc.specs.Verdict.{rise, accepted, accept, refuse, noReply, noPlan}
+use Rattle.disc.specs.Verdict.{rise, accepted, refuse, noReply, noPlan}
 use Rattle.disc.specs.Address.{blocksFor}
 use Rattle.disc.specs.Reserve.{reservedAt, splitTail, reserve}
 use Rattle.disc.proofs.Laws.Bool.{and-left, and-right, cond-no}
 use Rattle.disc.proofs.Laws.Records.{listed-le, sum-set}
 use Rattle.disc.proofs.Laws.Verdict.{accept-count}
-use Rattle.disc.proofs.Laws.Rules.{sound-rules}
 
 -- a blank tail has no block recorded
 pub blank-recorded : (d : Disc) → hasBlankTail d ≡ true → lastRecord d .recorded ≡ 0
@@ -28,7 +26,7 @@ blank-recorded d b =
 
 -- the sum of recorded blocks where the last record is changed, and where one is put behind it
 pub last-sum :
-  (d : Disc) (g : Fragment) → Sound d → sumRecorded (withRecord d (used d) g .fragments) + lastRecord d .recorded ≡ sumRecorded (d .fragments) + g .recorded
+    (d : Disc) (g : Fragment) → Sound d → sumRecorded (withRecord d (used d) g .fragments) + lastRecord d .recorded ≡ sumRecorded (d .fragments) + g .recorded
 last-sum d g s = sum-set (d .fragments) (used d - 1) g unusedRecord (omega (arith, s .some, s .array, listed-le (d .fragments)))
 
 pub split-sum : (d : Disc) (b : ℕ) → Sound d → hasBlankTail d ≡ true → used d < limit → sumRecorded (splitTail d b .fragments) ≡ sumRecorded (d .fragments)
@@ -41,7 +39,7 @@ split-sum d b s t h =
     let behind : n + 1 - 1 ≡ n = omega arith in
     let len = length-set (d .fragments) (n - 1) f in
     let free : getD fs n unusedRecord .recorded ≡ 0 =
-      ap (λ r. r .recorded) (getD-set-other (d .fragments) (n - 1) n f unusedRecord (λ e. omega (arith, s .some)) ∙ s .unused n (omega arith)) in
+    ap (λ r. r .recorded) (getD-set-other (d .fragments) (n - 1) n f unusedRecord (λ e. omega (arith, s .some)) ∙ s .unused n (omega arith)) in
     let first = last-sum d f s in
     let second = sum-set fs n g unusedRecord (omega (arith, s .array)) in
     rw behind (omega (arith, blank-recorded d t))
@@ -54,12 +52,12 @@ module _ (d : Disc) (size : ℕ) (f : d .finalized ≡ false) (z : size ≡ 0 �
 
   module _ (u : used d ≡ limit → ⊥) where
     pub reserve-past :
-      d .capacity ≤ nextFragmentStart (end (reservedAt (lastRecord d) (blocksFor size))) .0 → reserve d size ≡ refuse d EndOfUserArea
+        d .capacity ≤ nextFragmentStart (end (reservedAt (lastRecord d) (blocksFor size))) .0 → reserve d size ≡ refuse d EndOfUserArea
     unfolding reserve
     reserve-past h = rw (f, ne-eqb _ _ z, b, ne-eqb _ _ u, le-leb _ _ h)
 
     pub reserve-done :
-      Sound d → nextFragmentStart (end (reservedAt (lastRecord d) (blocksFor size))) .0 < d .capacity
+        Sound d → nextFragmentStart (end (reservedAt (lastRecord d) (blocksFor size))) .0 < d .capacity
         → reserve d size ≡ accepted (splitTail d (blocksFor size)) 0 noReply noPlan
     unfolding reserve
     reserve-done s h =
@@ -74,7 +72,7 @@ module _ (d : Disc) (size : ℕ) (f : d .finalized ≡ false) (z : size ≡ 0 �
 
 -- where the code finds the new tail to start
 pub split-start :
-  (d : Disc) (n b : ℕ) (f : Fragment) (k : ℕ)
+    (d : Disc) (n b : ℕ) (f : Fragment) (k : ℕ)
     → n ≡ used d → f ≡ reservedAt (getD (d .fragments) (n - 1) unusedRecord) b → k ≡ nextFragmentStart (end f) .0
     → k ≡ nextFragmentStart (end (reservedAt (lastRecord d) b)) .0
 split-start d n b f k en ef ek = rw (ef, en) at ek

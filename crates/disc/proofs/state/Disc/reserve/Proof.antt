@@ -1,122 +1,82 @@
-use mathlib.Core.Path.{_≡_, sym, _∙_}
+use mathlib.Core.Path.{sym, _∙_}
 use native.Mathlib.Omega.{arith}
-use borrow.Author.Tests.{not-false}
+use borrow.Author.Tests.{not-false, eq-eqb, ne-eqb}
 use Rattle.disc.proofs.Laws.Rules.{sound-rules}
 use Rattle.disc.proofs.Laws.Flush.{used-limit}
 use Rattle.disc.proofs.Laws.Reserve.{reserve-full, reserve-past, reserve-done, split-start}
 use Rattle.disc.proofs.Laws.Numbers.{below-limit}
-use mathlib.Core.Path.{_≡_, sym, _∙_}
-use native.Mathlib.Omega.{arith}
-use borrow.Author.Tests.{not-false}
-use Rattle.disc.proofs.Laws.Rules.{sound-rules}
-use Rattle.disc.proofs.Laws.Flush.{used-limit}
-use Rattle.disc.proofs.Laws.Reserve.{reserve-full, reserve-past, reserve-done}
-use borrow.Author.Tests.{eq-eqb, ne-eqb, le-leb, le-ltb, lt-ltb, lt-leb}
 use Rattle.disc.specs.Verdict.{accept}
 use Rattle.disc.specs.Reserve.{reserve}
-use mathlib.Core.Path.{_≡_, refl, sym, _∙_, ap}
-use native.Mathlib.Omega.{arith}
 use borrow.Author.Needs.{needs}
 use Rattle.disc.proofs.state.Disc.reserve.Statement.{statement}
 use Rattle.disc.proofs.state.Disc.reserve.Tie as tie
-use Rattle.disc.proofs.state.Disc.reserve.Reads as reads
-use Rattle.disc.proofs.state.Disc.reserve.Lts as lts
-use Rattle.disc.proofs.address.blocks_for.Reads as blocks-for-reads
-use Rattle.disc.proofs.fragment.Fragment.next_start.Reads as next-start-reads
-use Rattle.disc.proofs.fragment.Fragment.reserved.Reads as reserved-reads
-use Rattle.disc.proofs.state.Disc.has_blank_tail.Reads as has-blank-tail-reads
-use Rattle.disc.proofs.state.Disc.split_tail.Reads as split-tail-reads
-use Rattle.disc.proofs.state.Disc.used.Reads as used-reads
-use Rattle.disc.proofs.verdict.Plan.none.Reads as verdict-Plan-none-reads
-use Rattle.disc.proofs.verdict.Reply.none.Reads as verdict-Reply-none-reads
-use Rattle.disc.proofs.verdict.Verdict.accepted.Reads as accepted-reads
-use Rattle.disc.proofs.verdict.Verdict.refused.Reads as refused-reads
 
--- src/reserve.rt:47:13
 refused-requires : tie.Need-refused-requires
 refused-requires c κs = search needs
 
--- src/reserve.rt:47:13
 returns : tie.Need-returns
 unfolding reserve accept
 returns c = simp (c .refused .ensures, c .before .if1 .taken)
 
--- src/reserve.rt:50:13
 refused-requires-2 : tie.Need-refused-requires-2
 refused-requires-2 c κs = search needs
 
--- src/reserve.rt:50:13
 returns-2 : tie.Need-returns-2
 unfolding reserve accept
 returns-2 c = simp (c .refused2 .ensures, eq-eqb _ _ (c .before .if2 .taken), c .before .before .if1 .left)
 
--- src/reserve.rt:52:13
 has-blank-tail-requires : tie.Need-has-blank-tail-requires
 has-blank-tail-requires c κs = search needs
 
--- src/reserve.rt:53:13
 refused-requires-3 : tie.Need-refused-requires-3
 refused-requires-3 c κs = search needs
 
--- src/reserve.rt:53:13
 returns-3 : tie.Need-returns-3
 unfolding reserve accept
 returns-3 c = simp (c .refused3 .ensures, c .before .if3 .taken, ← c .before .before .has-blank-tail .ensures, ne-eqb _ _ (c .before .before .before .if2 .left), c .before .before .before .before .if1 .left)
 
--- src/reserve.rt:55:13
 used-requires : tie.Need-used-requires
 used-requires c κs = search needs
 
--- src/reserve.rt:57:13
 refused-requires-4 : tie.Need-refused-requires-4
 refused-requires-4 c κs = search needs
 
--- src/reserve.rt:57:13
 returns-4 : tie.Need-returns-4
 unfolding reserve accept
 returns-4 c =
     rw (c .refused4 .ensures)
     (sym (reserve-full (c .before .before .before .before .before .before .before .args .t1) (c .before .before .before .before .before .before .before .args .size) (c .before .before .before .before .before .before .if1 .left) (c .before .before .before .before .before .if2 .left) (sym (c .before .before .before .before .has-blank-tail .ensures) ∙ not-false _ (c .before .before .before .if3 .left)) (sym (c .before .before .used .ensures) ∙ c .before .if4 .taken)))
 
--- src/reserve.rt:59:13
 blocks-for-requires : tie.Need-blocks-for-requires
 blocks-for-requires c κs = search needs
 
--- src/reserve.rt:60:35
 sub-tail : tie.Need-sub-tail
 sub-tail c =
     let d = c .before .before .before .before .before .before .before .args .t1 in
     omega (arith, c .before .before .used .ensures, used-limit d (c .before .before .before .before .before .before .before .pre), sound-rules d (c .before .before .before .before .before .before .before .pre .sound) .some)
 
--- src/reserve.rt:60:20
 mul-tail : tie.Need-mul-tail
 mul-tail c =
     let d = c .before .before .before .before .before .before .before .args .t1 in
     omega (arith, c .before .before .used .ensures, used-limit d (c .before .before .before .before .before .before .before .pre), sound-rules d (c .before .before .before .before .before .before .before .pre .sound) .some)
 
--- src/reserve.rt:60:20
 element-copy-out-tail : tie.Need-element-copy-out-tail
 element-copy-out-tail c =
     let d = c .before .before .before .before .before .before .before .args .t1 in
     omega (arith, c .before .before .used .ensures, used-limit d (c .before .before .before .before .before .before .before .pre), sound-rules d (c .before .before .before .before .before .before .before .pre .sound) .some)
 
--- src/reserve.rt:61:12
 cast-if5 : tie.Need-cast-if5
 cast-if5 c = search needs
 
--- src/reserve.rt:61:36
 reserved-requires : tie.Need-reserved-requires
 reserved-requires c κs = search needs
 
--- src/reserve.rt:61:36
 next-start-requires : tie.Need-next-start-requires
 next-start-requires c κs = search needs
 
--- src/reserve.rt:62:13
 refused-requires-5 : tie.Need-refused-requires-5
 refused-requires-5 c κs = search needs
 
--- src/reserve.rt:62:13
 returns-5 : tie.Need-returns-5
 unfolding reserve accept
 returns-5 c =
@@ -126,7 +86,6 @@ returns-5 c =
     (sym
     (reserve-past d (c .before .before .before .before .before .before .before .before .before .before .before .before .args .size) (c .before .before .before .before .before .before .before .before .before .before .before .if1 .left) (c .before .before .before .before .before .before .before .before .before .before .if2 .left) (sym (c .before .before .before .before .before .before .before .before .before .has-blank-tail .ensures) ∙ not-false _ (c .before .before .before .before .before .before .before .before .if3 .left)) (λ e. c .before .before .before .before .before .before .if4 .left (c .before .before .before .before .before .before .before .used .ensures ∙ e)) (rw k at (c .before .if5 .taken))))
 
--- src/reserve.rt:64:27
 split-tail-requires : tie.Need-split-tail-requires
 split-tail-requires c κs =
     let d = c .before .before .before .before .before .before .before .before .before .before .before .args .t1 in
@@ -138,19 +97,15 @@ split-tail-requires c κs =
       start = rw k at (c .if5 .left);
     }
 
--- src/reserve.rt:64:55
 none-requires : tie.Need-none-requires
 none-requires c κs = search needs
 
--- src/reserve.rt:64:70
 none-requires-2 : tie.Need-none-requires-2
 none-requires-2 c κs = search needs
 
--- src/reserve.rt:64:9
 accepted-requires : tie.Need-accepted-requires
 accepted-requires c κs = search needs
 
--- src/reserve.rt:42:5
 returns-6 : tie.Need-returns-6
 unfolding reserve accept
 returns-6 c =

@@ -1,69 +1,47 @@
 use native.Mathlib.Omega.{arith}
 use Rattle.disc.proofs.Laws.Reserve.{split-start}
-use native.Mathlib.Omega.{arith}
 use Rattle.disc.specs.Reserve.{splitTail}
-use mathlib.Core.Path.{_≡_, refl, sym, _∙_, ap}
-use native.Mathlib.Omega.{arith}
 use borrow.Author.Needs.{needs}
 use Rattle.disc.proofs.state.Disc.split_tail.Statement.{statement}
 use Rattle.disc.proofs.state.Disc.split_tail.Tie as tie
-use Rattle.disc.proofs.state.Disc.split_tail.Reads as reads
-use Rattle.disc.proofs.state.Disc.split_tail.Lts as lts
-use Rattle.disc.proofs.fragment.Fragment.next_start.Reads as next-start-reads
-use Rattle.disc.proofs.fragment.Fragment.reserved.Reads as reserved-reads
-use Rattle.disc.proofs.fragment.Fragment.tail_from.Reads as tail-from-reads
-use Rattle.disc.proofs.state.Disc.used.Reads as used-reads
-use Rattle.disc.proofs.state.Disc.with_record.Reads as with-record-reads
 
--- src/reserve.rt:33:13
 used-requires : tie.Need-used-requires
 used-requires c κs = search needs
 
--- src/reserve.rt:34:35
 sub-tail : tie.Need-sub-tail
 sub-tail c = search needs
 
--- src/reserve.rt:34:20
 mul-tail : tie.Need-mul-tail
 mul-tail c = search needs
 
--- src/reserve.rt:34:20
 element-copy-out-tail : tie.Need-element-copy-out-tail
 element-copy-out-tail c = search needs
 
--- src/reserve.rt:35:13
 reserved-requires : tie.Need-reserved-requires
 reserved-requires c κs = search needs
 
--- src/reserve.rt:36:27
 next-start-requires : tie.Need-next-start-requires
 next-start-requires c κs = search needs
 
--- src/reserve.rt:36:27
 cast-tail-from : tie.Need-cast-tail-from
 cast-tail-from c =
     let k = split-start (c .before .before .before .before .args .t1) (c .before .before .before .used .result) (c .before .before .before .before .args .blocks) (c .before .reserved .result) (c .next-start .result) (c .before .before .before .used .ensures) (c .before .reserved .ensures) (c .next-start .ensures) in
     omega (arith, c .before .before .before .before .pre .start, c .before .before .before .before .good)
 
--- src/reserve.rt:37:13
 tail-from-requires : tie.Need-tail-from-requires
 tail-from-requires c κs =
     let k = split-start (c .before .before .before .before .args .t1) (c .before .before .before .used .result) (c .before .before .before .before .args .blocks) (c .before .reserved .result) (c .next-start .result) (c .before .before .before .used .ensures) (c .before .reserved .ensures) (c .next-start .ensures) in
     omega (arith, c .before .before .before .before .pre .start)
 
--- src/reserve.rt:38:9
 with-record-requires : tie.Need-with-record-requires
 with-record-requires c κs = search needs
 
--- src/reserve.rt:38:49
 add-with-record : tie.Need-add-with-record
 add-with-record c = search needs
 
--- src/reserve.rt:38:9
 with-record-requires-2 : tie.Need-with-record-requires-2
 with-record-requires-2 c κs = search needs
 
--- src/reserve.rt:29:5
 returns : tie.Need-returns
 unfolding splitTail
 returns c = rw (c .with-record2 .ensures, c .before .with-record .ensures, c .before .before .tail-from .ensures, c .before .before .before .next-start .ensures, c .before .before .before .before .reserved .ensures, c .before .before .before .before .before .before .used .ensures)

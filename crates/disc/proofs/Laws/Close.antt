@@ -1,0 +1,115 @@
+-- What CLOSE computes with and what it records.
+use Prim.Native.Nat.{ℕ, _+_, _-_, _≤_}
+use mathlib.Core.Path.{_≡_, _∙_, ap}
+use mathlib.Core.Bool.{true, false, not, _&&_}
+use native.Mathlib.Omega.{arith}
+use borrow.Author.Tests.{ltb-true, leb-true, eqb-false, not-true}
+use lib.Dec.{eqb, leb, ltb}
+use lib.ListN.{length, getD, set, length-set}
+use lib.Seq.{getD-set-other}
+use Rattle.disc.specs.Types.{Kind, Disc, Appended, Nothing, EmptyTrack}
+use Rattle.disc.specs.Fragment.{unusedRecord, end, complete, isReserved, isTail, isBlank, nextFragmentStart, tailFrom}
+use Rattle.disc.specs.Records.{limit, used, isListed, numbered, withRecord, sumRecorded}
+use Rattle.disc.specs.Rules.{at, Sound}
+use Rattle.disc.specs.Ready.{Ready}
+use Rattle.disc.specs.Verdict.{rise, accepted, refuse, noReply, plan}
+use Rattle.disc.specs.Flush.{flush, flushPlan, flushCount}
+use Rattle.disc.specs.Close.{filledRecord, shortenedRecord, appendTail, closeIncomplete, closeFragment}
+use Rattle.disc.proofs.Laws.Bool.{and-left, and-right, and-both, by-cases, cond-yes, cond-no}
+use Rattle.disc.proofs.Laws.Records.{listed-le, sum-set}
+use Rattle.disc.proofs.Laws.Verdict.{accept-count}
+use Rattle.disc.proofs.Laws.Flush.{rise-flush, flush-sum, flush-sound, flush-ready}
+
+-- a tail put behind a record adds no recorded block
+pub append-sum :
+    (d : Disc) (n : ℕ) → length (d .fragments) ≡ limit → getD (d .fragments) n unusedRecord .recorded ≡ 0
+    → sumRecorded (appendTail d n .fragments) ≡ sumRecorded (d .fragments)
+unfolding appendTail
+append-sum d n l z =
+    let f = numbered d n in
+    let start = nextFragmentStart (end f) in
+    let behind : n + 1 - 1 ≡ n = omega arith in
+    by-cases (ltb (start .0) (d .capacity) && ltb n limit)
+    (λ t.
+    let few = ltb-true n limit (and-right (ltb (start .0) (d .capacity)) (ltb n limit) t) in
+    let k = sum-set (d .fragments) n (tailFrom (d .capacity) (f .session) start) unusedRecord (omega arith) in
+    rw (t, behind) (omega arith))
+    (λ t. rw t)
+
+-- closing a reserved fragment records what it lacks, and the block of a flush
+flush-fill-count :
+    (d : Disc) (n : ℕ) → Ready d → 1 ≤ n → n ≤ used (flush d)
+    → rise d (withRecord (flush d) n (filledRecord (numbered (flush d) n)))
+    ≡ flushCount d + (numbered (flush d) n .length - numbered (flush d) n .recorded)
+flush-fill-count d n r from listed =
+    let e = flush d in
+    let s = flush-sound d r in
+    let f = numbered e n in
+    let w = s .recorded (n - 1) (omega arith) in
+    let k = sum-set (e .fragments) (n - 1) (filledRecord f) unusedRecord (omega (arith, listed-le (e .fragments))) in
+    omega (arith, flush-sum d r)
+
+-- closing a tail records the block of a flush alone
+flush-shorten-count :
+    (d : Disc) (n : ℕ) → Ready d → n ≡ used (flush d)
+    → rise d (appendTail (withRecord (flush d) n (shortenedRecord (numbered (flush d) n))) n) ≡ flushCount d
+flush-shorten-count d n r last =
+    let e = flush d in
+    let s = flush-sound d r in
+    let f = numbered e n in
+    let g = shortenedRecord f in
+    let some-record = s .some in
+    let free : getD (set (e .fragments) (n - 1) g) n unusedRecord .recorded ≡ 0 =
+    ap (λ r. r .recorded) (getD-set-other (e .fragments) (n - 1) n g unusedRecord (λ q. omega arith) ∙ s .unused n (omega arith)) in
+    let k = sum-set (e .fragments) (n - 1) g unusedRecord (omega (arith, listed-le (e .fragments))) in
+    let a = append-sum (withRecord e n g) n (length-set (e .fragments) (n - 1) g ∙ s .array) free in
+    omega (arith, flush-sum d r)
+
+pub flushed-ready : (d e : Disc) → Ready d → e ≡ flush d → Ready e
+flushed-ready d e r same = rw same (flush-ready d r)
+
+pub fill-count :
+    (d e : Disc) (n : ℕ) → Ready d → e ≡ flush d → 1 ≤ n → n ≤ used e
+    → rise d (withRecord e n (filledRecord (numbered e n))) ≡ flushCount d + (numbered e n .length - numbered e n .recorded)
+fill-count d e n r same from listed = rw same (flush-fill-count d n r from (rw same at listed))
+
+pub shorten-count :
+    (d e : Disc) (n : ℕ) → Ready d → e ≡ flush d → n ≡ used e
+    → rise d (appendTail (withRecord e n (shortenedRecord (numbered e n))) n) ≡ flushCount d
+shorten-count d e n r same last = rw same (flush-shorten-count d n r (rw same at last))
+
+-- a listed number is that of a record in use
+pub listed-number : (d : Disc) (n : ℕ) → isListed d n ≡ true → (1 ≤ n) × (n ≤ used d)
+listed-number d n e =
+    let k = eqb-false n 0 (not-true _ (and-left (not (eqb n 0)) (leb n (used d)) e)) in
+    (omega arith, leb-true _ _ (and-right (not (eqb n 0)) (leb n (used d)) e))
+
+-- the outcomes of 001
+module _ (d : Disc) (n : ℕ) (l : isListed d n ≡ true) where
+  pub close-blank : isBlank d n (numbered d n) ≡ true → closeFragment d n ≡ refuse d EmptyTrack
+  unfolding closeFragment
+  close-blank b = cond-no (not (isListed d n)) _ _ (ap not l) ∙ cond-yes (isBlank d n (numbered d n)) _ _ b
+
+  module _ (b : isBlank d n (numbered d n) ≡ false) where
+    pub close-complete :
+        Ready d → complete (numbered (flush d) n) ≡ true
+        → closeFragment d n ≡ accepted (flush d) (flushCount d) noReply (plan (flushPlan d) Nothing)
+    unfolding closeFragment
+    close-complete r c =
+        cond-no (not (isListed d n)) _ _ (ap not l)
+        ∙ (cond-no (isBlank d n (numbered d n)) _ _ b
+        ∙ (cond-yes (complete (numbered (flush d) n)) _ _ c ∙ accept-count d (flush d) noReply (plan (flushPlan d) Nothing) (flushCount d) (rise-flush d r)))
+
+    pub close-incomplete :
+        (k : Kind) → complete (numbered (flush d) n) ≡ false → numbered (flush d) n .kind ≡ k → closeFragment d n ≡ closeIncomplete d (flush d) n k
+    unfolding closeFragment
+    close-incomplete k c e =
+        cond-no (not (isListed d n)) _ _ (ap not l)
+        ∙ (cond-no (isBlank d n (numbered d n)) _ _ b
+        ∙ (cond-no (complete (numbered (flush d) n)) _ _ c ∙ ap (λ k. closeIncomplete d (flush d) n k) e))
+
+-- an incomplete appended fragment is the last one
+pub appended-last : (d : Disc) (n : ℕ) → Sound d → 1 ≤ n → n ≤ used d → complete (numbered d n) ≡ false → numbered d n .kind ≡ Appended → n ≡ used d
+appended-last d n s from to c k =
+    let t : isTail (numbered d n) ≡ true = and-both {a = not (isReserved (numbered d n .kind))} (rw k) (ap not c) in
+    omega (arith, s .tail (n - 1) (omega arith) t .0)

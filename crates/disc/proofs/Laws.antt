@@ -7,3 +7,4 @@ pub mod Check
 pub mod Rules
 pub mod Sound
 pub mod Blank
+pub mod Lengths

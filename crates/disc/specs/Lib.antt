@@ -10,6 +10,7 @@ pub mod Check
 pub mod Rules
 pub mod Examples
 pub mod Blank
+pub mod Ready
 pub mod Lengths
 pub mod Verdict
 pub mod Flush

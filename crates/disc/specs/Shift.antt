@@ -13,7 +13,7 @@ use Rattle.disc.specs.Records.{records, used, lastRecord, hasTail, liste
 use Rattle.disc.specs.Sound.{usedFirst, firstAtZero, followsFrom, inOrder, endsWithin, recordedWithin, zeroedWithin, incompleteLast, tailLast, tailOrFull, pendingNamed, finalizedComplete, sound, allowedState}
 use Rattle.disc.specs.Blank.{blank}
 use Rattle.disc.specs.Lengths.{dataLength, replyRoom, lengthsFit}
-use Rattle.disc.specs.Verdict.{accept, refuse, refuseLink}
+use Rattle.disc.specs.Verdict.{accepted, accept, refuse, refuseLink}
 use Rattle.disc.specs.Flush.{flush, flushPlan, synchronizeCache}
 use Rattle.disc.specs.Read.{allReadable, read}
 use Rattle.disc.specs.Write.{flushOthers, flushOthersPlan, gather, writeTo, writeFound, write}
@@ -118,7 +118,7 @@ table =
 
 pub shift : run (blank 300) (map (λ l. l .command) table) ≡ map (λ l. l .expected) table
 unfolding
-    shown run blank judge judgeCommand perform decode dataLength replyRoom lengthsFit accept refuse refuseLink
+    shown run blank judge judgeCommand perform decode dataLength replyRoom lengthsFit accepted accept refuse refuseLink
     isRefusalSense allowedSense listed some every find sumRecorded lastReadable firstOfSession
     usedFirst firstAtZero followsFrom inOrder endsWithin recordedWithin zeroedWithin incompleteLast tailLast tailOrFull pendingNamed
     finalizedComplete sound allowedState

@@ -11,6 +11,10 @@ abbrev pub report : List ℕ → ℕ → Reply
 report bytes allocation =
     record { bytes = bytes ++ replicate (36 - length bytes) 0; length = min (length bytes) allocation }
 
+-- the reply of `whole` bytes of 36, cut the same way
+abbrev pub cutReply : List ℕ → ℕ → ℕ → Reply
+cutReply bytes whole allocation = record { bytes = bytes; length = min whole allocation }
+
 -- a reply of no bytes
 abbrev pub noReply : Reply
 noReply = report [] 0
@@ -25,10 +29,14 @@ noPlan = plan Skip Nothing
 abbrev pub rise : Disc → Disc → ℕ
 rise before after = sumRecorded (after .fragments) - sumRecorded (before .fragments)
 
--- accepted: the sense is cleared; `before` and `after` are the disc before and after the command
+-- accepted, with so many blocks recorded: the sense is cleared
+unfoldable pub accepted : Disc → ℕ → Reply → Plan → Verdict
+accepted after recorded r p =
+    record { answer = Accepted; disc = withSense after noSense; reply = r; recorded = recorded; plan = p }
+
+-- accepted; `before` and `after` are the disc before and after the command
 unfoldable pub accept : Disc → Disc → Reply → Plan → Verdict
-accept before after r p =
-    record { answer = Accepted; disc = withSense after noSense; reply = r; recorded = rise before after; plan = p }
+accept before after r p = accepted after (rise before after) r p
 
 -- refused by the drive: only the sense changes
 unfoldable pub refuse : Disc → DriveRefusal → Verdict

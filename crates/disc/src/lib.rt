@@ -8,6 +8,7 @@ mod check;
 mod command;
 mod find;
 mod fragment;
+mod lengths;
 mod state;
 mod verdict;
 

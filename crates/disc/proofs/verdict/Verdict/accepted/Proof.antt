@@ -1,0 +1,17 @@
+use Rattle.disc.specs.Verdict.{accepted}
+use borrow.Author.Needs.{needs}
+use Rattle.disc.proofs.verdict.Verdict.accepted.Statement.{statement}
+use Rattle.disc.proofs.verdict.Verdict.accepted.Tie as tie
+
+new-requires : tie.Need-new-requires
+new-requires c κs = search needs
+
+with-sense-requires : tie.Need-with-sense-requires
+with-sense-requires c κs = search needs
+
+returns : tie.Need-returns
+unfolding accepted
+returns c = rw (c .with-sense .ensures, c .before .new .ensures)
+
+pub accepted-spec : {M : Type 1} → statement M
+accepted-spec = tie.close (tie.spec new-requires with-sense-requires returns)

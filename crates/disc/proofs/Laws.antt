@@ -8,3 +8,5 @@ pub mod Rules
 pub mod Sound
 pub mod Blank
 pub mod Lengths
+pub mod Verdict
+pub mod Reports

@@ -10,7 +10,7 @@ pub struct Block(pub u32);
 pub struct Lba(pub u64);
 
 // Sectors in an ECC block.
-const SECTORS_PER_BLOCK: u64 = 16;
+pub(crate) const SECTORS_PER_BLOCK: u64 = 16;
 
 // How many sectors that many blocks have.
 pub(crate) fn sectors_in(blocks: u32) -> u64

@@ -9,6 +9,7 @@ mod command;
 mod find;
 mod fragment;
 mod lengths;
+mod reports;
 mod state;
 mod verdict;
 

@@ -7,7 +7,7 @@ use crate::answer::Sense;
 use crate::lengths;
 use crate::state::Disc;
 ghost use mathlib.Core.Path.{_≡_};
-ghost use Rattle.disc.specs.Verdict.{cutReply, noReply, noPlan, accepted, refuse};
+ghost use Rattle.disc.specs.Verdict.{cutReply, noReply, noPlan, accepted, accept, refuse};
 
 // A report's bytes by value: the whole report, zeros after it, and how many bytes of it are sent.
 pub struct Reply {
@@ -102,6 +102,13 @@ impl Verdict {
             recorded,
             plan,
         }
+    }
+
+    // Accepted, and nothing but the sense changes.
+    pub(crate) fn unchanged(disc: Disc, reply: Reply) -> Verdict
+        ensures { λ r. ⌜ r ≡ accept disc disc reply noPlan ⌝ }
+    {
+        Verdict::accepted(disc, 0, reply, Plan::none())
     }
 
     // Refused by the drive: only the sense changes.

@@ -1,5 +1,5 @@
 -- The list of records: its length, the records in use, tests of every record, and one step along it.
-use Prim.Native.Nat.{ℕ, zero, suc, _+_, _≤_, _<_}
+use Prim.Native.Nat.{ℕ, zero, suc, _+_, _≤_, _<_, max}
 use mathlib.Core.Path.{_≡_, refl, sym, _∙_, ap}
 use mathlib.Core.Bool.{Bool, true, false, _&&_}
 use mathlib.Core.List.{List, [], _∷_, map}
@@ -10,8 +10,8 @@ use lib.Dec.{eqb}
 use lib.ListN.{length, getD, drop, drop-of-length-le, length-map}
 use lib.Seq.{drop-cons}
 use Rattle.disc.specs.Types.{Fragment, Number, Nowhere}
-use Rattle.disc.specs.Fragment.{unusedRecord}
-use Rattle.disc.specs.Records.{listed, every, find}
+use Rattle.disc.specs.Fragment.{unusedRecord, lastRecorded}
+use Rattle.disc.specs.Records.{listed, every, find, lastReadable, firstOfSession}
 use Rattle.disc.proofs.Laws.Bool.{and-left, and-right, and-both, by-cases}
 
 -- the length of an array of structs, as what owning it tells has it
@@ -131,6 +131,31 @@ module _ (fs : List Fragment) (i : ℕ) (d : Fragment) (h : i < length fs) where
   unfolding find
   find-on p e t = rw (listed-drop-on e) (rw t)
 
+  pub session-off : (s n : ℕ) → getD fs i d .length ≡ 0 → firstOfSession s n (listed (drop i fs)) ≡ n
+  unfolding firstOfSession
+  session-off s n e = rw (listed-drop-off e)
+
+  pub session-here :
+      (s n : ℕ) → (getD fs i d .length ≡ 0 → ⊥) → getD fs i d .session ≡ s → firstOfSession s n (listed (drop i fs)) ≡ n
+  unfolding firstOfSession
+  session-here s n e t = rw (listed-drop-on e) (rw (eq-eqb _ _ t))
+
+  pub session-on :
+      (s n : ℕ) → (getD fs i d .length ≡ 0 → ⊥) → (getD fs i d .session ≡ s → ⊥)
+      → firstOfSession s n (listed (drop i fs)) ≡ firstOfSession s (n + 1) (listed (drop (i + 1) fs))
+  unfolding firstOfSession
+  session-on s n e t = rw (listed-drop-on e) (rw (ne-eqb _ _ t))
+
+  pub readable-off : getD fs i d .length ≡ 0 → lastReadable (listed (drop i fs)) ≡ 0
+  unfolding lastReadable
+  readable-off e = rw (listed-drop-off e)
+
+  pub readable-on :
+      (getD fs i d .length ≡ 0 → ⊥)
+      → lastReadable (listed (drop i fs)) ≡ max (lastRecorded (getD fs i d)) (lastReadable (listed (drop (i + 1) fs)))
+  unfolding lastReadable
+  readable-on e = rw (listed-drop-on e)
+
 pub listed-drop-end : (fs : List Fragment) (i : ℕ) → length fs ≤ i → listed (drop i fs) ≡ []
 unfolding listed
 listed-drop-end fs i h = rw (drop-of-length-le fs h)
@@ -138,3 +163,23 @@ listed-drop-end fs i h = rw (drop-of-length-le fs h)
 pub find-end : (p : ℕ → Fragment → Bool) (fs : List Fragment) (i n : ℕ) → length fs ≤ i → find p n (listed (drop i fs)) ≡ Nowhere
 unfolding find
 find-end p fs i n h = rw (listed-drop-end fs i h)
+
+pub session-end : (fs : List Fragment) (i s n : ℕ) → length fs ≤ i → firstOfSession s n (listed (drop i fs)) ≡ n
+unfolding firstOfSession
+session-end fs i s n h = rw (listed-drop-end fs i h)
+
+pub readable-end : (fs : List Fragment) (i : ℕ) → length fs ≤ i → lastReadable (listed (drop i fs)) ≡ 0
+unfolding lastReadable
+readable-end fs i h = rw (listed-drop-end fs i h)
+
+-- a record that is found has a number of the list
+pub find-number :
+    (p : ℕ → Fragment → Bool) (n : ℕ) (fs : List Fragment) (m : ℕ) → find p n fs ≡ Number m → (n ≤ m) × (m < n + length fs)
+unfolding find
+find-number p n [] m e = absurd (let z : _≡_ {A = ℕ} 0 1 = cc in omega arith)
+find-number p n (f ∷ fs) m e =
+    by-cases (p n f)
+    (λ t. let k : Number n ≡ Number m = rw t at e in let z : n ≡ m = cc in (omega arith, omega arith))
+    (λ t.
+    let k : find p (n + 1) fs ≡ Number m = rw t at e in
+    let b = find-number p (n + 1) fs m k in (omega arith, omega arith))

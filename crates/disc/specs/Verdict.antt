@@ -6,14 +6,13 @@ use Rattle.disc.specs.Types.{Disc, DriveRefusal, LinkRefusal, Accepted, 
 use Rattle.disc.specs.Answer.{noSense, refusalSense}
 use Rattle.disc.specs.Records.{sumRecorded, withSense}
 
--- a report, of which at most `allocation` bytes are sent: the one place where replies are cut
-abbrev pub report : List ℕ → ℕ → Reply
-report bytes allocation =
-    record { bytes = bytes ++ replicate (36 - length bytes) 0; length = min (length bytes) allocation }
-
--- the reply of `whole` bytes of 36, cut the same way
+-- a reply whose first `whole` bytes are a report, of which at most `allocation` are sent: the one place where replies are cut
 abbrev pub cutReply : List ℕ → ℕ → ℕ → Reply
 cutReply bytes whole allocation = record { bytes = bytes; length = min whole allocation }
+
+-- a report, with zeros behind it up to 36 bytes
+abbrev pub report : List ℕ → ℕ → Reply
+report bytes allocation = cutReply (bytes ++ replicate (36 - length bytes) 0) (length bytes) allocation
 
 -- a reply of no bytes
 abbrev pub noReply : Reply

@@ -8,8 +8,10 @@ pub mod Rules
 pub mod Sound
 pub mod Grow
 pub mod Blank
+pub mod Lengths
 pub mod Verdict
 pub mod Flush
 pub mod Write
 pub mod Reserve
 pub mod Close
+pub mod Reports

@@ -1,4 +1,4 @@
--- What the methods on a disc ask of it; whoever calls them has tested it.
+-- A disc that a command may work on: what L2 and L3 have tested.
 use mathlib.Core.Path.{_≡_}
 use mathlib.Core.Bool.{true}
 use Rattle.disc.specs.Types.{Disc}

@@ -6,10 +6,13 @@ use Rattle.disc.specs.Types.{Disc, DriveRefusal, LinkRefusal, Accepted, 
 use Rattle.disc.specs.Answer.{noSense, refusalSense}
 use Rattle.disc.specs.Records.{sumRecorded, withSense}
 
--- a report, of which at most `allocation` bytes are sent: the one place where replies are cut
+-- a reply whose first `whole` bytes are a report, of which at most `allocation` are sent: the one place where replies are cut
+abbrev pub cutReply : List ℕ → ℕ → ℕ → Reply
+cutReply bytes whole allocation = record { bytes = bytes; length = min whole allocation }
+
+-- a report, with zeros behind it up to 36 bytes
 abbrev pub report : List ℕ → ℕ → Reply
-report bytes allocation =
-    record { bytes = bytes ++ replicate (36 - length bytes) 0; length = min (length bytes) allocation }
+report bytes allocation = cutReply (bytes ++ replicate (36 - length bytes) 0) (length bytes) allocation
 
 -- a reply of no bytes
 abbrev pub noReply : Reply
@@ -25,12 +28,12 @@ noPlan = plan Skip Nothing
 abbrev pub rise : Disc → Disc → ℕ
 rise before after = sumRecorded (after .fragments) - sumRecorded (before .fragments)
 
--- accepted: the sense is cleared
+-- accepted, with so many blocks recorded: the sense is cleared
 unfoldable pub accepted : Disc → ℕ → Reply → Plan → Verdict
 accepted after recorded r p =
     record { answer = Accepted; disc = withSense after noSense; reply = r; recorded = recorded; plan = p }
 
--- the same, from the discs before and after the command
+-- accepted; `before` and `after` are the disc before and after the command
 unfoldable pub accept : Disc → Disc → Reply → Plan → Verdict
 accept before after r p = accepted after (rise before after) r p
 

@@ -9,7 +9,7 @@ ghost use Prim.Native.Nat.{_+_, _≤_};
 ghost use lib.Dec.{eqb};
 ghost use Rattle.disc.specs.Address.{lba, firstSector};
 ghost use Rattle.disc.specs.Fragment.{firstUnrecorded, complete, pendingIn, isBlank, nextWritable};
-ghost use Rattle.disc.specs.Records.{limit, used, isListed, numbered, lastRecord, tailNumber, lastOf, atAddress, writableAt};
+ghost use Rattle.disc.specs.Records.{limit, used, isListed, numbered, lastRecord, tailNumber, lastOf, atAddress, writableAt, records, firstOfSession, blankTailOnly};
 
 // The last record in use and its number.
 pub(crate) struct Last {
@@ -155,5 +155,32 @@ impl Disc {
             i += 1;
         }
         Found::Nowhere
+    }
+    // The number of a session's first record; one more than the last record's where it has none.
+    pub(crate) fn first_of_session(self, session: u8) -> usize
+        ensures { λ r. ⌜ r ≡ firstOfSession session 1 (records self) ⌝ }
+    {
+        let mut i: usize = 0;
+        while i < Disc::LIMIT {
+            let f = self.fragments[i];
+            if f.length == 0 {
+                return i + 1;
+            }
+            if f.session == session {
+                return i + 1;
+            }
+            i += 1;
+        }
+        i + 1
+    }
+
+    // The last session has one record, and that is a blank tail.
+    pub(crate) fn blank_tail_only(self) -> bool
+        ensures { λ r. ⌜ r ≡ blankTailOnly self ⌝ }
+    {
+        let last = self.last();
+        last.fragment.is_tail()
+            & self.is_blank(last.number, last.fragment)
+            & (self.first_of_session(last.fragment.session) == last.number)
     }
 }

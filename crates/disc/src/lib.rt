@@ -11,6 +11,8 @@ mod command;
 mod find;
 mod flush;
 mod fragment;
+mod lengths;
+mod reports;
 mod reserve;
 mod state;
 mod verdict;

@@ -1,6 +1,8 @@
 // The disc state. It goes into every command and comes back from it by value.
 use crate::answer::Sense;
 use crate::fragment::Fragment;
+ghost use mathlib.Core.Path.{_≡_};
+ghost use Rattle.disc.specs.Records.{withSense};
 
 pub struct Disc {
     // Capacity in blocks (document 01's C).
@@ -23,6 +25,15 @@ impl Disc {
     pub const SMALLEST: u32 = 256;
 
     pub const LARGEST: u32 = 143_444;
+
+    // The disc with another sense.
+    pub(crate) fn with_sense(self, sense: Sense) -> Disc
+        ensures { λ r. ⌜ r ≡ withSense self sense ⌝ }
+    {
+        let mut disc = self;
+        disc.sense = sense;
+        disc
+    }
 }
 
 // What a search along the list finds: a fragment's number, from 1, or that there is none.

@@ -4,10 +4,10 @@ use crate::address::Lba;
 use crate::answer::Answer;
 use crate::answer::DriveRefusal;
 use crate::answer::Sense;
+use crate::lengths;
 use crate::state::Disc;
 ghost use mathlib.Core.Path.{_≡_};
-ghost use Rattle.disc.specs.Records.{withSense};
-ghost use Rattle.disc.specs.Verdict.{noReply, plan, noPlan, accepted, refuse};
+ghost use Rattle.disc.specs.Verdict.{cutReply, noReply, plan, noPlan, accepted, accept, refuse};
 
 // A report's bytes by value: the whole report, zeros after it, and how many bytes of it are sent.
 pub struct Reply {
@@ -19,14 +19,20 @@ impl Reply {
     // The longest report's bytes.
     pub const LIMIT: usize = 36;
 
-    // A reply of no bytes.
+    // The report of the first `length` bytes, of which at most the allocation length is sent.
+    pub(crate) fn report(bytes: [u8; Reply::LIMIT], length: usize, allocation: usize) -> Reply
+        ensures { λ r. ⌜ r ≡ cutReply bytes length allocation ⌝ }
+    {
+        let length = lengths::cut(length, allocation);
+        Reply { bytes, length }
+    }
+
+    // No bytes.
     pub(crate) fn none() -> Reply
         ensures { λ r. ⌜ r ≡ noReply ⌝ }
     {
-        Reply {
-            bytes: [0; Reply::LIMIT],
-            length: 0,
-        }
+        let bytes = [0u8; Reply::LIMIT];
+        Reply { bytes, length: 0 }
     }
 }
 
@@ -62,15 +68,6 @@ pub struct Plan {
     pub transfer: Transfer,
 }
 
-// The decision: the answer, the disc after it, a report's bytes, the number of blocks recorded and what to do to the bytes.
-pub struct Verdict {
-    pub answer: Answer,
-    pub disc: Disc,
-    pub reply: Reply,
-    pub recorded: u32,
-    pub plan: Plan,
-}
-
 impl Plan {
     pub(crate) fn new(flush: Flush, transfer: Transfer) -> Plan
         ensures { λ r. ⌜ r ≡ plan flush transfer ⌝ }
@@ -78,7 +75,7 @@ impl Plan {
         Plan { flush, transfer }
     }
 
-    // Nothing to do to the bytes.
+    // Nothing is done to the bytes.
     pub(crate) fn none() -> Plan
         ensures { λ r. ⌜ r ≡ noPlan ⌝ }
     {
@@ -89,18 +86,17 @@ impl Plan {
     }
 }
 
-impl Disc {
-    // The same disc with another sense.
-    pub(crate) fn with_sense(mut self, sense: Sense) -> Disc
-        ensures { λ r. ⌜ r ≡ withSense self sense ⌝ }
-    {
-        self.sense = sense;
-        self
-    }
+// The decision: the answer, the disc after it, a report's bytes, the number of blocks recorded and what to do to the bytes.
+pub struct Verdict {
+    pub answer: Answer,
+    pub disc: Disc,
+    pub reply: Reply,
+    pub recorded: u32,
+    pub plan: Plan,
 }
 
 impl Verdict {
-    // Accepted: the disc after the command, its sense cleared.
+    // Accepted: the sense is cleared, and so many blocks are recorded.
     pub(crate) fn accepted(after: Disc, recorded: u32, reply: Reply, plan: Plan) -> Verdict
         ensures { λ r. ⌜ r ≡ accepted after recorded reply plan ⌝ }
     {
@@ -114,19 +110,24 @@ impl Verdict {
         }
     }
 
-    // Refused by the drive: the disc as it was, with the refusal's sense.
+    // Accepted, and nothing but the sense changes.
+    pub(crate) fn unchanged(disc: Disc, reply: Reply) -> Verdict
+        ensures { λ r. ⌜ r ≡ accept disc disc reply noPlan ⌝ }
+    {
+        Verdict::accepted(disc, 0, reply, Plan::none())
+    }
+
+    // Refused by the drive: only the sense changes.
     pub(crate) fn refused(disc: Disc, refusal: DriveRefusal) -> Verdict
         ensures { λ r. ⌜ r ≡ refuse disc refusal ⌝ }
     {
         let disc = disc.with_sense(refusal.sense());
-        let reply = Reply::none();
-        let plan = Plan::none();
         Verdict {
             answer: Answer::Drive(refusal),
             disc,
-            reply,
+            reply: Reply::none(),
             recorded: 0,
-            plan,
+            plan: Plan::none(),
         }
     }
 }

@@ -3,8 +3,8 @@ use Prim.Native.Nat.{ℕ, _+_, _-_, _≤_}
 use mathlib.Core.Path.{_≡_, _∙_, ap}
 use mathlib.Core.Bool.{true, false, not, _&&_}
 use native.Mathlib.Omega.{arith}
-use borrow.Author.Tests.{ltb-true, leb-true, eqb-false, not-true}
-use lib.Dec.{eqb, leb, ltb}
+use borrow.Author.Tests.{ltb-true}
+use lib.Dec.{ltb}
 use lib.ListN.{length, getD, set, length-set}
 use lib.Seq.{getD-set-other}
 use Rattle.disc.specs.Types.{Kind, Disc, Appended, Nothing, EmptyTrack}
@@ -15,7 +15,7 @@ use Rattle.disc.specs.Ready.{Ready}
 use Rattle.disc.specs.Verdict.{rise, accepted, refuse, noReply, plan}
 use Rattle.disc.specs.Flush.{flush, flushPlan, flushCount}
 use Rattle.disc.specs.Close.{filledRecord, shortenedRecord, appendTail, closeIncomplete, closeFragment}
-use Rattle.disc.proofs.Laws.Bool.{and-left, and-right, and-both, by-cases, cond-yes, cond-no}
+use Rattle.disc.proofs.Laws.Bool.{and-right, and-both, by-cases, cond-yes, cond-no}
 use Rattle.disc.proofs.Laws.Records.{listed-le, sum-set}
 use Rattle.disc.proofs.Laws.Verdict.{accept-count}
 use Rattle.disc.proofs.Laws.Flush.{rise-flush, flush-sum, flush-sound, flush-ready}
@@ -77,12 +77,6 @@ pub shorten-count :
     (d e : Disc) (n : ℕ) → Ready d → e ≡ flush d → n ≡ used e
     → rise d (appendTail (withRecord e n (shortenedRecord (numbered e n))) n) ≡ flushCount d
 shorten-count d e n r same last = rw same (flush-shorten-count d n r (rw same at last))
-
--- a listed number is that of a record in use
-pub listed-number : (d : Disc) (n : ℕ) → isListed d n ≡ true → (1 ≤ n) × (n ≤ used d)
-listed-number d n e =
-    let k = eqb-false n 0 (not-true _ (and-left (not (eqb n 0)) (leb n (used d)) e)) in
-    (omega arith, leb-true _ _ (and-right (not (eqb n 0)) (leb n (used d)) e))
 
 -- the outcomes of 001
 module _ (d : Disc) (n : ℕ) (l : isListed d n ≡ true) where

@@ -1,17 +1,17 @@
 -- The list of records: its length, the records in use, tests of every record, and one step along it.
-use Prim.Native.Nat.{ℕ, zero, suc, _+_, _≤_, _<_}
+use Prim.Native.Nat.{ℕ, zero, suc, _+_, _≤_, _<_, max}
 use mathlib.Core.Path.{_≡_, refl, sym, _∙_, ap}
-use mathlib.Core.Bool.{Bool, true, false, _&&_}
+use mathlib.Core.Bool.{Bool, true, false, not, _&&_}
 use mathlib.Core.List.{List, [], _∷_, map}
 use native.Mathlib.Numerals.{add-one}
 use native.Mathlib.Omega.{arith}
-use borrow.Author.Tests.{eq-eqb, ne-eqb, eqb-true, eqb-false}
-use lib.Dec.{eqb}
+use borrow.Author.Tests.{eq-eqb, ne-eqb, eqb-true, eqb-false, leb-true, not-true}
+use lib.Dec.{eqb, leb}
 use lib.ListN.{length, getD, set, drop, drop-of-length-le, length-map}
 use lib.Seq.{drop-cons}
-use Rattle.disc.specs.Types.{Fragment, Number, Nowhere}
-use Rattle.disc.specs.Fragment.{unusedRecord}
-use Rattle.disc.specs.Records.{listed, every, find, sumRecorded}
+use Rattle.disc.specs.Types.{Fragment, Disc, Number, Nowhere}
+use Rattle.disc.specs.Fragment.{unusedRecord, lastRecorded}
+use Rattle.disc.specs.Records.{listed, used, isListed, every, find, sumRecorded, lastReadable, firstOfSession}
 use Rattle.disc.proofs.Laws.Bool.{and-left, and-right, and-both, by-cases}
 
 -- the length of an array of structs, as what owning it tells has it
@@ -131,6 +131,31 @@ module _ (fs : List Fragment) (i : ℕ) (d : Fragment) (h : i < length fs) where
   unfolding find
   find-on p e t = rw (listed-drop-on e) (rw t)
 
+  pub session-off : (s n : ℕ) → getD fs i d .length ≡ 0 → firstOfSession s n (listed (drop i fs)) ≡ n
+  unfolding firstOfSession
+  session-off s n e = rw (listed-drop-off e)
+
+  pub session-here :
+      (s n : ℕ) → (getD fs i d .length ≡ 0 → ⊥) → getD fs i d .session ≡ s → firstOfSession s n (listed (drop i fs)) ≡ n
+  unfolding firstOfSession
+  session-here s n e t = rw (listed-drop-on e) (rw (eq-eqb _ _ t))
+
+  pub session-on :
+      (s n : ℕ) → (getD fs i d .length ≡ 0 → ⊥) → (getD fs i d .session ≡ s → ⊥)
+      → firstOfSession s n (listed (drop i fs)) ≡ firstOfSession s (n + 1) (listed (drop (i + 1) fs))
+  unfolding firstOfSession
+  session-on s n e t = rw (listed-drop-on e) (rw (ne-eqb _ _ t))
+
+  pub readable-off : getD fs i d .length ≡ 0 → lastReadable (listed (drop i fs)) ≡ 0
+  unfolding lastReadable
+  readable-off e = rw (listed-drop-off e)
+
+  pub readable-on :
+      (getD fs i d .length ≡ 0 → ⊥)
+      → lastReadable (listed (drop i fs)) ≡ max (lastRecorded (getD fs i d)) (lastReadable (listed (drop (i + 1) fs)))
+  unfolding lastReadable
+  readable-on e = rw (listed-drop-on e)
+
 pub listed-drop-end : (fs : List Fragment) (i : ℕ) → length fs ≤ i → listed (drop i fs) ≡ []
 unfolding listed
 listed-drop-end fs i h = rw (drop-of-length-le fs h)
@@ -167,3 +192,22 @@ find-hit p k n (f ∷ fs) e =
     (λ t.
     let h = find-hit p (k + 1) n fs (rw t at e) in
     record { index = suc (h .index); number = omega (arith, h .number); within = omega (arith, h .within); passes = h .passes })
+
+pub session-end : (fs : List Fragment) (i s n : ℕ) → length fs ≤ i → firstOfSession s n (listed (drop i fs)) ≡ n
+unfolding firstOfSession
+session-end fs i s n h = rw (listed-drop-end fs i h)
+
+pub readable-end : (fs : List Fragment) (i : ℕ) → length fs ≤ i → lastReadable (listed (drop i fs)) ≡ 0
+unfolding lastReadable
+readable-end fs i h = rw (listed-drop-end fs i h)
+
+-- a record that is found has a number of the list
+pub find-number :
+    (p : ℕ → Fragment → Bool) (n : ℕ) (fs : List Fragment) (m : ℕ) → find p n fs ≡ Number m → (n ≤ m) × (m < n + length fs)
+find-number p n fs m e = let h = find-hit p n m fs e in (omega (arith, h .number), omega (arith, h .number, h .within))
+
+-- a listed number is that of a record in use
+pub listed-number : (d : Disc) (n : ℕ) → isListed d n ≡ true → (1 ≤ n) × (n ≤ used d)
+listed-number d n e =
+    let k = eqb-false n 0 (not-true (eqb n 0) (and-left (not (eqb n 0)) (leb n (used d)) e)) in
+    (omega arith, leb-true n (used d) (and-right (not (eqb n 0)) (leb n (used d)) e))

@@ -1,9 +1,10 @@
+use Rattle.disc.proofs.Laws.Records.{listed-number}
 use mathlib.Core.Path.{sym, _∙_}
 use native.Mathlib.Omega.{arith}
 use borrow.Author.Tests.{not-false}
 use Rattle.disc.specs.Close.{closeFragment}
 use Rattle.disc.proofs.Laws.Flush.{used-limit, flush-used, flush-sound}
-use Rattle.disc.proofs.Laws.Close.{listed-number, close-blank, close-complete, close-incomplete, appended-last}
+use Rattle.disc.proofs.Laws.Close.{close-blank, close-complete, close-incomplete, appended-last}
 use Rattle.disc.specs.Flush.{flush}
 use Rattle.disc.specs.Types.{Reserved, Appended}
 use borrow.Author.Needs.{needs}

@@ -1,0 +1,43 @@
+use Rattle.disc.proofs.Laws.Reports.{address-number}
+use mathlib.Core.Path.{sym, _∙_}
+use Rattle.disc.specs.Reports.{trackFound}
+use borrow.Author.Needs.{needs}
+use Rattle.disc.proofs.state.Disc.track_at.Statement.{statement}
+use Rattle.disc.proofs.state.Disc.track_at.Tie as tie
+
+at-address-requires : tie.Need-at-address-requires
+at-address-requires c κs = search needs
+
+enum-known-found : tie.Need-enum-known-found
+enum-known-found c = search needs
+
+track-report-requires : tie.Need-track-report-requires
+track-report-requires c κs =
+    let b = address-number (c .before .before .before .before .args .self) (c .before .before .before .before .args .address) _ (sym (c .before .before .before .at-address .ensures) ∙ c .before .found .given .1) in
+    (c .before .before .before .before .pre, b .0, b .1)
+
+enum-told : tie.Need-enum-told
+enum-told c = search needs
+
+refused-requires : tie.Need-refused-requires
+refused-requires c κs = search needs
+
+returns : tie.Need-returns
+unfolding trackFound
+returns c = simp (c .track-report .ensures, c .before .before .found .given .1, ← c .before .before .before .before .at-address .ensures)
+
+returns-2 : tie.Need-returns-2
+unfolding trackFound
+returns-2 c = simp (c .refused .ensures, c .before .enum-told .given .1, ← c .before .before .before .at-address .ensures)
+
+pub track-at-spec : {M : Type 1} → statement M
+track-at-spec =
+    tie.close
+    (tie.spec
+    at-address-requires
+    enum-known-found
+    track-report-requires
+    enum-told
+    refused-requires
+    returns
+    returns-2)

@@ -14,4 +14,5 @@ pub mod Flush
 pub mod Write
 pub mod Reserve
 pub mod Close
+pub mod Session
 pub mod Reports

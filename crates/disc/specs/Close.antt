@@ -74,7 +74,6 @@ openSession d =
 
 -- what the code that opens asks: a record is free, and the new tail starts within the capacity
 pub record Opening (d : Disc) : Type 0 where
-  pub from : 1 ≤ used d
   pub free : used d < limit
   pub start : nextSessionStart (end (lastRecord d)) .0 ≤ d .capacity
   pub session : lastRecord d .session < 255

@@ -96,3 +96,122 @@ impl Disc {
         }
     }
 }
+
+impl Disc {
+    // Some reserved fragment is incomplete.
+    pub(crate) fn has_incomplete_reserved(self) -> bool
+        ensures { λ r. ⌜ r ≡ hasIncompleteReserved self ⌝ }
+    {
+        let mut i: usize = 0;
+        while i < Disc::LIMIT {
+            let f = self.fragments[i];
+            if f.length == 0 {
+                return false;
+            }
+            if f.is_incomplete_reserved() {
+                return true;
+            }
+            i += 1;
+        }
+        false
+    }
+
+    // The disc without its blank tail, or with a written tail that ends with its recorded blocks.
+    pub(crate) fn close_tail(self) -> Disc
+        requires { ⌜ Ready self ⌝ }
+        ensures { λ r. ⌜ r ≡ closeTail self ⌝ }
+    {
+        let last = self.last();
+        if self.has_blank_tail() {
+            return self.with_record(last.number, Fragment::unused());
+        }
+        let f = last.fragment;
+        if f.is_tail() {
+            return self.with_record(last.number, f.shortened());
+        }
+        self
+    }
+
+    // The disc with a tail of the next session behind its last record.
+    pub(crate) fn open_session(self) -> Disc
+        requires { ⌜ Opening self ⌝ }
+        ensures { λ r. ⌜ r ≡ openSession self ⌝ }
+    {
+        let last = self.last();
+        let f = last.fragment;
+        let start = Block(f.next_session_start() as u32);
+        let tail = Fragment::tail_from(self.capacity, f.session + 1, start);
+        self.with_record(last.number + 1, tail)
+    }
+
+    // 010.
+    pub(crate) fn close_session(self) -> Verdict
+        requires { ⌜ Ready self ⌝ }
+        ensures { λ r. ⌜ r ≡ closeSession self ⌝ }
+    {
+        if self.finalized | self.blank_tail_only() {
+            return Verdict::unchanged(self, Reply::none());
+        }
+        let flushed = self.flush();
+        if flushed.has_incomplete_reserved() {
+            return Verdict::refused(self, DriveRefusal::IncompleteTrackInSession);
+        }
+        let kept = flushed.close_tail();
+        let last = kept.last();
+        if last.number == Disc::LIMIT {
+            return Verdict::refused(self, DriveRefusal::NoMoreReservations);
+        }
+        let f = last.fragment;
+        if (self.capacity as u64) < f.next_session_start() + 1 {
+            return Verdict::refused(self, DriveRefusal::EndOfUserArea);
+        }
+        let plan = Plan::new(self.flush_plan(), Transfer::Nothing);
+        Verdict::accepted(kept.open_session(), self.flush_count(), Reply::none(), plan)
+    }
+
+    // The same disc, finalized.
+    fn as_finalized(mut self) -> Disc
+        ensures { λ r. ⌜ r ≡ finalized self ⌝ }
+    {
+        self.finalized = true;
+        self
+    }
+
+    // 110.
+    pub(crate) fn finalize(self) -> Verdict
+        requires { ⌜ Ready self ⌝ }
+        ensures { λ r. ⌜ r ≡ finalize self ⌝ }
+    {
+        if self.finalized {
+            return Verdict::unchanged(self, Reply::none());
+        }
+        let flushed = self.flush();
+        if flushed.has_incomplete_reserved() {
+            return Verdict::refused(self, DriveRefusal::IncompleteTrackInSession);
+        }
+        let last = self.last();
+        if self.blank_tail_only() & (last.fragment.session == 1) {
+            return Verdict::refused(self, DriveRefusal::EmptyTrack);
+        }
+        let plan = Plan::new(self.flush_plan(), Transfer::Nothing);
+        Verdict::accepted(
+            flushed.close_tail().as_finalized(),
+            self.flush_count(),
+            Reply::none(),
+            plan,
+        )
+    }
+
+    // 5Bh.
+    pub(crate) fn close(self, function: u8, number: usize) -> Verdict
+        requires { ⌜ Ready self ⌝ }
+        ensures { λ r. ⌜ r ≡ close self function number ⌝ }
+    {
+        match function {
+            0b001 => self.close_fragment(number),
+            0b010 => self.close_session(),
+            0b110 => self.finalize(),
+            _ => Verdict::refused(self, DriveRefusal::InvalidFieldInCommand),
+        }
+    }
+}

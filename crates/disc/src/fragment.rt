@@ -3,7 +3,7 @@ use crate::address::Block;
 use crate::address::Lba;
 ghost use mathlib.Core.Path.{_≡_};
 ghost use Rattle.disc.specs.Address.{firstSector};
-ghost use Rattle.disc.specs.Fragment.{end, firstUnrecorded, complete, isReserved, isTail, nextFragmentStart, nextSessionStart, holds};
+ghost use Rattle.disc.specs.Fragment.{end, firstUnrecorded, complete, isReserved, isTail, isIncompleteReserved, nextFragmentStart, nextSessionStart, holds};
 
 // Blocks between two fragments: the dividing block in a session, Closure and Intro between sessions.
 const DIVIDING: u64 = 1;
@@ -90,6 +90,13 @@ impl Fragment {
     {
         let kind = self.kind;
         !kind.is_reserved() & !self.is_complete()
+    }
+
+    pub(crate) fn is_incomplete_reserved(self) -> bool
+        ensures { λ r. ⌜ r ≡ isIncompleteReserved self ⌝ }
+    {
+        let kind = self.kind;
+        kind.is_reserved() & !self.is_complete()
     }
 
     // Whether a sector lies in the fragment.

@@ -11,7 +11,7 @@ use lib.ListN.{length, getD, set, drop, drop-of-length-le, length-map}
 use lib.Seq.{drop-cons}
 use Rattle.disc.specs.Types.{Fragment, Disc, Number, Nowhere}
 use Rattle.disc.specs.Fragment.{unusedRecord, lastRecorded}
-use Rattle.disc.specs.Records.{listed, used, isListed, every, find, sumRecorded, lastReadable, firstOfSession}
+use Rattle.disc.specs.Records.{listed, used, isListed, every, some, find, sumRecorded, lastReadable, firstOfSession}
 use Rattle.disc.proofs.Laws.Bool.{and-left, and-right, and-both, by-cases}
 
 -- the length of an array of structs, as what owning it tells has it
@@ -211,3 +211,21 @@ pub listed-number : (d : Disc) (n : ℕ) → isListed d n ≡ true → (1 ≤ n)
 listed-number d n e =
     let k = eqb-false n 0 (not-true (eqb n 0) (and-left (not (eqb n 0)) (leb n (used d)) e)) in
     (omega arith, leb-true n (used d) (and-right (not (eqb n 0)) (leb n (used d)) e))
+
+-- a test that some record in use passes, one step along the list
+module _ (p : Fragment → Bool) (fs : List Fragment) (i : ℕ) (d : Fragment) (h : i < length fs) where
+  pub some-off : getD fs i d .length ≡ 0 → some p (listed (drop i fs)) ≡ false
+  unfolding some
+  some-off e = rw (listed-drop-off fs i d h e)
+
+  pub some-here : (getD fs i d .length ≡ 0 → ⊥) → p (getD fs i d) ≡ true → some p (listed (drop i fs)) ≡ true
+  unfolding some
+  some-here e t = rw (listed-drop-on fs i d h e) (rw t)
+
+  pub some-on : (getD fs i d .length ≡ 0 → ⊥) → p (getD fs i d) ≡ false → some p (listed (drop i fs)) ≡ some p (listed (drop (i + 1) fs))
+  unfolding some
+  some-on e t = rw (listed-drop-on fs i d h e) (rw t)
+
+pub some-end : (p : Fragment → Bool) (fs : List Fragment) (i : ℕ) → length fs ≤ i → some p (listed (drop i fs)) ≡ false
+unfolding some
+some-end p fs i h = rw (listed-drop-end fs i h)

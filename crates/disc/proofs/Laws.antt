@@ -7,6 +7,7 @@ pub mod Check
 pub mod Rules
 pub mod Sound
 pub mod Grow
+pub mod Order
 pub mod Blank
 pub mod Lengths
 pub mod Verdict
@@ -15,4 +16,5 @@ pub mod Write
 pub mod Reserve
 pub mod Close
 pub mod Session
+pub mod Keep
 pub mod Reports

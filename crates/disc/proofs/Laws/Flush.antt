@@ -1,10 +1,11 @@
 -- What a flush computes with, what it records, and that it keeps a list sound.
 use Prim.Native.Nat.{ℕ, _+_, _-_, _*_, _≤_, _<_}
-use mathlib.Core.Path.{refl, _≡_}
+use mathlib.Core.Path.{refl, _≡_, ap}
 use native.Mathlib.Omega.{arith}
-use borrow.Author.Tests.{eqb-true, eqb-false}
+use borrow.Author.Tests.{eq-eqb, ne-eqb, eqb-true, eqb-false}
 use lib.Dec.{eqb}
 use lib.ListN.{length, length-set}
+use lib.Seq.{getD-set-same}
 use Rattle.disc.specs.Types.{Fragment, Disc}
 use Rattle.disc.specs.Fragment.{unusedRecord}
 use Rattle.disc.specs.Records.{limit, used, numbered, sumRecorded}
@@ -12,7 +13,7 @@ use Rattle.disc.specs.Ready.{Ready}
 use Rattle.disc.specs.Rules.{Sound}
 use Rattle.disc.specs.Flush.{flushedRecord, flush, flushCount}
 use Rattle.disc.specs.Verdict.{rise}
-use Rattle.disc.proofs.Laws.Bool.{by-cases}
+use Rattle.disc.proofs.Laws.Bool.{by-cases, cond-yes}
 use Rattle.disc.proofs.Laws.Records.{listed-le, sum-set}
 use Rattle.disc.proofs.Laws.Rules.{sound-rules, rules-sound}
 use Rattle.disc.proofs.Laws.Sound.{incomplete-room}
@@ -141,3 +142,17 @@ flush-finalized d = by-cases (eqb (d .pending) 0) (λ z. rw z) (λ z. rw z)
 pub flush-ready : (d : Disc) → Ready d → Ready (flush d)
 flush-ready d r =
     record { sound = rules-sound (flush d) (flush-sound d r); range = rw (flush-capacity d) (r .range) }
+
+-- nothing pending, nothing flushed
+pub flush-none : (d : Disc) → d .pending ≡ 0 → flush d ≡ d
+unfolding flush
+flush-none d z = cond-yes (eqb (d .pending) 0) _ _ (eq-eqb _ _ z)
+
+-- the block that is flushed is recorded
+pub flush-records : (d : Disc) → Ready d → (d .pending ≡ 0 → ⊥) → numbered (flush d) (d .owner) .recorded ≡ numbered d (d .owner) .recorded + 1
+unfolding flush
+flush-records d r z =
+    let o = owner d r z in
+    let slot : d .owner - 1 < length (d .fragments) = omega (arith, o .slot, o .number, sound-rules d (r .sound) .array) in
+    rw (ne-eqb (d .pending) 0 z)
+    (ap (λ f. f .recorded) (getD-set-same (d .fragments) (d .owner - 1) (flushedRecord (d .pending) (numbered d (d .owner))) unusedRecord slot))

@@ -1,6 +1,6 @@
 -- Closing the tail, opening a session and finalizing: what they compute with and what they record.
 use Prim.Native.Nat.{ℕ, zero, suc, _+_, _-_, _≤_, _<_}
-use mathlib.Core.Path.{_≡_, refl, sym, _∙_, ap}
+use mathlib.Core.Path.{_≡_, refl, _∙_, ap}
 use mathlib.Core.Bool.{true, false, _&&_, _||_}
 use mathlib.Core.Logic.{⊎-elim}
 use native.Mathlib.Omega.{arith}
@@ -18,10 +18,11 @@ use Rattle.disc.specs.Flush.{flush, flushPlan, flushCount}
 use Rattle.disc.specs.Close.{shortenedRecord, hasIncompleteReserved, closeTail, openSession, closeSession, finalized, finalize}
 use Rattle.disc.proofs.Laws.Numbers.{equal-cases, below-limit}
 use Rattle.disc.proofs.Laws.Bool.{and-false, and-both, contradiction, by-cases, cond-yes, cond-no}
-use Rattle.disc.proofs.Laws.Records.{listed-le, listed-used, listed-count, sum-set}
+use Rattle.disc.proofs.Laws.Records.{listed-le, sum-set}
 use Rattle.disc.proofs.Laws.Verdict.{accept-count}
 use Rattle.disc.proofs.Laws.Flush.{flush-sum, flush-pending, flush-sound}
 use Rattle.disc.proofs.Laws.Reserve.{blank-recorded, last-sum}
+use Rattle.disc.proofs.Laws.Order.{drop-used, last-used}
 
 -- the three ways of closing the tail
 module _ (d : Disc) where
@@ -69,28 +70,6 @@ pub record Kept (k : Disc) : Type 0 where
   pub sessions : lastRecord k .session ≤ limit
 
 module _ (d : Disc) (s : Sound d) (p : d .pending ≡ 0) where
-  drop-used : used (withRecord d (used d) unusedRecord) ≡ used d - 1
-  drop-used =
-      let n = used d in
-      let fs = d .fragments in
-      let slot : n - 1 < length fs = omega (arith, s .some, listed-le fs) in
-      listed-count (set fs (n - 1) unusedRecord) (n - 1)
-      (λ i h z.
-      listed-used fs i (omega arith) (ap (λ f. f .length) (sym (getD-set-other fs (n - 1) i unusedRecord unusedRecord (λ e. omega arith))) ∙ z))
-      (ap (λ f. f .length) (getD-set-same fs (n - 1) unusedRecord unusedRecord slot))
-
-  last-used : (g : Fragment) → (g .length ≡ 0 → ⊥) → used (withRecord d (used d) g) ≡ used d
-  last-used g l =
-      let n = used d in
-      let fs = d .fragments in
-      let slot : n - 1 < length fs = omega (arith, s .some, listed-le fs) in
-      listed-count (set fs (n - 1) g) n
-      (λ i h.
-      equal-cases i (n - 1)
-      (λ e z. l (ap (λ f. f .length) (sym (getD-set-same fs (n - 1) g unusedRecord slot)) ∙ (rw e at z)))
-      (λ e z. listed-used fs i h (ap (λ f. f .length) (sym (getD-set-other fs (n - 1) i g unusedRecord e)) ∙ z)))
-      (ap (λ f. f .length) (getD-set-other fs (n - 1) n g unusedRecord (λ e. omega (arith, s .some)) ∙ s .unused n (omega arith)))
-
   most : used d ≤ limit
   most = omega (arith, listed-le (d .fragments), s .array)
 
@@ -104,15 +83,15 @@ module _ (d : Disc) (s : Sound d) (p : d .pending ≡ 0) where
       let gone = getD-set-same fs (n - 1) unusedRecord unusedRecord slot in
       record {
         array = length-set fs (n - 1) unusedRecord ∙ s .array;
-        free = ap (λ k. getD gs k unusedRecord) drop-used ∙ gone;
+        free = ap (λ k. getD gs k unusedRecord) (drop-used d s) ∙ gone;
         sessions =
             equal-cases n 1
             (λ e.
             let last : lastRecord (withRecord d n unusedRecord) ≡ unusedRecord =
-            ap (λ k. getD gs (k - 1) unusedRecord) (drop-used ∙ ap (λ m. m - 1) e) ∙ (ap (λ m. getD (set fs (m - 1) unusedRecord) 0 unusedRecord) e ∙ getD-set-same fs 0 unusedRecord unusedRecord (omega arith)) in
+            ap (λ k. getD gs (k - 1) unusedRecord) ((drop-used d s) ∙ ap (λ m. m - 1) e) ∙ (ap (λ m. getD (set fs (m - 1) unusedRecord) 0 unusedRecord) e ∙ getD-set-same fs 0 unusedRecord unusedRecord (omega arith)) in
             omega (arith, ap (λ f. f .session) last))
             (λ e.
-            let index : used (withRecord d n unusedRecord) - 1 ≡ n - 2 = omega (arith, drop-used) in
+            let index : used (withRecord d n unusedRecord) - 1 ≡ n - 2 = omega (arith, (drop-used d s)) in
             let last : lastRecord (withRecord d n unusedRecord) ≡ at d (n - 2) =
             ap (λ k. getD gs k unusedRecord) index ∙ getD-set-other fs (n - 1) (n - 2) unusedRecord unusedRecord (λ q. omega (arith, s .some)) in
             omega (arith, ap (λ f. f .session) last, session-most d (n - 2) s (omega (arith, s .some)), most));
@@ -125,7 +104,7 @@ module _ (d : Disc) (s : Sound d) (p : d .pending ≡ 0) where
       let fs = d .fragments in
       let gs = set fs (n - 1) g in
       let slot : n - 1 < length fs = omega (arith, s .some, listed-le fs) in
-      let u = last-used g l in
+      let u = last-used d s g l in
       record {
         array = length-set fs (n - 1) g ∙ s .array;
         free =

@@ -10,7 +10,7 @@ use lib.Seq.{getD-set-other}
 use Rattle.disc.specs.Types.{Lba, Fragment, Disc, Number}
 use Rattle.disc.specs.Fragment.{unusedRecord, end, complete, pendingIn, nextWritable}
 use Rattle.disc.specs.Address.{firstSector}
-use Rattle.disc.specs.Records.{limit, records, numbered, writableAt, sumRecorded}
+use Rattle.disc.specs.Records.{used, limit, records, numbered, writableAt, sumRecorded}
 use Rattle.disc.specs.Ready.{Ready}
 use Rattle.disc.specs.Verdict.{rise}
 use Rattle.disc.specs.Flush.{flush, flushCount}
@@ -19,7 +19,9 @@ use Rattle.disc.proofs.Laws.Bool.{and-left, and-right, by-cases}
 use Rattle.disc.proofs.Laws.Records.{listed-at, sum-set, find-hit}
 use Rattle.disc.proofs.Laws.Rules.{sound-rules}
 use Rattle.disc.proofs.Laws.Sound.{incomplete-room, pending-in-few}
-use Rattle.disc.proofs.Laws.Flush.{used-limit, owner, numbers, flush-sum, flush-length}
+use Rattle.disc.proofs.Laws.Flush.{used-limit, owner, numbers, flush-sum, flush-length, flush-sound, flush-used, flush-pending}
+use Rattle.disc.specs.Rules.{Sound}
+use mathlib.Core.Logic.{_⊎_, inl, inr}
 
 -- the fragment that the search for a next writable address finds
 pub writable-found : (d : Disc) (a : Lba) (n : ℕ) → writableAt d a ≡ Number n → Writable d a n
@@ -162,3 +164,15 @@ flush-count-most d = by-cases (eqb (d .pending) 0) (λ z. rw z (omega arith)) (�
 pub others-count-most : (d : Disc) (n : ℕ) → flushOthersCount d n ≤ 1
 unfolding flushOthersCount
 others-count-most d n = by-cases (eqb (d .owner) n) (λ e. rw e (omega arith)) (λ e. rw e (flush-count-most d))
+
+pub others-sound : (d : Disc) (n : ℕ) → Ready d → Sound (flushOthers d n)
+unfolding flushOthers
+others-sound d n r = by-cases (eqb (d .owner) n) (λ e. rw e (sound-rules d (r .sound))) (λ e. rw e (flush-sound d r))
+
+pub others-used : (d : Disc) (n : ℕ) → Ready d → used (flushOthers d n) ≡ used d
+unfolding flushOthers
+others-used d n r = by-cases (eqb (d .owner) n) (λ e. rw e) (λ e. rw e (flush-used d r))
+
+pub others-alone : (d : Disc) (n : ℕ) → (flushOthers d n .pending ≡ 0) ⊎ (flushOthers d n .owner ≡ n)
+unfolding flushOthers
+others-alone d n = by-cases (eqb (d .owner) n) (λ e. rw e (inr (eqb-true _ _ e))) (λ e. rw e (inl (flush-pending d)))

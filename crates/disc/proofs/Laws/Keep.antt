@@ -1,0 +1,395 @@
+-- Every change that a command makes to the list keeps it sound.
+use Prim.Native.Nat.{ℕ, zero, suc, _+_, _-_, _*_, _/_, _%_, _≤_, _<_}
+use mathlib.Core.Path.{_≡_, refl, sym, _∙_, ap}
+use mathlib.Core.Bool.{Bool, true, false, not, _&&_, and-false as and-zero}
+use mathlib.Core.List.{List, [], _∷_}
+use mathlib.Core.Logic.{_⊎_, inl, inr}
+use native.Mathlib.Omega.{arith}
+use borrow.Author.Tests.{eq-eqb, ne-eqb, eqb-true, eqb-false, ltb-true, ltb-false, lt-ltb}
+use lib.Dec.{eqb, ltb}
+use lib.ListN.{length, getD, set}
+use lib.Seq.{getD-set-same, getD-set-other}
+use Rattle.disc.specs.Types.{Block, Lba, Fragment, Disc}
+use Rattle.disc.specs.Address.{firstSector}
+use Rattle.disc.specs.Fragment.{unusedRecord, end, complete, isReserved, isTail, isIncompleteReserved, pendingIn, isBlank, nextFragmentStart, nextSessionStart, tailFrom}
+use Rattle.disc.specs.Records.{limit, listed, records, used, numbered, lastRecord, withRecord, hasTail, hasBlankTail, some, firstOfSession, blankTailOnly}
+use Rattle.disc.specs.Rules.{at, Sound}
+use Rattle.disc.specs.Ready.{Ready}
+use Rattle.disc.specs.Flush.{flush}
+use Rattle.disc.specs.Write.{flushOthers, grownRecord, gather, Writable}
+use Rattle.disc.specs.Reserve.{reservedAt, splitTail}
+use Rattle.disc.specs.Close.{filledRecord, shortenedRecord, appendTail, hasIncompleteReserved, closeTail, openSession, finalized}
+use Rattle.disc.proofs.Laws.Bool.{and-left, and-right, and-both, or-left, or-right, by-cases, contradiction, cond-yes, cond-no}
+use Rattle.disc.proofs.Laws.Numbers.{equal-cases, below-limit}
+use Rattle.disc.proofs.Laws.Records.{listed-le, listed-at}
+use Rattle.disc.proofs.Laws.Rules.{sound-rules}
+use Rattle.disc.proofs.Laws.Grow.{Grown, GrownRecord, set-grown, grown-used, grown-sound}
+use Rattle.disc.proofs.Laws.Reserve.{blank-recorded}
+use Rattle.disc.proofs.Laws.Flush.{owner, flush-used, flush-none, flush-records}
+use Rattle.disc.proofs.Laws.Write.{others-numbered, others-pending, others-used, others-alone, place}
+use Rattle.disc.proofs.Laws.Session.{kept-blank, kept-tail, kept-same, tail-written}
+use Rattle.disc.proofs.Laws.Order.{Ordered, sound-ordered, open-sound, Replaces, replace-last, drop-last, Extends, extend-sound, last-used, drop-used}
+
+-- a tail from a block below the capacity is one, and reaches it
+module _ (c s : ℕ) (b : Block) (h : b .0 < c) where
+  pub tail-from-tail : isTail (tailFrom c s b) ≡ true
+  tail-from-tail = ap not (ne-eqb 0 (c - b .0) (λ e. omega arith))
+
+  pub tail-from-end : end (tailFrom c s b) .0 ≡ c
+  tail-from-end = omega arith
+
+-- a blank fragment has no pending sectors
+pub blank-unowned : (d : Disc) (n : ℕ) (f : Fragment) → isBlank d n f ≡ true → (d .pending ≡ 0 → ⊥) → d .owner ≡ n → ⊥
+blank-unowned d n f b z e =
+    z
+    (sym (cond-yes (eqb (d .owner) n) (d .pending) 0 (eq-eqb _ _ e))
+    ∙ eqb-true (pendingIn d n) 0 (and-right (eqb (f .recorded) 0) (eqb (pendingIn d n) 0) b))
+
+-- RESERVE
+pub split-sound :
+    (d : Disc) (b : ℕ) → Sound d → d .finalized ≡ false → hasBlankTail d ≡ true → used d < limit → 1 ≤ b
+    → nextFragmentStart (end (reservedAt (lastRecord d) b)) .0 < d .capacity → Sound (splitTail d b)
+unfolding splitTail
+split-sound d b s f t free size start =
+    let n = used d in
+    let g = reservedAt (lastRecord d) b in
+    let r : Replaces d g =
+    record {
+      session = refl;
+      start = refl;
+      size = λ z. omega arith;
+      ends = omega arith;
+      recorded = omega arith;
+      zeroed = omega arith;
+      tailless = refl;
+      unowned = blank-unowned d n (lastRecord d) (and-right (hasTail d) (isBlank d n (lastRecord d)) t);
+    } in
+    let e = withRecord d n g in
+    let o = replace-last d s g r in
+    let u : used e ≡ n = last-used d s g (λ z. omega arith) in
+    let slot : n - 1 < length (d .fragments) = omega (arith, s .some, listed-le (d .fragments)) in
+    let last : lastRecord e ≡ g =
+    ap (λ j. getD (set (d .fragments) (n - 1) g) (j - 1) unusedRecord) u ∙ getD-set-same (d .fragments) (n - 1) g unusedRecord slot in
+    let m = tailFrom (d .capacity) (g .session) (nextFragmentStart (end g)) in
+    let x : Extends e m =
+    record {
+      free = omega arith;
+      follows = rw last (inl (refl, refl));
+      ends = tail-from-end (d .capacity) (g .session) (nextFragmentStart (end g)) start;
+      recorded = refl;
+      zeroed = refl;
+      tail = tail-from-tail (d .capacity) (g .session) (nextFragmentStart (end g)) start;
+      tailless = ap isTail last;
+      closed = λ q. absurd (q (sym (ap (λ h. h .session) last)));
+    } in
+    rw (ap (λ j. withRecord e (j + 1) m) u) at (extend-sound e o m x f)
+
+-- CLOSE 001 of a reserved fragment
+pub fill-sound : (d : Disc) (n : ℕ) → Sound d → d .pending ≡ 0 → 1 ≤ n → n ≤ used d → Sound (withRecord d n (filledRecord (numbered d n)))
+fill-sound d n s p from to =
+    let f = numbered d n in
+    let w = s .recorded (n - 1) (omega arith) in
+    let z = s .zeroed (n - 1) (omega arith) in
+    let g : GrownRecord f (filledRecord f) =
+    record { session = refl; start = refl; size = refl; kind = refl; more = w; recorded = omega arith; zeroed = omega arith } in
+    grown-sound d (withRecord d n (filledRecord f)) s
+    (set-grown d (withRecord d n (filledRecord f)) (n - 1) (filledRecord f) s (omega arith) refl refl refl g)
+    (s .few)
+    (s .none)
+    (λ q. absurd (q p))
+    (λ q. p)
+
+-- a complete fragment is no tail
+complete-tailless : (f : Fragment) → complete f ≡ true → isTail f ≡ false
+complete-tailless f c = rw c (and-zero (not (isReserved (f .kind))))
+
+-- a written tail that ends with its recorded blocks
+shorten-replaces : (d : Disc) → Sound d → d .pending ≡ 0 → (lastRecord d .recorded ≡ 0 → ⊥) → Replaces d (shortenedRecord (lastRecord d))
+shorten-replaces d s p w =
+    let l = used d - 1 in
+    let fits = s .recorded l (omega (arith, s .some)) in
+    record {
+      session = refl;
+      start = refl;
+      size = w;
+      ends = omega (arith, s .ends l (omega (arith, s .some)));
+      recorded = omega arith;
+      zeroed = s .zeroed l (omega (arith, s .some));
+      tailless = complete-tailless (shortenedRecord (lastRecord d)) (eq-eqb (lastRecord d .recorded) (lastRecord d .recorded) refl);
+      unowned = λ z. absurd (z p);
+    }
+
+-- the last record is the one that was put there
+replaced-is :
+    (d : Disc) (s : Sound d) (g : Fragment) → (g .length ≡ 0 → ⊥)
+    → (used (withRecord d (used d) g) ≡ used d) × (lastRecord (withRecord d (used d) g) ≡ g)
+replaced-is d s g l =
+    let n = used d in
+    let u = last-used d s g l in
+    let slot : n - 1 < length (d .fragments) = omega (arith, s .some, listed-le (d .fragments)) in
+    (u, ap (λ j. getD (set (d .fragments) (n - 1) g) (j - 1) unusedRecord) u ∙ getD-set-same (d .fragments) (n - 1) g unusedRecord slot)
+
+-- CLOSE 001 of the tail
+pub shorten-sound :
+    (d : Disc) → Sound d → d .finalized ≡ false → d .pending ≡ 0 → (lastRecord d .recorded ≡ 0 → ⊥)
+    → Sound (appendTail (withRecord d (used d) (shortenedRecord (lastRecord d))) (used d))
+unfolding appendTail
+shorten-sound d s f p w =
+    let n = used d in
+    let g = shortenedRecord (lastRecord d) in
+    let e = withRecord d n g in
+    let r = shorten-replaces d s p w in
+    let o = replace-last d s g r in
+    let k = replaced-is d s g w in
+    let same : numbered e n ≡ g = ap (λ j. numbered e j) (sym (k .0)) ∙ k .1 in
+    let start = nextFragmentStart (end (numbered e n)) in
+    let m = tailFrom (d .capacity) (numbered e n .session) start in
+    by-cases (ltb (start .0) (d .capacity) && ltb n limit)
+    (λ t.
+    let room = ltb-true (start .0) (d .capacity) (and-left (ltb (start .0) (d .capacity)) (ltb n limit) t) in
+    let free = ltb-true n limit (and-right (ltb (start .0) (d .capacity)) (ltb n limit) t) in
+    let x : Extends e m =
+    record {
+      free = omega (arith, k .0);
+      follows = rw (ap (λ j. numbered e j) (k .0)) (inl (refl, refl));
+      ends = tail-from-end (d .capacity) (numbered e n .session) start room;
+      recorded = refl;
+      zeroed = refl;
+      tail = tail-from-tail (d .capacity) (numbered e n .session) start room;
+      tailless = ap isTail (k .1) ∙ r .tailless;
+      closed = λ q. absurd (q (ap (λ j. numbered e j .session) (sym (k .0))));
+    } in
+    rw t (rw (ap (λ j. withRecord e (j + 1) m) (k .0)) at (extend-sound e o m x f)))
+    (λ t.
+    rw t
+    (open-sound e o f
+    (λ a.
+    equal-cases n limit
+    (λ q. inl (k .0 ∙ q))
+    (λ q.
+    let few = below-limit (omega (arith, listed-le (d .fragments), s .array)) q in
+    by-cases (ltb (start .0) (d .capacity))
+    (λ y. absurd (contradiction (and-both y (lt-ltb n limit few)) t))
+    (λ y. inr (let past = ltb-false (start .0) (d .capacity) y in omega (arith, ap (λ h. end h .0) (ap (λ j. numbered e j) (k .0)))))))))
+
+-- no reserved fragment is incomplete
+some-at : (p : Fragment → Bool) (fs : List Fragment) (i : ℕ) → some p fs ≡ false → i < length fs → p (getD fs i unusedRecord) ≡ false
+unfolding some
+some-at p [] i e h = absurd (omega arith)
+some-at p (f ∷ fs) zero e h = by-cases (p f) (λ t. absurd (contradiction (or-left (some p fs) t) e)) (λ t. t)
+some-at p (f ∷ fs) (suc i) e h =
+    some-at p fs i (by-cases (some p fs) (λ t. absurd (contradiction (or-right (p f) t) e)) (λ t. t)) (omega arith)
+
+reserved-complete : (d : Disc) (i : ℕ) → hasIncompleteReserved d ≡ false → i < used d → isIncompleteReserved (at d i) ≡ false
+reserved-complete d i e h = rw (listed-at (d .fragments) i unusedRecord h) at (some-at isIncompleteReserved (records d) i e h)
+
+-- then an incomplete fragment is the tail
+incomplete-tail : (f : Fragment) → isIncompleteReserved f ≡ false → complete f ≡ false → isTail f ≡ true
+incomplete-tail f r c =
+    by-cases (isReserved (f .kind))
+    (λ k. absurd (contradiction (and-both k (ap not c)) r))
+    (λ k. and-both {a = not (isReserved (f .kind))} (ap not k) (ap not c))
+
+pub complete-but-tail : (d : Disc) (i : ℕ) → Sound d → hasIncompleteReserved d ≡ false → suc i < used d → complete (at d i) ≡ true
+complete-but-tail d i s e h =
+    by-cases (complete (at d i)) (λ c. c)
+    (λ c. absurd (omega (arith, s .tail i (omega arith) (incomplete-tail (at d i) (reserved-complete d i e (omega arith)) c) .0)))
+
+-- the list with its tail closed: in order, complete throughout, without a tail
+pub record Closed (k : Disc) : Type 0 where
+  pub ordered : Ordered k
+  pub complete : (i : ℕ) → i < used k → complete (at k i) ≡ true
+  pub tailless : hasTail k ≡ false
+
+module _ (d : Disc) (s : Sound d) (p : d .pending ≡ 0) (e : hasIncompleteReserved d ≡ false) where
+  last-of-ordered : (k : Disc) → Ordered k → ((i : ℕ) → i < used k → complete (at k i) ≡ true) → Closed k
+  last-of-ordered k o c =
+      record {
+        ordered = o;
+        complete = c;
+        tailless = complete-tailless (lastRecord k) (c (used k - 1) (omega (arith, o .some)));
+      }
+
+  closed-dropped : 2 ≤ used d → Closed (withRecord d (used d) unusedRecord)
+  closed-dropped two =
+      last-of-ordered (withRecord d (used d) unusedRecord) (drop-last d s two (λ z. absurd (z p)))
+      (λ i h.
+      let u = drop-used d s in
+      rw (getD-set-other (d .fragments) (used d - 1) i unusedRecord unusedRecord (λ q. omega arith))
+      (complete-but-tail d i s e (omega arith)))
+
+  closed-replaced : (lastRecord d .recorded ≡ 0 → ⊥) → Closed (withRecord d (used d) (shortenedRecord (lastRecord d)))
+  closed-replaced w =
+      let g = shortenedRecord (lastRecord d) in
+      let u = last-used d s g w in
+      let slot : used d - 1 < length (d .fragments) = omega (arith, s .some, listed-le (d .fragments)) in
+      last-of-ordered (withRecord d (used d) g) (replace-last d s g (shorten-replaces d s p w))
+      (λ i h.
+      equal-cases i (used d - 1)
+      (λ q.
+      rw (ap (λ j. getD (set (d .fragments) (used d - 1) g) j unusedRecord) q ∙ getD-set-same (d .fragments) (used d - 1) g unusedRecord slot)
+      (eq-eqb (lastRecord d .recorded) (lastRecord d .recorded) refl))
+      (λ q.
+      rw (getD-set-other (d .fragments) (used d - 1) i g unusedRecord q)
+      (complete-but-tail d i s e (before-last (rw u at h) q))))
+    where
+      before-last : {i : ℕ} → i < used d → (i ≡ used d - 1 → ⊥) → suc i < used d
+      before-last h q = omega arith
+
+  closed-same : hasTail d ≡ false → Closed d
+  closed-same t =
+      last-of-ordered d (sound-ordered d s)
+      (λ i h.
+      by-cases (complete (at d i)) (λ c. c)
+      (λ c.
+      let a = incomplete-tail (at d i) (reserved-complete d i e h) c in
+      let index : i ≡ used d - 1 = omega (arith, s .tail i h a .0) in
+      absurd (contradiction (rw index at a) t)))
+
+  pub close-tail-closed : (hasBlankTail d ≡ true → 2 ≤ used d) → Closed (closeTail d)
+  close-tail-closed two =
+      by-cases (hasBlankTail d)
+      (λ b. rw (kept-blank d b) (closed-dropped (two b)))
+      (λ b.
+      by-cases (hasTail d)
+      (λ t. rw (kept-tail d b t) (closed-replaced (tail-written d p t b)))
+      (λ t. rw (kept-same d t) (closed-same t)))
+
+-- CLOSE 010: a tail of the next session
+pub open-session-sound :
+    (k : Disc) → Closed k → k .finalized ≡ false → used k < limit → nextSessionStart (end (lastRecord k)) .0 < k .capacity → Sound (openSession k)
+unfolding openSession
+open-session-sound k c f free start =
+    let b = nextSessionStart (end (lastRecord k)) in
+    let m = tailFrom (k .capacity) (lastRecord k .session + 1) b in
+    extend-sound k (c .ordered) m
+    (record {
+      free = free;
+      follows = inr (refl, refl);
+      ends = tail-from-end (k .capacity) (lastRecord k .session + 1) b start;
+      recorded = refl;
+      zeroed = refl;
+      tail = tail-from-tail (k .capacity) (lastRecord k .session + 1) b start;
+      tailless = c .tailless;
+      closed = λ q. c .complete;
+    })
+    f
+
+-- CLOSE 110
+pub finalize-sound : (k : Disc) → Closed k → k .pending ≡ 0 → Sound (finalized k)
+finalize-sound k c p =
+    let o = c .ordered in
+    record {
+      array = o .array;
+      some = o .some;
+      unused = o .unused;
+      firstSession = o .firstSession;
+      firstStart = o .firstStart;
+      next = o .next;
+      ends = o .ends;
+      recorded = o .recorded;
+      zeroed = o .zeroed;
+      incomplete = o .incomplete;
+      tail = o .tail;
+      full = λ e. absurd (contradiction refl e);
+      few = o .few;
+      none = o .none;
+      owned = λ z. absurd (z p);
+      closed = λ e. c .complete;
+      settled = λ e. p;
+    }
+
+-- the first record of its own session
+first-here : (rs : List Fragment) (n : ℕ) → 1 ≤ length rs → getD rs 0 unusedRecord .session ≡ n → firstOfSession n 1 rs ≡ 1
+unfolding firstOfSession
+first-here [] n h e = absurd (omega arith)
+first-here (f ∷ fs) n h e = cond-yes (eqb (f .session) n) _ _ (eq-eqb _ _ e)
+
+-- the only record is a blank tail, after a flush and so before it
+pub only-blank : (d : Disc) → Ready d → hasBlankTail (flush d) ≡ true → used (flush d) ≡ 1 → (blankTailOnly d ≡ true) × (lastRecord d .session ≡ 1)
+only-blank d r b one =
+    let s = sound-rules d (r .sound) in
+    let u : used d ≡ 1 = omega (arith, flush-used d r) in
+    by-cases (eqb (d .pending) 0)
+    (λ z.
+    let same : flush d ≡ d = flush-none d (eqb-true _ _ z) in
+    let first : lastRecord d .session ≡ 1 = ap (λ n. at d (n - 1) .session) u ∙ s .firstSession in
+    let zeroth : getD (records d) 0 unusedRecord .session ≡ lastRecord d .session =
+    ap (λ f. f .session) (listed-at (d .fragments) 0 unusedRecord (s .some)) ∙ (s .firstSession ∙ sym first) in
+    (and-both (rw same at b) (eq-eqb _ _ (first-here (records d) (lastRecord d .session) (s .some) zeroth ∙ sym u)), first))
+    (λ z.
+    let n = eqb-false _ _ z in
+    let o = owner d r n in
+    let number : d .owner ≡ 1 = omega (arith, o .number, o .listed) in
+    let last : lastRecord (flush d) ≡ numbered (flush d) (d .owner) = ap (λ k. numbered (flush d) k) (one ∙ sym number) in
+    absurd (omega (arith, blank-recorded (flush d) b, ap (λ f. f .recorded) last, flush-records d r n)))
+
+-- WRITE: more sectors in an incomplete fragment, with no other one's pending
+pub record Room (d : Disc) (number n : ℕ) : Type 0 where
+  pub from : 1 ≤ number
+  pub listed : number ≤ used d
+  pub incomplete : complete (numbered d number) ≡ false
+  pub alone : (d .pending ≡ 0) ⊎ (d .owner ≡ number)
+  pub fits : numbered d number .recorded * 16 + (pendingIn d number + n) ≤ numbered d number .length * 16
+
+gather-grows : (d : Disc) (number n : ℕ) → Sound d → Room d number n → Grown d (gather d number n)
+unfolding gather
+gather-grows d number n s m =
+    let f = numbered d number in
+    let blocks = (pendingIn d number + n) / 16 in
+    let z = s .zeroed (number - 1) (omega (arith, m .from, m .listed)) in
+    set-grown d (gather d number n) (number - 1) (grownRecord blocks f) s (omega (arith, m .from, m .listed)) refl refl refl
+    (record {
+      session = refl;
+      start = refl;
+      size = refl;
+      kind = refl;
+      more = omega arith;
+      recorded = omega (arith, m .fits);
+      zeroed = omega arith;
+    })
+
+-- the record after it is incomplete where sectors stay pending
+gather-incomplete :
+    (d : Disc) (number n : ℕ) → Sound d → Room d number n → ((pendingIn d number + n) % 16 ≡ 0 → ⊥)
+    → complete (numbered (gather d number n) number) ≡ false
+unfolding gather
+gather-incomplete d number n s m z =
+    let f = numbered d number in
+    let g = grownRecord ((pendingIn d number + n) / 16) f in
+    let slot : number - 1 < length (d .fragments) = omega (arith, m .from, m .listed, listed-le (d .fragments)) in
+    rw (getD-set-same (d .fragments) (number - 1) g unusedRecord slot)
+    (ne-eqb (f .recorded + (pendingIn d number + n) / 16) (f .length) (λ q. omega (arith, m .fits)))
+
+pub gather-sound : (d : Disc) (number n : ℕ) → Sound d → Room d number n → Sound (gather d number n)
+unfolding gather
+gather-sound d number n s m =
+    let g = gather-grows d number n s m in
+    let held = (pendingIn d number + n) % 16 in
+    grown-sound d (gather d number n) s g
+    (omega arith)
+    (λ z. cond-yes (eqb held 0) 0 number (eq-eqb _ _ z))
+    (λ z.
+    let same = cond-no (eqb held 0) 0 number (ne-eqb _ _ z) in
+    record {
+      number = rw same (m .from);
+      listed = rw same (omega (arith, m .listed, grown-used d (gather d number n) s g));
+      incomplete = rw same (gather-incomplete d number n s m z);
+    })
+    (λ e. absurd (contradiction (s .closed e (number - 1) (omega (arith, m .from, m .listed))) (m .incomplete)))
+
+-- an accepted WRITE finds room, other fragments' sectors flushed
+pub write-room :
+    (d : Disc) (a : Lba) (number n : ℕ) → Ready d → Writable d a number → a .0 + n ≤ firstSector (end (numbered d number)) .0
+    → Room (flushOthers d number) number n
+write-room d a number n r w h =
+    let same = others-numbered d number r (w .from) in
+    let held = others-pending d number r (w .from) in
+    let few = (place d a number r w) .few in
+    record {
+      from = w .from;
+      listed = omega (arith, w .listed, others-used d number r);
+      incomplete = rw same (w .incomplete);
+      alone = others-alone d number;
+      fits = rw (same, held) (omega (arith, w .here));
+    }

@@ -17,4 +17,5 @@ pub mod Reserve
 pub mod Close
 pub mod Session
 pub mod Keep
+pub mod Outcome
 pub mod Reports

@@ -51,3 +51,12 @@ cond-yes b x y e = rw e
 
 pub cond-no {ℓ} : {A : Type ℓ} (b : Bool) (x y : A) → b ≡ false → cond b x y ≡ y
 cond-no b x y e = rw e
+
+-- what holds of both outcomes of a choice holds of the choice
+pub cond-cases {ℓ κ} : {A : Type ℓ} (P : A → Type κ) (b : Bool) (x y : A) → (b ≡ true → P x) → (b ≡ false → P y) → P (cond b x y)
+cond-cases P true x y there else = there refl
+cond-cases P false x y there else = else refl
+
+pub or-false-left : (a b : Bool) → (a || b) ≡ false → a ≡ false
+or-false-left true b h = h
+or-false-left false b h = refl

@@ -1,19 +1,20 @@
 -- What a flush computes with, what it records, and that it keeps a list sound.
 use Prim.Native.Nat.{ℕ, _+_, _-_, _*_, _≤_, _<_}
-use mathlib.Core.Path.{refl, _≡_, ap}
+use mathlib.Core.Path.{refl, _≡_, _∙_, ap}
+use mathlib.Core.Bool.{false}
 use native.Mathlib.Omega.{arith}
 use borrow.Author.Tests.{eq-eqb, ne-eqb, eqb-true, eqb-false}
 use lib.Dec.{eqb}
 use lib.ListN.{length, length-set}
 use lib.Seq.{getD-set-same}
 use Rattle.disc.specs.Types.{Fragment, Disc}
-use Rattle.disc.specs.Fragment.{unusedRecord}
+use Rattle.disc.specs.Fragment.{unusedRecord, pendingIn, isBlank}
 use Rattle.disc.specs.Records.{limit, used, numbered, sumRecorded}
 use Rattle.disc.specs.Ready.{Ready}
 use Rattle.disc.specs.Rules.{Sound}
 use Rattle.disc.specs.Flush.{flushedRecord, flush, flushCount}
 use Rattle.disc.specs.Verdict.{rise}
-use Rattle.disc.proofs.Laws.Bool.{by-cases, cond-yes}
+use Rattle.disc.proofs.Laws.Bool.{and-both, contradiction, by-cases, cond-yes, cond-no}
 use Rattle.disc.proofs.Laws.Records.{listed-le, sum-set}
 use Rattle.disc.proofs.Laws.Rules.{sound-rules, rules-sound}
 use Rattle.disc.proofs.Laws.Sound.{incomplete-room}
@@ -156,3 +157,18 @@ flush-records d r z =
     let slot : d .owner - 1 < length (d .fragments) = omega (arith, o .slot, o .number, sound-rules d (r .sound) .array) in
     rw (ne-eqb (d .pending) 0 z)
     (ap (λ f. f .recorded) (getD-set-same (d .fragments) (d .owner - 1) (flushedRecord (d .pending) (numbered d (d .owner))) unusedRecord slot))
+
+-- a fragment that is not blank has a block recorded after a flush
+pub flush-written : (d : Disc) (n : ℕ) → Ready d → isBlank d n (numbered d n) ≡ false → numbered (flush d) n .recorded ≡ 0 → ⊥
+flush-written d n r b w =
+    let more = flush-grows d r .more (n - 1) in
+    let before : numbered d n .recorded ≡ 0 = omega arith in
+    by-cases (eqb (pendingIn d n) 0)
+    (λ z. contradiction (and-both (eq-eqb _ _ before) z) b)
+    (λ z.
+    by-cases (eqb (d .owner) n)
+    (λ e.
+    let same = eqb-true (d .owner) n e in
+    let some-pending : d .pending ≡ 0 → ⊥ = λ q. eqb-false _ _ z (cond-yes (eqb (d .owner) n) (d .pending) 0 e ∙ q) in
+    omega (arith, flush-records d r some-pending, ap (λ m. numbered (flush d) m .recorded) same))
+    (λ e. eqb-false _ _ z (cond-no (eqb (d .owner) n) (d .pending) 0 e)))

@@ -226,3 +226,15 @@ kept-capacity d =
     by-cases (hasBlankTail d)
     (λ b. rw (kept-blank d b))
     (λ b. by-cases (hasTail d) (λ t. rw (kept-tail d b t)) (λ t. rw (kept-same d t)))
+
+pub kept-finalized : (d : Disc) → closeTail d .finalized ≡ d .finalized
+kept-finalized d =
+    by-cases (hasBlankTail d)
+    (λ b. rw (kept-blank d b))
+    (λ b. by-cases (hasTail d) (λ t. rw (kept-tail d b t)) (λ t. rw (kept-same d t)))
+
+pub kept-pending : (d : Disc) → closeTail d .pending ≡ d .pending
+kept-pending d =
+    by-cases (hasBlankTail d)
+    (λ b. rw (kept-blank d b))
+    (λ b. by-cases (hasTail d) (λ t. rw (kept-tail d b t)) (λ t. rw (kept-same d t)))

@@ -1,0 +1,196 @@
+-- What a command does to the list: accepted, it leaves a sound list and the capacity; refused, the disc but for the sense.
+use Prim.Native.Nat.{ℕ, _+_, _-_, _≤_}
+use mathlib.Core.Path.{_≡_, refl, sym, _∙_, ap}
+use mathlib.Core.Bool.{true, false, not, _&&_, _||_}
+use native.Mathlib.Omega.{arith}
+use borrow.Author.Tests.{eq-eqb, eqb-false, leb-false, ltb-false, not-false}
+use lib.Dec.{eqb, leb, ltb}
+use Rattle.disc.specs.Types.{Lba, Kind, Reserved, Appended, Disc, Found, Number, Nowhere, Reply, Plan, Verdict, DriveRefusal, Nothing, WriteProtected, InvalidFieldInCommand, InvalidAddressForWrite, IncompleteTrackInSession, EmptyTrack, NoMoreReservations, EndOfUserArea}
+use Rattle.disc.specs.Address.{firstSector, blocksFor}
+use Rattle.disc.specs.Fragment.{end, complete, isBlank, nextFragmentStart, nextSessionStart}
+use Rattle.disc.specs.Records.{limit, used, isListed, numbered, lastRecord, withRecord, hasBlankTail, writableAt, blankTailOnly}
+use Rattle.disc.specs.Rules.{Sound}
+use Rattle.disc.specs.Ready.{Ready}
+use Rattle.disc.specs.Verdict.{rise, accepted, accept, refuse, noReply, noPlan, plan}
+use Rattle.disc.specs.Flush.{flush, flushPlan, synchronizeCache}
+use Rattle.disc.specs.Write.{flushOthers, gather, writeTo, writeFound, write}
+use Rattle.disc.specs.Reserve.{reservedAt, splitTail, reserve}
+use Rattle.disc.specs.Close.{filledRecord, shortenedRecord, appendTail, closeIncomplete, closeFragment, hasIncompleteReserved, closeTail, openSession, closeSession, finalized, finalize, close}
+use Rattle.disc.proofs.Laws.Bool.{and-both, by-cases, cond-cases, or-right, or-false-left, contradiction}
+use Rattle.disc.proofs.Laws.Numbers.{equal-cases, below-limit}
+use Rattle.disc.proofs.Laws.Records.{listed-number}
+use Rattle.disc.proofs.Laws.Rules.{sound-rules}
+use Rattle.disc.proofs.Laws.Flush.{used-limit, flush-sound, flush-capacity, flush-finalized, flush-pending, flush-used, flush-written}
+use Rattle.disc.proofs.Laws.Write.{writable-found, others-sound}
+use Rattle.disc.proofs.Laws.Close.{appended-last}
+use Rattle.disc.proofs.Laws.Session.{kept-few, kept-capacity, kept-finalized, kept-pending}
+use Rattle.disc.proofs.Laws.Keep.{split-sound, fill-sound, shorten-sound, close-tail-closed, open-session-sound, finalize-sound, only-blank, gather-sound, write-room}
+
+pub data Outcome (d : Disc) : Verdict → Type 0 where
+  done :
+      (after : Disc) (n : ℕ) (r : Reply) (p : Plan) → Sound after → after .capacity ≡ d .capacity → Outcome d (accepted after n r p)
+  refused : (r : DriveRefusal) → Outcome d (refuse d r)
+
+-- an accepted command that leaves the list alone
+pub same-outcome : (d : Disc) (r : Reply) (p : Plan) → Ready d → Outcome d (accept d d r p)
+unfolding accept
+same-outcome d r p k = done d (rise d d) r p (sound-rules d (k .sound)) refl
+
+pub synchronize-outcome : (d : Disc) → Ready d → Outcome d (synchronizeCache d)
+unfolding synchronizeCache accept
+synchronize-outcome d r = done (flush d) (rise d (flush d)) noReply (plan (flushPlan d) Nothing) (flush-sound d r) (flush-capacity d)
+
+-- WRITE
+gather-capacity : (d : Disc) (number n : ℕ) → gather (flushOthers d number) number n .capacity ≡ d .capacity
+unfolding gather flushOthers
+gather-capacity d number n = cond-cases (λ e. e .capacity ≡ d .capacity) (eqb (d .owner) number) d (flush d) (λ e. refl) (λ e. flush-capacity d)
+
+found-outcome : (d : Disc) (a : Lba) (n : ℕ) → Ready d → (w : Found) → writableAt d a ≡ w → Outcome d (writeFound d a n w)
+unfolding writeFound writeTo accept
+found-outcome d a n r (Number number) e =
+    let w = writable-found d a number e in
+    cond-cases (Outcome d) (ltb (firstSector (end (numbered d number)) .0) (a .0 + n)) _ _ (λ h. refused EndOfUserArea)
+    (λ h.
+    done (gather (flushOthers d number) number n) _ _ _
+    (gather-sound (flushOthers d number) number n (others-sound d number r) (write-room d a number n r w (ltb-false _ _ h)))
+    (gather-capacity d number n))
+found-outcome d a n r Nowhere e = refused InvalidAddressForWrite
+
+pub write-outcome : (d : Disc) (a : Lba) (n : ℕ) → Ready d → Outcome d (write d a n)
+unfolding write
+write-outcome d a n r =
+    cond-cases (Outcome d) (eqb n 0) _ _ (λ e. same-outcome d noReply noPlan r)
+    (λ e. cond-cases (Outcome d) (d .finalized) _ _ (λ f. refused WriteProtected) (λ f. found-outcome d a n r (writableAt d a) refl))
+
+-- RESERVE
+split-capacity : (d : Disc) (b : ℕ) → splitTail d b .capacity ≡ d .capacity
+unfolding splitTail
+split-capacity d b = refl
+
+blocks-some : (size : ℕ) → (size ≡ 0 → ⊥) → 1 ≤ blocksFor size
+blocks-some size z = omega arith
+
+pub reserve-outcome : (d : Disc) (size : ℕ) → Ready d → Outcome d (reserve d size)
+unfolding reserve accept
+reserve-outcome d size r =
+    let s = sound-rules d (r .sound) in
+    let b = blocksFor size in
+    cond-cases (Outcome d) (d .finalized) _ _ (λ f. refused WriteProtected)
+    (λ f.
+    cond-cases (Outcome d) (eqb size 0) _ _ (λ z. refused InvalidFieldInCommand)
+    (λ z.
+    cond-cases (Outcome d) (not (hasBlankTail d)) _ _ (λ t. refused NoMoreReservations)
+    (λ t.
+    cond-cases (Outcome d) (eqb (used d) limit) _ _ (λ u. refused NoMoreReservations)
+    (λ u.
+    cond-cases (Outcome d) (leb (d .capacity) (nextFragmentStart (end (reservedAt (lastRecord d) b)) .0)) _ _ (λ h. refused EndOfUserArea)
+    (λ h.
+    done (splitTail d b) _ _ _
+    (split-sound d b s f (not-false _ t) (below-limit (used-limit d r) (eqb-false _ _ u)) (blocks-some size (eqb-false _ _ z)) (leb-false _ _ h))
+    (split-capacity d b))))))
+
+-- CLOSE 001
+append-capacity : (d : Disc) (n : ℕ) → appendTail d n .capacity ≡ d .capacity
+unfolding appendTail
+append-capacity d n =
+    cond-cases (λ (e : Disc). e .capacity ≡ d .capacity) (ltb (nextFragmentStart (end (numbered d n)) .0) (d .capacity) && ltb n limit) _ _
+    (λ t. refl) (λ t. refl)
+
+-- a disc with an incomplete fragment is not finalized
+incomplete-open : (d : Disc) (n : ℕ) → Sound d → 1 ≤ n → n ≤ used d → complete (numbered d n) ≡ false → d .finalized ≡ false
+incomplete-open d n s from to c =
+    by-cases (d .finalized) (λ f. absurd (contradiction (s .closed f (n - 1) (omega arith)) c)) (λ f. f)
+
+incomplete-outcome :
+    (d : Disc) (n : ℕ) → Ready d → 1 ≤ n → n ≤ used (flush d) → isBlank d n (numbered d n) ≡ false → complete (numbered (flush d) n) ≡ false
+    → (k : Kind) → numbered (flush d) n .kind ≡ k → Outcome d (closeIncomplete d (flush d) n k)
+unfolding closeIncomplete accept
+incomplete-outcome d n r from to b c Reserved e =
+    done (withRecord (flush d) n (filledRecord (numbered (flush d) n))) _ _ _
+    (fill-sound (flush d) n (flush-sound d r) (flush-pending d) from to) (flush-capacity d)
+incomplete-outcome d n r from to b c Appended e =
+    let s = flush-sound d r in
+    let last = appended-last (flush d) n s from to c e in
+    let g = shortenedRecord (numbered (flush d) n) in
+    done (appendTail (withRecord (flush d) n g) n) _ _ _
+    (rw (ap (λ m. appendTail (withRecord (flush d) m (shortenedRecord (numbered (flush d) m))) m) (sym last))
+    at
+    (shorten-sound (flush d) s (incomplete-open (flush d) n s from to c) (flush-pending d)
+    (λ w. flush-written d n r b (ap (λ m. numbered (flush d) m .recorded) last ∙ w))))
+    (append-capacity (withRecord (flush d) n g) n ∙ flush-capacity d)
+
+pub close-fragment-outcome : (d : Disc) (n : ℕ) → Ready d → Outcome d (closeFragment d n)
+unfolding closeFragment accept
+close-fragment-outcome d n r =
+    cond-cases (Outcome d) (not (isListed d n)) _ _ (λ l. refused InvalidFieldInCommand)
+    (λ l.
+    let k = listed-number d n (not-false _ l) in
+    cond-cases (Outcome d) (isBlank d n (numbered d n)) _ _ (λ b. refused EmptyTrack)
+    (λ b.
+    cond-cases (Outcome d) (complete (numbered (flush d) n)) _ _
+    (λ c. done (flush d) _ _ _ (flush-sound d r) (flush-capacity d))
+    (λ c. incomplete-outcome d n r (k .0) (omega (arith, k .1, flush-used d r)) b c (numbered (flush d) n .kind) refl)))
+
+-- CLOSE 010 and 110
+two-kept :
+    (d : Disc) → Ready d → (blankTailOnly d ≡ true → lastRecord d .session ≡ 1 → ⊥) → hasBlankTail (flush d) ≡ true → 2 ≤ used (flush d)
+two-kept d r n b =
+    equal-cases (used (flush d)) 1
+    (λ e. let k = only-blank d r b e in absurd (n (k .0) (k .1)))
+    (λ e. omega (arith, flush-sound d r .some))
+
+open-capacity : (k : Disc) → openSession k .capacity ≡ k .capacity
+unfolding openSession
+open-capacity k = refl
+
+pub close-session-outcome : (d : Disc) → Ready d → Outcome d (closeSession d)
+unfolding closeSession accept
+close-session-outcome d r =
+    let e = flush d in
+    let s = flush-sound d r in
+    let p = flush-pending d in
+    let k = closeTail e in
+    cond-cases (Outcome d) (d .finalized || blankTailOnly d) _ _ (λ h. same-done d r)
+    (λ h.
+    cond-cases (Outcome d) (hasIncompleteReserved e) _ _ (λ i. refused IncompleteTrackInSession)
+    (λ i.
+    cond-cases (Outcome d) (eqb (used k) limit) _ _ (λ u. refused NoMoreReservations)
+    (λ u.
+    cond-cases (Outcome d) (ltb (d .capacity) (nextSessionStart (end (lastRecord k)) .0 + 1)) _ _ (λ l. refused EndOfUserArea)
+    (λ l.
+    let c = close-tail-closed e s p i (two-kept d r (λ b q. contradiction (or-right (d .finalized) b) h)) in
+    let same = kept-capacity e ∙ flush-capacity d in
+    done (openSession k) _ _ _
+    (open-session-sound k c
+    (kept-finalized e ∙ (flush-finalized d ∙ or-false-left (d .finalized) (blankTailOnly d) h))
+    (kept-few e s p (eqb-false _ _ u))
+    (omega (arith, ltb-false (d .capacity) (nextSessionStart (end (lastRecord k)) .0 + 1) l, same)))
+    (open-capacity k ∙ same)))))
+  where
+    same-done : (d : Disc) → Ready d → Outcome d (accepted d (rise d d) noReply noPlan)
+    same-done d r = done d _ _ _ (sound-rules d (r .sound)) refl
+
+pub finalize-outcome : (d : Disc) → Ready d → Outcome d (finalize d)
+unfolding finalize accept
+finalize-outcome d r =
+    let e = flush d in
+    let s = flush-sound d r in
+    let p = flush-pending d in
+    let k = closeTail e in
+    cond-cases (Outcome d) (d .finalized) _ _ (λ h. done d _ _ _ (sound-rules d (r .sound)) refl)
+    (λ h.
+    cond-cases (Outcome d) (hasIncompleteReserved e) _ _ (λ i. refused IncompleteTrackInSession)
+    (λ i.
+    cond-cases (Outcome d) (blankTailOnly d && eqb (lastRecord d .session) 1) _ _ (λ b. refused EmptyTrack)
+    (λ b.
+    let c = close-tail-closed e s p i (two-kept d r (λ t q. contradiction (and-both t (eq-eqb _ _ q)) b)) in
+    done (finalized k) _ _ _ (finalize-sound k c (kept-pending e ∙ p)) (kept-capacity e ∙ flush-capacity d))))
+
+pub close-outcome : (d : Disc) (function n : ℕ) → Ready d → Outcome d (close d function n)
+unfolding close
+close-outcome d function n r =
+    cond-cases (Outcome d) (eqb function 0b001) _ _ (λ e. close-fragment-outcome d n r)
+    (λ e.
+    cond-cases (Outcome d) (eqb function 0b010) _ _ (λ g. close-session-outcome d r)
+    (λ g.
+    cond-cases (Outcome d) (eqb function 0b110) _ _ (λ h. finalize-outcome d r) (λ h. refused InvalidFieldInCommand)))

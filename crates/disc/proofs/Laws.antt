@@ -18,4 +18,5 @@ pub mod Close
 pub mod Session
 pub mod Keep
 pub mod Outcome
+pub mod Accepts
 pub mod Reports

@@ -4,11 +4,15 @@ use mathlib.Core.Path.{_≡_, refl}
 use mathlib.Core.Bool.{Bool, true, false}
 use mathlib.Core.List.{List, [], _∷_, _++_, map}
 use lib.ListN.{length, replicate, set}
-use Rattle.disc.specs.Types.{Reserved, Appended, Fragment, Disc}
-use Rattle.disc.specs.Answer.{sense, noSense, isRefusalSense, allowedSense}
+use Rattle.disc.specs.Types.{Reserved, Appended, Fragment, Disc, Verdict}
+use Rattle.disc.specs.Answer.{sense, noSense, number, isRefusalSense, allowedSense}
 use Rattle.disc.specs.Fragment.{fragment, unusedRecord}
-use Rattle.disc.specs.Records.{limit, listed, records, lastRecord, every}
+use Rattle.disc.specs.Records.{limit, listed, records, used, lastRecord, some, every, sumRecorded, firstOfSession}
 use Rattle.disc.specs.Sound.{usedFirst, firstAtZero, followsFrom, inOrder, endsWithin, recordedWithin, zeroedWithin, incompleteLast, tailLast, tailOrFull, pendingNamed, finalizedComplete, sound, allowedState}
+use Rattle.disc.specs.Verdict.{accepted, accept, refuse}
+use Rattle.disc.specs.Flush.{flush, flushPlan, flushCount, synchronizeCache}
+use Rattle.disc.specs.Reserve.{splitTail, reserve}
+use Rattle.disc.specs.Close.{appendTail, closeIncomplete, closeFragment, closeTail, openSession, closeSession}
 
 -- every rule of L3 by itself, in the order of `sound`, and last the sense
 unfoldable pub rules : Disc → List Bool
@@ -105,3 +109,24 @@ unfolding
     allowedState sound column listed every usedFirst firstAtZero followsFrom inOrder endsWithin recordedWithin zeroedWithin
     incompleteLast tailLast tailOrFull pendingNamed finalizedComplete allowedSense isRefusalSense
 sound-unreached = refl
+
+-- they have their one outcome like any other state: the answer's number, the blocks recorded and the records in use of
+-- CLOSE 010, RESERVE 16, CLOSE 001 of the last record and SYNCHRONIZE CACHE
+unfoldable pub outcome : Verdict → List ℕ
+outcome v = number (v .answer) ∷ v .recorded ∷ used (v .disc) ∷ v .disc .pending ∷ []
+
+unfoldable pub outcomes : Disc → List (List ℕ)
+outcomes d =
+    outcome (closeSession d) ∷ outcome (reserve d 16) ∷ outcome (closeFragment d (used d)) ∷ outcome (synchronizeCache d) ∷ []
+
+pub outcomes-full : outcomes fullOfReserved ≡ (0x057203 ∷ 0 ∷ 64 ∷ 0 ∷ []) ∷ (0x057205 ∷ 0 ∷ 64 ∷ 0 ∷ []) ∷ (0x057204 ∷ 0 ∷ 64 ∷ 0 ∷ []) ∷ (0 ∷ 0 ∷ 64 ∷ 0 ∷ []) ∷ []
+unfolding
+    outcomes outcome column listed some sumRecorded firstOfSession accepted accept refuse flush flushPlan flushCount synchronizeCache
+    reserve splitTail appendTail closeIncomplete closeFragment closeTail openSession closeSession
+outcomes-full = refl
+
+pub outcomes-end : outcomes reservedToTheEnd ≡ (0x057203 ∷ 0 ∷ 1 ∷ 3 ∷ []) ∷ (0x057205 ∷ 0 ∷ 1 ∷ 3 ∷ []) ∷ (0 ∷ 298 ∷ 1 ∷ 0 ∷ []) ∷ (0 ∷ 1 ∷ 1 ∷ 0 ∷ []) ∷ []
+unfolding
+    outcomes outcome column listed some sumRecorded firstOfSession accepted accept refuse flush flushPlan flushCount synchronizeCache
+    reserve splitTail appendTail closeIncomplete closeFragment closeTail openSession closeSession
+outcomes-end = refl

@@ -8,7 +8,6 @@ pub mod Records
 pub mod Sound
 pub mod Check
 pub mod Rules
-pub mod Examples
 pub mod Blank
 pub mod Ready
 pub mod Lengths
@@ -21,3 +20,4 @@ pub mod Close
 pub mod Reports
 pub mod Judge
 pub mod Shift
+pub mod Examples

@@ -28,7 +28,7 @@ use Rattle.disc.proofs.Laws.Reserve.{blank-recorded}
 use Rattle.disc.proofs.Laws.Flush.{owner, flush-used, flush-none, flush-records}
 use Rattle.disc.proofs.Laws.Write.{others-numbered, others-pending, others-used, others-alone, place}
 use Rattle.disc.proofs.Laws.Session.{kept-blank, kept-tail, kept-same, tail-written}
-use Rattle.disc.proofs.Laws.Order.{Ordered, sound-ordered, open-sound, Replaces, replace-last, drop-last, Extends, extend-sound, last-used, drop-used}
+use Rattle.disc.proofs.Laws.Order.{Ordered, sound-ordered, open-sound, Replaces, replace-last, drop-last, Extends, extend-sound, extended-last, last-used, drop-used}
 
 -- a tail from a block below the capacity is one, and reaches it
 module _ (c s : ℕ) (b : Block) (h : b .0 < c) where
@@ -130,47 +130,81 @@ replaced-is d s g l =
     (u, ap (λ j. getD (set (d .fragments) (n - 1) g) (j - 1) unusedRecord) u ∙ getD-set-same (d .fragments) (n - 1) g unusedRecord slot)
 
 -- CLOSE 001 of the tail
-pub shorten-sound :
-    (d : Disc) → Sound d → d .finalized ≡ false → d .pending ≡ 0 → (lastRecord d .recorded ≡ 0 → ⊥)
-    → Sound (appendTail (withRecord d (used d) (shortenedRecord (lastRecord d))) (used d))
-unfolding appendTail
-shorten-sound d s f p w =
-    let n = used d in
-    let g = shortenedRecord (lastRecord d) in
-    let e = withRecord d n g in
-    let r = shorten-replaces d s p w in
-    let o = replace-last d s g r in
-    let k = replaced-is d s g w in
-    let same : numbered e n ≡ g = ap (λ j. numbered e j) (sym (k .0)) ∙ k .1 in
-    let start = nextFragmentStart (end (numbered e n)) in
-    let m = tailFrom (d .capacity) (numbered e n .session) start in
-    by-cases (ltb (start .0) (d .capacity) && ltb n limit)
-    (λ t.
-    let room = ltb-true (start .0) (d .capacity) (and-left (ltb (start .0) (d .capacity)) (ltb n limit) t) in
-    let free = ltb-true n limit (and-right (ltb (start .0) (d .capacity)) (ltb n limit) t) in
-    let x : Extends e m =
-    record {
-      free = omega (arith, k .0);
-      follows = rw (ap (λ j. numbered e j) (k .0)) (inl (refl, refl));
-      ends = tail-from-end (d .capacity) (numbered e n .session) start room;
-      recorded = refl;
-      zeroed = refl;
-      tail = tail-from-tail (d .capacity) (numbered e n .session) start room;
-      tailless = ap isTail (k .1) ∙ r .tailless;
-      closed = λ q. absurd (q (ap (λ j. numbered e j .session) (sym (k .0))));
-    } in
-    rw t (rw (ap (λ j. withRecord e (j + 1) m) (k .0)) at (extend-sound e o m x f)))
-    (λ t.
-    rw t
-    (open-sound e o f
-    (λ a.
-    equal-cases n limit
-    (λ q. inl (k .0 ∙ q))
-    (λ q.
-    let few = below-limit (omega (arith, listed-le (d .fragments), s .array)) q in
-    by-cases (ltb (start .0) (d .capacity))
-    (λ y. absurd (contradiction (and-both y (lt-ltb n limit few)) t))
-    (λ y. inr (let past = ltb-false (start .0) (d .capacity) y in omega (arith, ap (λ h. end h .0) (ap (λ j. numbered e j) (k .0)))))))))
+module _ (d : Disc) (s : Sound d) (p : d .pending ≡ 0) (w : lastRecord d .recorded ≡ 0 → ⊥) where
+  -- the disc with its tail shortened, and the record behind which a new tail may start
+  abbrev shortened : Disc
+  shortened = withRecord d (used d) (shortenedRecord (lastRecord d))
+
+  abbrev closedTail : Fragment
+  closedTail = numbered shortened (used d)
+
+  abbrev newTail : Fragment
+  newTail = tailFrom (d .capacity) (closedTail .session) (nextFragmentStart (end closedTail))
+
+  shortened-used : used shortened ≡ used d
+  shortened-used = replaced-is d s (shortenedRecord (lastRecord d)) w .0
+
+  shortened-tailless : hasTail shortened ≡ false
+  shortened-tailless =
+      ap isTail (replaced-is d s (shortenedRecord (lastRecord d)) w .1) ∙ shorten-replaces d s p w .tailless
+
+  shorten-extends : nextFragmentStart (end closedTail) .0 < d .capacity → used d < limit → Extends shortened newTail
+  shorten-extends room free =
+      record {
+        free = omega (arith, shortened-used);
+        follows = rw (ap (λ j. numbered shortened j) shortened-used) (inl (refl, refl));
+        ends = tail-from-end (d .capacity) (closedTail .session) (nextFragmentStart (end closedTail)) room;
+        recorded = refl;
+        zeroed = refl;
+        tail = tail-from-tail (d .capacity) (closedTail .session) (nextFragmentStart (end closedTail)) room;
+        tailless = shortened-tailless;
+        closed = λ q. absurd (q (ap (λ j. numbered shortened j .session) (sym shortened-used)));
+      }
+
+  -- room for a new tail: a block behind the dividing one, and a record
+  abbrev roomForTail : Bool
+  roomForTail = ltb (nextFragmentStart (end closedTail) .0) (d .capacity) && ltb (used d) limit
+
+  shortened-ordered : Ordered shortened
+  shortened-ordered = replace-last d s (shortenedRecord (lastRecord d)) (shorten-replaces d s p w)
+
+  room-extends : roomForTail ≡ true → Extends shortened newTail
+  room-extends t =
+      shorten-extends
+      (ltb-true _ _ (and-left (ltb (nextFragmentStart (end closedTail) .0) (d .capacity)) (ltb (used d) limit) t))
+      (ltb-true _ _ (and-right (ltb (nextFragmentStart (end closedTail) .0) (d .capacity)) (ltb (used d) limit) t))
+
+  pub shorten-sound : d .finalized ≡ false → Sound (appendTail shortened (used d))
+  unfolding appendTail
+  shorten-sound f =
+      by-cases roomForTail
+      (λ t. rw t (rw (ap (λ j. withRecord shortened (j + 1) newTail) shortened-used) at (extend-sound shortened shortened-ordered newTail (room-extends t) f)))
+      (λ t.
+      rw t
+      (open-sound shortened shortened-ordered f
+      (λ a.
+      equal-cases (used d) limit
+      (λ q. inl (shortened-used ∙ q))
+      (λ q.
+      let few = below-limit (omega (arith, listed-le (d .fragments), s .array)) q in
+      by-cases (ltb (nextFragmentStart (end closedTail) .0) (d .capacity))
+      (λ y. absurd (contradiction (and-both y (lt-ltb (used d) limit few)) t))
+      (λ y.
+      inr
+      (let past = ltb-false (nextFragmentStart (end closedTail) .0) (d .capacity) y in
+      omega (arith, ap (λ h. end h .0) (ap (λ j. numbered shortened j) shortened-used))))))))
+
+  -- 001 opens a new tail exactly where there is room for one
+  pub new-tail : hasTail (appendTail shortened (used d)) ≡ roomForTail
+  unfolding appendTail
+  new-tail =
+      by-cases roomForTail
+      (λ t.
+      let x = room-extends t in
+      rw t
+      (ap (λ j. isTail (lastRecord (withRecord shortened (j + 1) newTail))) (sym shortened-used)
+      ∙ (ap isTail (extended-last shortened shortened-ordered newTail x) ∙ x .tail)))
+      (λ t. rw t shortened-tailless)
 
 -- no reserved fragment is incomplete
 some-at : (p : Fragment → Bool) (fs : List Fragment) (i : ℕ) → some p fs ≡ false → i < length fs → p (getD fs i unusedRecord) ≡ false

@@ -281,7 +281,7 @@ module _ (d : Disc) (o : Ordered d) (t : Fragment) (x : Extends d t) where
   tail-length z =
       contradiction (eq-eqb (t .recorded) (t .length) (x .recorded ∙ sym z)) (not-true _ (and-right (not (isReserved (t .kind))) (not (complete t)) (x .tail)))
 
-  extended-used : used (withRecord d (used d + 1) t) ≡ suc (used d)
+  pub extended-used : used (withRecord d (used d + 1) t) ≡ suc (used d)
   extended-used =
       listed-count (withRecord d (used d + 1) t .fragments) (suc (used d))
       (λ i h.
@@ -291,7 +291,7 @@ module _ (d : Disc) (o : Ordered d) (t : Fragment) (x : Extends d t) where
       below-next : {i : ℕ} → i < suc (used d) → (i ≡ used d → ⊥) → i < used d
       below-next h n = omega arith
 
-  extended-last : lastRecord (withRecord d (used d + 1) t) ≡ t
+  pub extended-last : lastRecord (withRecord d (used d + 1) t) ≡ t
   extended-last =
       let index : used (withRecord d (used d + 1) t) - 1 ≡ used d = omega (arith, extended-used) in
       ap (λ j. at (withRecord d (used d + 1) t) j) index ∙ next-place (used d) (λ f. f ≡ t) (λ q. refl) (λ n. absurd (n refl))

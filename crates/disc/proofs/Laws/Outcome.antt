@@ -5,10 +5,11 @@ use mathlib.Core.Bool.{true, false, not, _&&_, _||_}
 use native.Mathlib.Omega.{arith}
 use borrow.Author.Tests.{eq-eqb, eqb-false, leb-false, ltb-false, not-false}
 use lib.Dec.{eqb, leb, ltb}
-use Rattle.disc.specs.Types.{Lba, Kind, Reserved, Appended, Disc, Found, Number, Nowhere, Reply, Plan, Verdict, DriveRefusal, Nothing, WriteProtected, InvalidFieldInCommand, InvalidAddressForWrite, IncompleteTrackInSession, EmptyTrack, NoMoreReservations, EndOfUserArea}
+use Rattle.disc.specs.Types.{Sense, Accepted, Drive, Lba, Kind, Reserved, Appended, Disc, Found, Number, Nowhere, Reply, Plan, Verdict, DriveRefusal, Nothing, WriteProtected, InvalidFieldInCommand, InvalidAddressForWrite, IncompleteTrackInSession, EmptyTrack, NoMoreReservations, EndOfUserArea}
 use Rattle.disc.specs.Address.{firstSector, blocksFor}
+use Rattle.disc.specs.Answer.{noSense, refusalSense}
 use Rattle.disc.specs.Fragment.{end, complete, isBlank, nextFragmentStart, nextSessionStart}
-use Rattle.disc.specs.Records.{limit, used, isListed, numbered, lastRecord, withRecord, hasBlankTail, writableAt, blankTailOnly}
+use Rattle.disc.specs.Records.{limit, used, isListed, numbered, lastRecord, withRecord, hasBlankTail, writableAt, blankTailOnly, withSense}
 use Rattle.disc.specs.Rules.{Sound}
 use Rattle.disc.specs.Ready.{Ready}
 use Rattle.disc.specs.Verdict.{rise, accepted, accept, refuse, noReply, noPlan, plan}
@@ -19,7 +20,7 @@ use Rattle.disc.specs.Close.{filledRecord, shortenedRecord, appendTail, 
 use Rattle.disc.proofs.Laws.Bool.{and-both, by-cases, cond-cases, or-right, or-false-left, contradiction}
 use Rattle.disc.proofs.Laws.Numbers.{equal-cases, below-limit}
 use Rattle.disc.proofs.Laws.Records.{listed-number}
-use Rattle.disc.proofs.Laws.Rules.{sound-rules}
+use Rattle.disc.proofs.Laws.Rules.{sound-rules, rules-sound}
 use Rattle.disc.proofs.Laws.Flush.{used-limit, flush-sound, flush-capacity, flush-finalized, flush-pending, flush-used, flush-written}
 use Rattle.disc.proofs.Laws.Write.{writable-found, others-sound}
 use Rattle.disc.proofs.Laws.Close.{appended-last}
@@ -115,8 +116,8 @@ incomplete-outcome d n r from to b c Appended e =
     done (appendTail (withRecord (flush d) n g) n) _ _ _
     (rw (ap (λ m. appendTail (withRecord (flush d) m (shortenedRecord (numbered (flush d) m))) m) (sym last))
     at
-    (shorten-sound (flush d) s (incomplete-open (flush d) n s from to c) (flush-pending d)
-    (λ w. flush-written d n r b (ap (λ m. numbered (flush d) m .recorded) last ∙ w))))
+    (shorten-sound (flush d) s (flush-pending d)
+    (λ w. flush-written d n r b (ap (λ m. numbered (flush d) m .recorded) last ∙ w)) (incomplete-open (flush d) n s from to c)))
     (append-capacity (withRecord (flush d) n g) n ∙ flush-capacity d)
 
 pub close-fragment-outcome : (d : Disc) (n : ℕ) → Ready d → Outcome d (closeFragment d n)
@@ -194,3 +195,50 @@ close-outcome d function n r =
     cond-cases (Outcome d) (eqb function 0b010) _ _ (λ g. close-session-outcome d r)
     (λ g.
     cond-cases (Outcome d) (eqb function 0b110) _ _ (λ h. finalize-outcome d r) (λ h. refused InvalidFieldInCommand)))
+
+-- a sound list stays sound with another sense
+pub sense-sound : (d : Disc) (q : Sense) → Sound d → Sound (withSense d q)
+sense-sound d q s =
+    record {
+      array = s .array;
+      some = s .some;
+      unused = s .unused;
+      firstSession = s .firstSession;
+      firstStart = s .firstStart;
+      next = s .next;
+      ends = s .ends;
+      recorded = s .recorded;
+      zeroed = s .zeroed;
+      incomplete = s .incomplete;
+      tail = s .tail;
+      full = s .full;
+      few = s .few;
+      none = s .none;
+      owned = λ z. let o = s .owned z in record { number = o .number; listed = o .listed; incomplete = o .incomplete };
+      closed = s .closed;
+      settled = s .settled;
+    }
+
+-- so every command keeps the list sound and the capacity
+pub outcome-ready : (d : Disc) (v : Verdict) → Ready d → Outcome d v → Ready (v .disc)
+unfolding accepted refuse
+outcome-ready d v r (done after n q p s c) =
+    record { sound = rules-sound (withSense after noSense) (sense-sound after noSense s); range = rw c (r .range) }
+outcome-ready d v r (refused q) =
+    record { sound = rules-sound (withSense d (refusalSense q)) (sense-sound d (refusalSense q) (sound-rules d (r .sound))); range = r .range }
+
+pub outcome-capacity : (d : Disc) (v : Verdict) → Outcome d v → v .disc .capacity ≡ d .capacity
+unfolding accepted refuse
+outcome-capacity d v (done after n q p s c) = c
+outcome-capacity d v (refused q) = refl
+
+-- an accepted command clears the sense, a refused one changes the sense alone
+pub outcome-accepted : (d : Disc) (v : Verdict) → Outcome d v → v .answer ≡ Accepted → v .disc .sense ≡ noSense
+unfolding accepted refuse
+outcome-accepted d v (done after n q p s c) e = refl
+outcome-accepted d v (refused q) e = absurd (let z : _≡_ {A = ℕ} 0 1 = cc in omega arith)
+
+pub outcome-refused : (d : Disc) (v : Verdict) (q : DriveRefusal) → Outcome d v → v .answer ≡ Drive q → v ≡ refuse d q
+unfolding accepted refuse
+outcome-refused d v q (done after n x p s c) e = absurd (let z : _≡_ {A = ℕ} 0 1 = cc in omega arith)
+outcome-refused d v q (refused x) e = let same : x ≡ q = cc in rw same

@@ -10,3 +10,5 @@ pub mod Blank
 pub mod Lengths
 pub mod Verdict
 pub mod Reports
+pub mod Read
+pub mod Run

@@ -9,7 +9,9 @@ mod command;
 mod find;
 mod fragment;
 mod lengths;
+mod read;
 mod reports;
+mod run;
 mod state;
 mod verdict;
 

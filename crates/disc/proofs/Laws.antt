@@ -12,3 +12,4 @@ pub mod Verdict
 pub mod Reports
 pub mod Read
 pub mod Run
+pub mod Sends

@@ -1,5 +1,3 @@
-use Rattle.disc.specs.Run.{passes, holdsRun, served}
-use Rattle.disc.specs.Read.{read}
 use borrow.Author.Needs.{needs}
 use Rattle.disc.proofs.fragment.Fragment.holds_run.Statement.{statement}
 use Rattle.disc.proofs.fragment.Fragment.holds_run.Tie as tie
@@ -14,7 +12,6 @@ passes-requires : tie.Need-passes-requires
 passes-requires c κs = search needs
 
 returns : tie.Need-returns
-unfolding read passes holdsRun served
 returns c = rw (c .passes .ensures, c .before .recorded-end .ensures, c .before .before .before .before .first-sector .ensures)
 
 pub holds-run-spec : {M : Type 1} → statement M

@@ -1,9 +1,7 @@
 use mathlib.Core.Bool.{true, false}
-use Rattle.disc.specs.Run.{passes}
-use Rattle.disc.specs.Read.{read}
+use Rattle.disc.specs.Read.{allReadable, read}
 use borrow.Author.Tests.{eq-eqb, ne-eqb}
 use mathlib.Core.Path.{_≡_, sym, _∙_}
-use Rattle.disc.specs.Read.{allReadable}
 use Rattle.disc.proofs.Laws.Rules.{sound-rules}
 use Rattle.disc.proofs.Laws.Read.{run-test}
 use Rattle.disc.proofs.Laws.Verdict.{accept-same}
@@ -47,11 +45,13 @@ accepted-requires c κs = search needs
 returns-3 : tie.Need-returns-3
 unfolding read
 returns-3 c =
-    let d = c .before .before .before .before .before .before .before .before .args .self in
-    let n = c .before .before .before .before .before .before .before .before .args .sectors in
+    let start = c .before .before .before .before .before .before .before .before in
+    let d = start .args .self in
+    let a = start .args .address in
+    let n = start .args .sectors in
     let some-sectors = c .before .before .before .before .before .before .before .if1 .left in
-    let r : allReadable d (c .before .before .before .before .before .before .before .before .args .address) n ≡ true =
-    sym (run-test d (sound-rules d (c .before .before .before .before .before .before .before .before .pre .sound)) (c .before .before .before .before .before .before .before .before .args .address) n (omega arith)) ∙ sym (c .before .before .before .holds-run .ensures) ∙ c .before .before .if3 .taken in
+    let r : allReadable d a n ≡ true =
+    sym (run-test d (sound-rules d (start .pre .sound)) a n (omega arith)) ∙ sym (c .before .before .before .holds-run .ensures) ∙ c .before .before .if3 .taken in
     simp (c .accepted .ensures, c .before .none2 .ensures, r, c .before .before .before .before .if2 .left, ← c .before .before .before .before .before .passes .ensures, ← c .before .before .before .before .before .before .sectors-in .ensures, ne-eqb _ _ some-sectors) (accept-same _ _ _)
 
 refused-requires-2 : tie.Need-refused-requires-2
@@ -60,11 +60,13 @@ refused-requires-2 c κs = search needs
 returns-4 : tie.Need-returns-4
 unfolding read
 returns-4 c =
-    let d = c .before .before .before .before .before .before .before .args .self in
-    let n = c .before .before .before .before .before .before .before .args .sectors in
+    let start = c .before .before .before .before .before .before .before in
+    let d = start .args .self in
+    let a = start .args .address in
+    let n = start .args .sectors in
     let some-sectors = c .before .before .before .before .before .before .if1 .left in
-    let r : allReadable d (c .before .before .before .before .before .before .before .args .address) n ≡ false =
-    sym (run-test d (sound-rules d (c .before .before .before .before .before .before .before .pre .sound)) (c .before .before .before .before .before .before .before .args .address) n (omega arith)) ∙ sym (c .before .before .holds-run .ensures) ∙ c .before .if3 .left in
+    let r : allReadable d a n ≡ false =
+    sym (run-test d (sound-rules d (start .pre .sound)) a n (omega arith)) ∙ sym (c .before .before .holds-run .ensures) ∙ c .before .if3 .left in
     simp (c .refused2 .ensures, r, c .before .before .before .if2 .left, ← c .before .before .before .before .passes .ensures, ← c .before .before .before .before .before .sectors-in .ensures, ne-eqb _ _ some-sectors)
 
 pub read-spec : {M : Type 1} → statement M

@@ -18,10 +18,11 @@ enum-known-command c = search needs
 
 run-requires : tie.Need-run-requires
 run-requires c κs =
-    let b = length (c .before .before .before .before .before .before .before .before .args .block .now) in
-    let m = length (c .before .before .before .before .before .before .before .before .args .medium .now) in
-    let e : served (c .before .before .before .before .before .before .before .before .args .self) b m ≡ true = sym (c .before .before .before .before .before .serves .ensures) ∙ c .before .before .before .before .if1 .taken in
-    (served-ready (c .before .before .before .before .before .before .before .before .args .self) b m e, served-medium (c .before .before .before .before .before .before .before .before .args .self) b m e)
+    let start = c .before .before .before .before .before .before .before .before .args in
+    let b = length (start .block .now) in
+    let m = length (start .medium .now) in
+    let e : served (start .self) b m ≡ true = sym (c .before .before .before .before .before .serves .ensures) ∙ c .before .before .before .before .if1 .taken in
+    (served-ready (start .self) b m e, served-medium (start .self) b m e)
 
 sub-result : tie.Need-sub-result
 sub-result c = search needs

@@ -16,13 +16,14 @@ enum-known-transfer c = search needs
 
 stretch-requires : tie.Need-stretch-requires
 stretch-requires c κs =
-    let d = c .before .before .before .before .before .before .args .self in
-    let a = c .before .before .before .before .before .before .args .address in
-    let n = c .before .before .before .before .before .before .args .sectors in
+    let start = c .before .before .before .before .before .before in
+    let d = start .args .self in
+    let a = start .args .address in
+    let n = start .args .sectors in
     let b = c .before .transfer .given .0 .0 in
     let m = c .before .transfer .given .0 .1 .0 in
     let e : read d a n .plan .transfer ≡ Send b m = rw (← c .before .before .before .before .read .ensures) (c .before .transfer .given .1) in
-    omega (arith, c .before .before .before .before .before .before .pre .1, sends-within d a b n m e)
+    omega (arith, start .pre .1, sends-within d a b n m e)
 
 sub-result : tie.Need-sub-result
 sub-result c = search needs

@@ -1,5 +1,3 @@
-use Rattle.disc.specs.Run.{passes, holdsRun, served}
-use Rattle.disc.specs.Read.{read}
 use borrow.Author.Needs.{needs}
 use Rattle.disc.proofs.state.Disc.serves.Statement.{statement}
 use Rattle.disc.proofs.state.Disc.serves.Tie as tie
@@ -17,7 +15,6 @@ is-allowed-requires : tie.Need-is-allowed-requires
 is-allowed-requires c κs = search needs
 
 returns : tie.Need-returns
-unfolding read passes holdsRun served
 returns c = rw (c .is-allowed .ensures, c .before .in-range .ensures)
 
 pub serves-spec : {M : Type 1} → statement M

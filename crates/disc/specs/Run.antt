@@ -48,7 +48,8 @@ sentBy d (ReadDiscInformation t n) medium = []
 sentBy d (ReadTrackInformation t m n) medium = []
 sentBy d Unlisted medium = []
 
--- what L1 to L3 test: a block of twelve bytes, a capacity in range with a medium of so many whole blocks, an allowed state
+-- what L1 to L3 test of block, medium and state: twelve bytes, a capacity in range with a medium of so many whole blocks, a state
+-- that is allowed
 abbrev pub served : Disc → ℕ → ℕ → Bool
 served d blockLength mediumLength =
     eqb blockLength 12 && inRange (d .capacity) && eqb mediumLength (32768 * d .capacity) && allowedState d

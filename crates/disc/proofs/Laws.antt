@@ -20,3 +20,6 @@ pub mod Keep
 pub mod Outcome
 pub mod Accepts
 pub mod Reports
+pub mod Read
+pub mod Run
+pub mod Sends

@@ -14,6 +14,7 @@ pub mod Lengths
 pub mod Verdict
 pub mod Flush
 pub mod Read
+pub mod Run
 pub mod Write
 pub mod Reserve
 pub mod Close

@@ -1,5 +1,5 @@
 -- Every change that a command makes to the list keeps it sound.
-use Prim.Native.Nat.{ℕ, zero, suc, _+_, _-_, _*_, _/_, _%_, _≤_, _<_}
+use Prim.Native.Nat.{ℕ, suc, _+_, _-_, _*_, _/_, _%_, _≤_, _<_}
 use mathlib.Core.Path.{_≡_, refl, sym, _∙_, ap}
 use mathlib.Core.Bool.{Bool, true, false, not, _&&_, and-false as and-zero}
 use mathlib.Core.List.{List, [], _∷_}
@@ -19,9 +19,9 @@ use Rattle.disc.specs.Flush.{flush}
 use Rattle.disc.specs.Write.{flushOthers, grownRecord, gather, Writable}
 use Rattle.disc.specs.Reserve.{reservedAt, splitTail}
 use Rattle.disc.specs.Close.{filledRecord, shortenedRecord, appendTail, hasIncompleteReserved, closeTail, openSession, finalized}
-use Rattle.disc.proofs.Laws.Bool.{and-left, and-right, and-both, or-left, or-right, by-cases, contradiction, cond-yes, cond-no}
+use Rattle.disc.proofs.Laws.Bool.{and-left, and-right, and-both, by-cases, contradiction, cond-yes, cond-no}
 use Rattle.disc.proofs.Laws.Numbers.{equal-cases, below-limit}
-use Rattle.disc.proofs.Laws.Records.{listed-le, listed-at}
+use Rattle.disc.proofs.Laws.Records.{listed-le, listed-at, at-some}
 use Rattle.disc.proofs.Laws.Rules.{sound-rules}
 use Rattle.disc.proofs.Laws.Grow.{Grown, GrownRecord, set-grown, grown-used, grown-sound}
 use Rattle.disc.proofs.Laws.Reserve.{blank-recorded}
@@ -208,11 +208,8 @@ module _ (d : Disc) (s : Sound d) (p : d .pending ≡ 0) (w : lastRecord d .reco
 
 -- no reserved fragment is incomplete
 some-at : (p : Fragment → Bool) (fs : List Fragment) (i : ℕ) → some p fs ≡ false → i < length fs → p (getD fs i unusedRecord) ≡ false
-unfolding some
-some-at p [] i e h = absurd (omega arith)
-some-at p (f ∷ fs) zero e h = by-cases (p f) (λ t. absurd (contradiction (or-left (some p fs) t) e)) (λ t. t)
-some-at p (f ∷ fs) (suc i) e h =
-    some-at p fs i (by-cases (some p fs) (λ t. absurd (contradiction (or-right (p f) t) e)) (λ t. t)) (omega arith)
+some-at p fs i e h =
+    by-cases (p (getD fs i unusedRecord)) (λ t. absurd (contradiction (at-some p fs i unusedRecord h t) e)) (λ t. t)
 
 reserved-complete : (d : Disc) (i : ℕ) → hasIncompleteReserved d ≡ false → i < used d → isIncompleteReserved (at d i) ≡ false
 reserved-complete d i e h = rw (listed-at (d .fragments) i unusedRecord h) at (some-at isIncompleteReserved (records d) i e h)

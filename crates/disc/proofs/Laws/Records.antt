@@ -12,7 +12,7 @@ use lib.Seq.{drop-cons}
 use Rattle.disc.specs.Types.{Fragment, Disc, Number, Nowhere}
 use Rattle.disc.specs.Fragment.{unusedRecord, lastRecorded}
 use Rattle.disc.specs.Records.{listed, used, isListed, every, some, find, sumRecorded, lastReadable, firstOfSession}
-use Rattle.disc.proofs.Laws.Bool.{and-left, and-right, and-both, by-cases}
+use Rattle.disc.proofs.Laws.Bool.{and-left, and-right, and-both, or-left, or-right, or-cases, contradiction, by-cases}
 
 -- the length of an array of structs, as what owning it tells has it
 pub array-length : (X Y : Type 0) (f : X → Y) (l : List X) (n : ℕ) → length (map f l) ≡ n → length l ≡ n
@@ -229,3 +229,19 @@ module _ (p : Fragment → Bool) (fs : List Fragment) (i : ℕ) (d : Fragment) (
 pub some-end : (p : Fragment → Bool) (fs : List Fragment) (i : ℕ) → length fs ≤ i → some p (listed (drop i fs)) ≡ false
 unfolding some
 some-end p fs i h = rw (listed-drop-end fs i h)
+
+-- a test that some record passes, at an index and back
+pub some-cases :
+    {P : Type 0} (p : Fragment → Bool) (fs : List Fragment) (d : Fragment)
+    → ((i : ℕ) → i < length fs → p (getD fs i d) ≡ true → P) → some p fs ≡ true → P
+unfolding some
+some-cases p [] d k e = absurd (contradiction e refl)
+some-cases p (f ∷ fs) d k e =
+    or-cases (p f) (some p fs) (λ h. k 0 (omega arith) h) (λ h. some-cases p fs d (λ i l t. k (suc i) (omega arith) t) h) e
+
+pub at-some :
+    (p : Fragment → Bool) (fs : List Fragment) (i : ℕ) (d : Fragment) → i < length fs → p (getD fs i d) ≡ true → some p fs ≡ true
+unfolding some
+at-some p [] i d h e = absurd (omega arith)
+at-some p (f ∷ fs) zero d h e = or-left (some p fs) e
+at-some p (f ∷ fs) (suc i) d h e = or-right (p f) (at-some p fs i d (omega arith) e)

@@ -1,0 +1,171 @@
+-- A run of readable sectors lies in the recorded blocks of one fragment.
+use Prim.Native.Nat.{ℕ, zero, suc, _+_, _-_, _≤_, _<_}
+use mathlib.Core.Path.{_≡_, refl}
+use mathlib.Core.Bool.{true, not}
+use native.Mathlib.Omega.{arith}
+use borrow.Author.Tests.{leb-true, le-leb, ltb-true, ltb-false, lt-ltb, le-ltb, not-true}
+use lib.Dec.{eqb, leb, ltb}
+use Rattle.disc.specs.Types.{Lba, Fragment, Disc, Nothing, Send}
+use Rattle.disc.specs.Address.{lba, sectorsIn, firstSector}
+use Rattle.disc.specs.Fragment.{unusedRecord, firstUnrecorded, holdsRecorded}
+use Rattle.disc.specs.Records.{some, records, used, readable}
+use Rattle.disc.specs.Rules.{at, Sound}
+use Rattle.disc.specs.Verdict.{accepted, accept, refuse}
+use Rattle.disc.specs.Read.{allReadable, read}
+use Rattle.disc.specs.Run.{passes, holdsRun}
+use Rattle.disc.proofs.Laws.Bool.{and-left, and-right, and-both, by-cases, same-test}
+use Rattle.disc.proofs.Laws.Numbers.{order-cases}
+use Rattle.disc.proofs.Laws.Records.{listed-at, some-cases, at-some}
+use Rattle.disc.proofs.Laws.Sound.{starts-rise}
+
+-- a sector is readable where a record in use holds it in its recorded blocks
+module _ (d : Disc) (a : Lba) where
+  pub readable-cases :
+      {P : Type 0} → ((i : ℕ) → i < used d → holdsRecorded a (at d i) ≡ true → P) → readable d a ≡ true → P
+  readable-cases k e =
+      some-cases (holdsRecorded a) (records d) unusedRecord
+      (λ i l t. k i l (rw (listed-at (d .fragments) i unusedRecord l) at t)) e
+
+  pub at-readable : (i : ℕ) → i < used d → holdsRecorded a (at d i) ≡ true → readable d a ≡ true
+  at-readable i l t =
+      at-some (holdsRecorded a) (records d) i unusedRecord l (rw (listed-at (d .fragments) i unusedRecord l) t)
+
+-- the test, as two bounds
+module _ (a : Lba) (f : Fragment) where
+  pub recorded-from : holdsRecorded a f ≡ true → firstSector (f .start) .0 ≤ a .0
+  recorded-from e =
+      leb-true _ _ (and-left (leb (firstSector (f .start) .0) (a .0)) (ltb (a .0) (firstSector (firstUnrecorded f) .0)) e)
+
+  pub recorded-below : holdsRecorded a f ≡ true → a .0 < firstSector (firstUnrecorded f) .0
+  recorded-below e =
+      ltb-true _ _ (and-right (leb (firstSector (f .start) .0) (a .0)) (ltb (a .0) (firstSector (firstUnrecorded f) .0)) e)
+
+  pub recorded-between :
+      firstSector (f .start) .0 ≤ a .0 → a .0 < firstSector (firstUnrecorded f) .0 → holdsRecorded a f ≡ true
+  recorded-between h k = and-both (le-leb _ _ h) (lt-ltb _ _ k)
+
+module _ (a : Lba) (n : ℕ) (f : Fragment) where
+  pub run-from : holdsRun a n f ≡ true → firstSector (f .start) .0 ≤ a .0
+  run-from e =
+      leb-true _ _ (and-left (leb (firstSector (f .start) .0) (a .0)) (not (passes a n (firstSector (firstUnrecorded f)))) e)
+
+  pub run-to : holdsRun a n f ≡ true → a .0 + n ≤ firstSector (firstUnrecorded f) .0
+  run-to e =
+      ltb-false _ _
+      (not-true _ (and-right (leb (firstSector (f .start) .0) (a .0)) (not (passes a n (firstSector (firstUnrecorded f)))) e))
+
+  pub run-between :
+      firstSector (f .start) .0 ≤ a .0 → a .0 + n ≤ firstSector (firstUnrecorded f) .0 → holdsRun a n f ≡ true
+  run-between h k = and-both (le-leb _ _ h) (rw (le-ltb _ _ k))
+
+-- every sector of a run, by its place in the run and back
+pub all-readable-at :
+    (d : Disc) (a : Lba) (n : ℕ) → allReadable d a n ≡ true → (k : ℕ) → k < n → readable d (lba (a .0 + k)) ≡ true
+unfolding allReadable
+all-readable-at d a zero e k h = absurd (omega arith)
+all-readable-at d a (suc n) e zero h =
+    let z : a .0 + 0 ≡ a .0 = omega arith in
+    rw z (and-left (readable d a) (allReadable d (lba (a .0 + 1)) n) e)
+all-readable-at d a (suc n) e (suc k) h =
+    let z : a .0 + suc k ≡ a .0 + 1 + k = omega arith in
+    rw z (all-readable-at d (lba (a .0 + 1)) n (and-right (readable d a) (allReadable d (lba (a .0 + 1)) n) e) k (omega arith))
+
+pub at-all-readable :
+    (d : Disc) (a : Lba) (n : ℕ) → ((k : ℕ) → k < n → readable d (lba (a .0 + k)) ≡ true) → allReadable d a n ≡ true
+unfolding allReadable
+at-all-readable d a zero h = refl
+at-all-readable d a (suc n) h =
+    let z : a .0 + 0 ≡ a .0 = omega arith in
+    and-both (rw z at (h 0 (omega arith)))
+    (at-all-readable d (lba (a .0 + 1)) n
+    (λ k l. let y : a .0 + 1 + k ≡ a .0 + suc k = omega arith in rw y (h (suc k) (omega arith))))
+
+-- a run within one fragment's recorded blocks is readable
+pub run-readable :
+    (d : Disc) (a : Lba) (n i : ℕ) → i < used d → firstSector (at d i .start) .0 ≤ a .0
+    → a .0 + n ≤ firstSector (firstUnrecorded (at d i)) .0 → allReadable d a n ≡ true
+run-readable d a n i l h e =
+    at-all-readable d a n
+    (λ k m. at-readable d (lba (a .0 + k)) i l (recorded-between (lba (a .0 + k)) (at d i) (omega arith) (omega arith)))
+
+module _ (d : Disc) (s : Sound d) where
+  -- the sector behind a fragment's recorded blocks is readable in no fragment
+  pub end-unreadable :
+      (a : Lba) (i : ℕ) → i < used d → holdsRecorded a (at d i) ≡ true → readable d (firstSector (firstUnrecorded (at d i))) ≡ true → ⊥
+  end-unreadable a i l t e =
+      let f = at d i in
+      let low = recorded-from a f t in
+      let high = recorded-below a f t in
+      let fits = s .recorded i l in
+      readable-cases d (firstSector (firstUnrecorded f))
+      (λ j m u.
+      let below = recorded-from (firstSector (firstUnrecorded f)) (at d j) u in
+      let above = recorded-below (firstSector (firstUnrecorded f)) (at d j) u in
+      let room = s .recorded j m in
+      order-cases i j
+      (λ h. omega (arith, starts-rise d s i j h m))
+      (λ h. let k : firstSector (firstUnrecorded f) .0 < firstSector (firstUnrecorded f) .0 = rw (← h) at above in omega arith)
+      (λ h. omega (arith, starts-rise d s j i h l)))
+      e
+
+  -- so a readable run that begins in a fragment ends in it
+  pub run-ends :
+      (a : Lba) (n i : ℕ) → i < used d → holdsRecorded a (at d i) ≡ true → allReadable d a n ≡ true
+      → a .0 + n ≤ firstSector (firstUnrecorded (at d i)) .0
+  run-ends a n i l t e =
+      let x = firstSector (firstUnrecorded (at d i)) .0 in
+      by-cases (ltb x (a .0 + n))
+      (λ h.
+      let past = ltb-true x (a .0 + n) h in
+      let high = recorded-below a (at d i) t in
+      let z : a .0 + (x - a .0) ≡ x = omega arith in
+      absurd (end-unreadable a i l t (rw z at (all-readable-at d a n e (x - a .0) (omega arith)))))
+      (λ h. ltb-false x (a .0 + n) h)
+
+  -- a run of one sector up is readable exactly where a record in use holds it whole in its recorded blocks
+  pub one-fragment :
+      {P : Type 0} (a : Lba) (n : ℕ) → 1 ≤ n
+      → ((i : ℕ) → i < used d → holdsRecorded a (at d i) ≡ true → a .0 + n ≤ firstSector (firstUnrecorded (at d i)) .0 → P)
+      → allReadable d a n ≡ true → P
+  one-fragment a n h k e =
+      let z : a .0 + 0 ≡ a .0 = omega arith in
+      readable-cases d a (λ i l t. k i l t (run-ends a n i l t e)) (rw z at (all-readable-at d a n e 0 (omega arith)))
+
+  pub run-test : (a : Lba) (n : ℕ) → 1 ≤ n → some (holdsRun a n) (records d) ≡ allReadable d a n
+  run-test a n h =
+      same-test
+      (λ e.
+      some-cases (holdsRun a n) (records d) unusedRecord
+      (λ i l t.
+      let u : holdsRun a n (at d i) ≡ true = rw (listed-at (d .fragments) i unusedRecord l) at t in
+      run-readable d a n i l (run-from a n (at d i) u) (run-to a n (at d i) u))
+      e)
+      (λ e.
+      one-fragment a n h
+      (λ i l t k.
+      at-some (holdsRun a n) (records d) i unusedRecord l
+      (rw (listed-at (d .fragments) i unusedRecord l) (run-between a n (at d i) (recorded-from a (at d i) t) k)))
+      e)
+
+-- the test whether a run passes an end, without the sum
+pub rest-passes : (a n e : ℕ) → a ≤ e → ltb (e - a) n ≡ ltb e (a + n)
+rest-passes a n e h =
+    same-test
+    (λ t. let l = ltb-true (e - a) n t in lt-ltb e (a + n) (omega arith))
+    (λ t. let l = ltb-true e (a + n) t in lt-ltb (e - a) n (omega arith))
+
+-- what a READ sends: nothing, or the run that it names, which then ends within the disc and is readable
+pub transfer-cases :
+    {P : Type 0} (d : Disc) (a : Lba) (n : ℕ) → (read d a n .plan .transfer ≡ Nothing → P)
+    → (read d a n .plan .transfer ≡ Send a n → a .0 + n ≤ sectorsIn (d .capacity) → allReadable d a n ≡ true → P) → P
+unfolding read accept accepted refuse
+transfer-cases d a n none some-sent =
+    by-cases (eqb n 0)
+    (λ z. none (rw z))
+    (λ z.
+    by-cases (ltb (sectorsIn (d .capacity)) (a .0 + n))
+    (λ p. none (rw (z, p)))
+    (λ p.
+    by-cases (allReadable d a n)
+    (λ r. some-sent (rw (z, p, r)) (ltb-false _ _ p) r)
+    (λ r. none (rw (z, p, r)))))

@@ -1,0 +1,122 @@
+-- What a READ hands out of the medium: a stretch within it, each of whose sectors is readable.
+use Prim.Native.Nat.{ℕ, _+_, _*_, _≤_, _<_, min}
+use mathlib.Core.Path.{_≡_, refl}
+use mathlib.Core.Bool.{true, _&&_}
+use mathlib.Core.List.{List, [], _∷_}
+use native.Mathlib.Omega.{arith}
+use borrow.Author.Tests.{eqb-true}
+use types.Run.{OneOf, miss}
+use denote.Enum.Declared.{tagOf}
+use lib.Dec.{eqb}
+use lib.ListN.{length, getD, drop, length-take, length-drop}
+use lib.Seq.{getD-take, getD-drop}
+use Rattle.disc.proofs.command.Command as command
+use Rattle.disc.proofs.verdict.Transfer as transfer
+use Rattle.disc.specs.Types.{Lba, Disc, Transfer, Nothing, Send, Gather, Fill, Command, TestUnitReady, RequestSense, ReadCapacity, Read, Write, SynchronizeCache, ReserveTrack, CloseTrackSession, ReadDiscInformation, ReadTrackInformation, Unlisted}
+use Rattle.disc.specs.Address.{lba, sectorsIn}
+use Rattle.disc.specs.Records.{readable}
+use Rattle.disc.specs.Sound.{sound, allowedState}
+use Rattle.disc.specs.Answer.{allowedSense}
+use Rattle.disc.specs.Blank.{inRange}
+use Rattle.disc.specs.Ready.{Ready}
+use Rattle.disc.specs.Read.{read}
+use Rattle.disc.specs.Run.{stretch, sent, sentBy, served, recordedRun, RunOf}
+use Rattle.disc.proofs.Laws.Bool.{and-left, and-right, by-cases}
+use Rattle.disc.proofs.Laws.Read.{all-readable-at, transfer-cases}
+
+-- transfers and commands that send nothing, by their places among the variants
+abbrev pub withoutSending : List ℕ
+withoutSending = 0 ∷ 2 ∷ 3 ∷ []
+
+pub no-sending : (t : Transfer) (medium : List ℕ) → OneOf withoutSending (tagOf transfer.the-type t) → sent t medium ≡ []
+unfolding sent
+no-sending Nothing medium h = refl
+no-sending (Send a n) medium h = absurd (miss withoutSending 1 tt h)
+no-sending (Gather b p n) medium h = refl
+no-sending (Fill b n) medium h = refl
+
+abbrev pub withoutRun : List ℕ
+withoutRun = 0 ∷ 1 ∷ 2 ∷ 4 ∷ 5 ∷ 6 ∷ 7 ∷ 8 ∷ 9 ∷ 10 ∷ []
+
+pub no-run : (d : Disc) (c : Command) (medium : List ℕ) → OneOf withoutRun (tagOf command.the-type c) → sentBy d c medium ≡ []
+unfolding sentBy
+no-run d TestUnitReady medium h = refl
+no-run d (RequestSense n) medium h = refl
+no-run d ReadCapacity medium h = refl
+no-run d (Read a n) medium h = absurd (miss withoutRun 3 tt h)
+no-run d (Write a n) medium h = refl
+no-run d SynchronizeCache medium h = refl
+no-run d (ReserveTrack n) medium h = refl
+no-run d (CloseTrackSession f n) medium h = refl
+no-run d (ReadDiscInformation t n) medium h = refl
+no-run d (ReadTrackInformation t m n) medium h = refl
+no-run d Unlisted medium h = refl
+
+-- what is known behind the link
+module _ (d : Disc) (b m : ℕ) (e : served d b m ≡ true) where
+  served-whole : (eqb b 12 && inRange (d .capacity) && eqb m (32768 * d .capacity)) ≡ true
+  served-whole = and-left (eqb b 12 && inRange (d .capacity) && eqb m (32768 * d .capacity)) (allowedState d) e
+
+  pub served-block : b ≡ 12
+  served-block =
+      eqb-true b 12
+      (and-left (eqb b 12) (inRange (d .capacity)) (and-left (eqb b 12 && inRange (d .capacity)) (eqb m (32768 * d .capacity)) served-whole))
+
+  pub served-medium : m ≡ 32768 * d .capacity
+  served-medium =
+      eqb-true m (32768 * d .capacity) (and-right (eqb b 12 && inRange (d .capacity)) (eqb m (32768 * d .capacity)) served-whole)
+
+  pub served-ready : Ready d
+  unfolding allowedState
+  served-ready =
+      record {
+        sound =
+            and-left (sound d) (allowedSense (d .sense))
+            (and-right (eqb b 12 && inRange (d .capacity) && eqb m (32768 * d .capacity)) (sound d && allowedSense (d .sense)) e);
+        range =
+            and-right (eqb b 12) (inRange (d .capacity))
+            (and-left (eqb b 12 && inRange (d .capacity)) (eqb m (32768 * d .capacity)) served-whole);
+      }
+
+-- what it sends lies on the medium
+pub sends-within :
+    (d : Disc) (a b : Lba) (n m : ℕ) → read d a n .plan .transfer ≡ Send b m → b .0 + m ≤ sectorsIn (d .capacity)
+sends-within d a b n m e =
+    transfer-cases d a n
+    (λ h. absurd (let z : _≡_ {A = ℕ} 0 1 = cc in omega arith))
+    (λ h l r. let p : a ≡ b = cc in let q : n ≡ m = cc in rw (← p, ← q) l)
+
+-- every sector of what it sends is readable
+pub sent-readable :
+    (d : Disc) (a : Lba) (n : ℕ) (medium : List ℕ) (k : ℕ)
+    → 2048 * k < length (sent (read d a n .plan .transfer) medium) → readable d (lba (a .0 + k)) ≡ true
+unfolding sent
+sent-readable d a n medium k h =
+    transfer-cases d a n
+    (λ e. absurd (let z : 2048 * k < 0 = rw e at h in omega arith))
+    (λ e l r.
+    let z : 2048 * k < length (stretch a n medium) = rw e at h in
+    let y : 2048 * k < min (2048 * n) (length (drop (2048 * a .0) medium)) = rw (length-take (2048 * n) (drop (2048 * a .0) medium)) at z in
+    all-readable-at d a n r k (omega arith))
+
+pub run-of : (d : Disc) (b medium r : List ℕ) → r ≡ recordedRun d b medium → RunOf d b medium r
+unfolding recordedRun sentBy
+run-of d b medium r e =
+    record {
+      stretch = e;
+      recorded =
+          λ a n p k h.
+          by-cases (served d (length b) (length medium))
+          (λ t.
+          let y : r ≡ sent (read d a n .plan .transfer) medium = rw (t, p) at e in
+          sent-readable d a n medium k (rw y at h))
+          (λ t. absurd (let y : r ≡ [] = rw t at e in let z : 2048 * k < 0 = rw y at h in omega arith));
+    }
+
+-- a stretch within the medium, by its length and byte by byte
+module _ (a : Lba) (n : ℕ) (medium : List ℕ) (fits : 2048 * (a .0 + n) ≤ length medium) where
+  pub stretch-length : length (stretch a n medium) ≡ 2048 * n
+  stretch-length = simp (length-take, length-drop) (omega arith)
+
+  pub stretch-at : (i : ℕ) → i < 2048 * n → getD (stretch a n medium) i 0 ≡ getD medium (2048 * a .0 + i) 0
+  stretch-at i h = rw (getD-take, getD-drop)

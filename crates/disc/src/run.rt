@@ -1,0 +1,66 @@
+// The recorded run that a READ hands out: a part of the lent medium, whose bytes are not looked at.
+use crate::address::Lba;
+use crate::command::Command;
+use crate::lengths;
+use crate::state::Disc;
+use crate::verdict::Transfer;
+ghost use mathlib.Core.Path.{_≡_};
+ghost use Prim.Native.Nat.{_+_, _*_, _≤_};
+ghost use lib.ListN.{length};
+ghost use Rattle.disc.specs.Ready.{Ready};
+ghost use Rattle.disc.specs.Read.{read};
+ghost use Rattle.disc.specs.Run.{stretch, sent, served, RunOf};
+
+// Bytes of a block.
+const BLOCK_LENGTH: usize = 32768;
+
+// Bytes of a command block.
+const COMMAND_LENGTH: usize = 12;
+
+// The sectors of a run.
+fn stretch<'a>(address: Lba, sectors: u32, medium: &'a [u8]) -> &'a [u8]
+    requires { ⌜ 2048 * (address .0 + sectors) ≤ length (now medium) ⌝ }
+    ensures { λ r. ⌜ now r ≡ stretch address sectors (now (medium .entry)) ⌝ }
+{
+    let from = lengths::SECTOR_LENGTH * (address.0 as usize);
+    let to = from + lengths::SECTOR_LENGTH * (sectors as usize);
+    &medium[from..to]
+}
+
+impl Disc {
+    // Whether a command block, the state and a medium, of these lengths, get past the link.
+    fn serves(self, block: usize, medium: usize) -> bool
+        ensures { λ r. ⌜ r ≡ served self «block» medium ⌝ }
+    {
+        let whole = medium == BLOCK_LENGTH * (self.capacity as usize);
+        (block == COMMAND_LENGTH) & Disc::in_range(self.capacity) & whole & self.is_allowed()
+    }
+
+    // What a READ sends.
+    fn run<'a>(self, address: Lba, sectors: u32, medium: &'a [u8]) -> &'a [u8]
+        requires { ⌜ Ready self × (length (now medium) ≡ 32768 * self .capacity) ⌝ }
+        ensures { λ r. ⌜ now r ≡ sent (read self address sectors .plan .transfer) (now (medium .entry)) ⌝ }
+    {
+        let verdict = self.read(address, sectors);
+        let plan = verdict.plan;
+        let transfer = plan.transfer;
+        match transfer {
+            Transfer::Send { address, sectors } => stretch(address, sectors, medium),
+            _ => &medium[0..0],
+        }
+    }
+
+    // The recorded run of an accepted 28h of length 1 up, in place; an empty part for every other input.
+    pub fn recorded_run<'a>(self, block: &[u8], medium: &'a [u8]) -> &'a [u8]
+        ensures { λ r. ⌜ RunOf self (now (block .entry)) (now (medium .entry)) (now r) ⌝ }
+    {
+        if self.serves(block.len(), medium.len()) {
+            let command = Command::decode(block);
+            return match command {
+                Command::Read { address, length } => self.run(address, length, medium),
+                _ => &medium[0..0],
+            };
+        }
+        &medium[0..0]
+    }
+}

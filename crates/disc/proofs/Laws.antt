@@ -23,3 +23,4 @@ pub mod Reports
 pub mod Read
 pub mod Run
 pub mod Sends
+pub mod Judge

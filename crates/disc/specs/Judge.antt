@@ -1,8 +1,12 @@
 -- What the drive decides about a command: from the disc, the command block and the lengths of data and reply buffer alone.
 use Prim.Native.Nat.{ℕ}
 use mathlib.Core.Bool.{cond, not}
+use mathlib.Core.Path.{_≡_}
 use mathlib.Core.List.{List}
-use Rattle.disc.specs.Types.{Disc, Verdict, Command, TestUnitReady, RequestSense, ReadCapacity, Read, Write, SynchronizeCache, ReserveTrack, CloseTrackSession, ReadDiscInformation, ReadTrackInformation, Unlisted, InvalidOperationCode, MediumSize, UnsoundState, TransferLength}
+use lib.ListN.{length}
+use lib.Dec.{eqb}
+use Rattle.disc.specs.Answer.{number}
+use Rattle.disc.specs.Types.{Disc, Verdict, Command, TestUnitReady, RequestSense, ReadCapacity, Read, Write, SynchronizeCache, ReserveTrack, CloseTrackSession, ReadDiscInformation, ReadTrackInformation, Unlisted, InvalidOperationCode, CommandBlockLength, MediumSize, UnsoundState, TransferLength}
 use Rattle.disc.specs.Command.{decode}
 use Rattle.disc.specs.Sound.{allowedState}
 use Rattle.disc.specs.Blank.{inRange}
@@ -41,6 +45,13 @@ judgeCommand d c dataLent replyLent =
     (cond (not (lengthsFit c dataLent replyLent)) (refuseLink d TransferLength)
     (perform d c)))
 
--- the block's bytes matter by the fields that are decoded from them and no other way
+-- the block's bytes matter by the fields that are decoded from them and no other way; a block of another length is L1
 unfoldable pub judge : Disc → List ℕ → ℕ → ℕ → Verdict
-judge d b dataLent replyLent = judgeCommand d (decode b) dataLent replyLent
+judge d b dataLent replyLent =
+    cond (not (eqb (length b) 12)) (refuseLink d CommandBlockLength)
+    (judgeCommand d (decode b) dataLent replyLent)
+
+-- the promise of the code that decides
+pub record Judged (d : Disc) (b : List ℕ) (dataLent replyLent : ℕ) (r : Verdict) : Type 0 where
+  pub verdict : r ≡ judge d b dataLent replyLent
+  pub numbered : number (r .answer) ≡ number (judge d b dataLent replyLent .answer)

@@ -4,6 +4,9 @@ ghost use mathlib.Core.Path.{_≡_};
 ghost use Prim.Native.Nat.{min};
 ghost use Rattle.disc.specs.Lengths.{dataLength, replyRoom, lengthsFit};
 
+// Bytes of a command block.
+pub(crate) const COMMAND_LENGTH: usize = 12;
+
 // Bytes of a sector.
 pub(crate) const SECTOR_LENGTH: usize = 2048;
 

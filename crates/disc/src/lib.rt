@@ -11,6 +11,7 @@ mod command;
 mod find;
 mod flush;
 mod fragment;
+mod judge;
 mod lengths;
 mod read;
 mod reports;

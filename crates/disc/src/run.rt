@@ -14,9 +14,6 @@ ghost use Rattle.disc.specs.Run.{stretch, sent, served, RunOf};
 // Bytes of a block.
 const BLOCK_LENGTH: usize = 32768;
 
-// Bytes of a command block.
-const COMMAND_LENGTH: usize = 12;
-
 // The sectors of a run.
 fn stretch<'a>(address: Lba, sectors: u32, medium: &'a [u8]) -> &'a [u8]
     requires { ⌜ 2048 * (address .0 + sectors) ≤ length (now medium) ⌝ }
@@ -33,7 +30,10 @@ impl Disc {
         ensures { λ r. ⌜ r ≡ served self «block» medium ⌝ }
     {
         let whole = medium == BLOCK_LENGTH * (self.capacity as usize);
-        (block == COMMAND_LENGTH) & Disc::in_range(self.capacity) & whole & self.is_allowed()
+        (block == lengths::COMMAND_LENGTH)
+            & Disc::in_range(self.capacity)
+            & whole
+            & self.is_allowed()
     }
 
     // What a READ sends.

@@ -7,7 +7,7 @@ use native.Mathlib.Omega.{arith}
 use borrow.Author.Tests.{eq-eqb}
 use lib.Dec.{eqb, leb, ltb}
 use lib.ListN.{length}
-use Rattle.disc.specs.Types.{Block, Lba, Kind, Reserved, Appended, Disc, Found, Number, Nowhere, Reply, Flush, Nothing, Send, Gather, Fill, Verdict, DriveRefusal, InvalidOperationCode, LinkRefusal, MediumSize, UnsoundState, TransferLength, Command, TestUnitReady, RequestSense, ReadCapacity, Read, Write, SynchronizeCache, ReserveTrack, CloseTrackSession, ReadDiscInformation, ReadTrackInformation, Unlisted}
+use Rattle.disc.specs.Types.{Block, Lba, Kind, Reserved, Appended, Disc, Found, Number, Nowhere, Reply, Flush, Nothing, Send, Gather, Fill, Verdict, DriveRefusal, InvalidOperationCode, LinkRefusal, MediumSize, UnsoundState, TransferLength, CommandBlockLength, Command, TestUnitReady, RequestSense, ReadCapacity, Read, Write, SynchronizeCache, ReserveTrack, CloseTrackSession, ReadDiscInformation, ReadTrackInformation, Unlisted}
 use Rattle.disc.specs.Command.{decode}
 use Rattle.disc.specs.Records.{limit, used, isListed, numbered, lastRecord, hasTail, hasBlankTail, blankTailOnly, atAddress, writableAt}
 use Rattle.disc.specs.Address.{lba, blocksFor, firstSector}
@@ -182,18 +182,21 @@ pub judge-sends :
     → judge d b dataLent replyLent .plan .transfer ≡ Send a n → Sending d b a n
 unfolding judge judgeCommand perform
 judge-sends d b dataLent replyLent a n e =
+    by-cases (eqb (length b) 12)
+    (λ w.
     by-cases (inRange (d .capacity))
     (λ r.
     by-cases (allowedState d)
     (λ s.
     by-cases (lengthsFit (decode b) dataLent replyLent)
     (λ l.
-    let p : perform d (decode b) .plan .transfer ≡ Send a n = rw (r, s, l) at e in
+    let p : perform d (decode b) .plan .transfer ≡ Send a n = rw (w, r, s, l) at e in
     let c = sends-read d (decode b) a n p in
     record { range = r; allowed = s; command = c; planned = rw c at p })
-    (λ l. absurd (silent-link d TransferLength .none a n (rw (r, s, l) at e))))
-    (λ s. absurd (silent-link d UnsoundState .none a n (rw (r, s) at e))))
-    (λ r. absurd (silent-link d MediumSize .none a n (rw r at e)))
+    (λ l. absurd (silent-link d TransferLength .none a n (rw (w, r, s, l) at e))))
+    (λ s. absurd (silent-link d UnsoundState .none a n (rw (w, r, s) at e))))
+    (λ r. absurd (silent-link d MediumSize .none a n (rw (w, r) at e))))
+    (λ w. absurd (silent-link d CommandBlockLength .none a n (rw w at e)))
 
 -- on a medium of whole blocks the recorded run of the block is the stretch that the plan sends, and the medium has it
 pub judge-run :

@@ -1,0 +1,94 @@
+// What the drive decides about a command, from the disc, the command block and the lengths of data and reply buffer alone.
+use crate::answer::Answer;
+use crate::answer::DriveRefusal;
+use crate::answer::LinkRefusal;
+use crate::command::Command;
+use crate::lengths;
+use crate::state::Disc;
+use crate::verdict::Plan;
+use crate::verdict::Reply;
+use crate::verdict::Verdict;
+ghost use mathlib.Core.Path.{_≡_};
+ghost use Rattle.disc.specs.Ready.{Ready};
+ghost use Rattle.disc.specs.Verdict.{refuseLink};
+ghost use Rattle.disc.specs.Judge.{perform, judgeCommand, Judged};
+
+impl Verdict {
+    // Refused on the link: nothing changes.
+    pub(crate) fn refused_link(disc: Disc, refusal: LinkRefusal) -> Verdict
+        ensures { λ r. ⌜ r ≡ refuseLink disc refusal ⌝ }
+    {
+        let reply = Reply::none();
+        let plan = Plan::none();
+        Verdict {
+            answer: Answer::Link(refusal),
+            disc,
+            reply,
+            recorded: 0,
+            plan,
+        }
+    }
+}
+
+impl Disc {
+    // Each listed command; an opcode that is not listed is refused.
+    pub(crate) fn perform(self, command: Command) -> Verdict
+        requires { ⌜ Ready self ⌝ }
+        ensures { λ r. ⌜ r ≡ perform self command ⌝ }
+    {
+        match command {
+            Command::TestUnitReady => Verdict::unchanged(self, Reply::none()),
+            Command::RequestSense { allocation } => self.request_sense(allocation),
+            Command::ReadCapacity => self.read_capacity(),
+            Command::Read { address, length } => self.read(address, length),
+            Command::Write { address, length } => self.write(address, length),
+            Command::SynchronizeCache => self.synchronize_cache(),
+            Command::ReserveTrack { size } => self.reserve(size),
+            Command::CloseTrackSession { function, number } => self.close(
+                function,
+                number as usize,
+            ),
+            Command::ReadDiscInformation {
+                data_type,
+                allocation,
+            } => self.read_disc_information(data_type, allocation),
+            Command::ReadTrackInformation {
+                address_type,
+                number,
+                allocation,
+            } => { self.read_track_information(address_type, number, allocation) }
+            Command::Unlisted => Verdict::refused(self, DriveRefusal::InvalidOperationCode),
+        }
+    }
+
+    // The link refusals that need no buffer, in order, then the drive.
+    pub(crate) fn judge_command(
+        self,
+        command: Command,
+        data_length: usize,
+        reply_length: usize,
+    ) -> Verdict
+        ensures { λ r. ⌜ r ≡ judgeCommand self command «data_length» «reply_length» ⌝ }
+    {
+        if !Disc::in_range(self.capacity) {
+            return Verdict::refused_link(self, LinkRefusal::MediumSize);
+        }
+        if !self.is_allowed() {
+            return Verdict::refused_link(self, LinkRefusal::UnsoundState);
+        }
+        if !command.lengths_fit(data_length, reply_length) {
+            return Verdict::refused_link(self, LinkRefusal::TransferLength);
+        }
+        self.perform(command)
+    }
+
+    // The decision about a command block, with data and a reply buffer of these lengths.
+    pub fn judge(self, block: &[u8], data_length: usize, reply_length: usize) -> Verdict
+        ensures { λ r. ⌜ Judged self (now (block .entry)) «data_length» «reply_length» r ⌝ }
+    {
+        if block.len() != lengths::COMMAND_LENGTH {
+            return Verdict::refused_link(self, LinkRefusal::CommandBlockLength);
+        }
+        self.judge_command(Command::decode(block), data_length, reply_length)
+    }
+}

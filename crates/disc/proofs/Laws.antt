@@ -19,6 +19,7 @@ pub mod Session
 pub mod Keep
 pub mod Outcome
 pub mod Accepts
+pub mod Cut
 pub mod Reports
 pub mod Read
 pub mod Run

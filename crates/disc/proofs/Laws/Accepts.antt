@@ -1,6 +1,6 @@
 -- For the reader: when a WRITE is accepted. When CLOSE 001 opens a new tail is said by `new-tail` of Keep; what 010 and 110 keep and
 -- drop by `kept-blank`, `kept-tail` and `kept-same` of Session, and what they make of it by `session-done` and `finalize-done`.
-use Prim.Native.Nat.{ℕ, zero, suc, _+_, _-_, _≤_, _<_}
+use Prim.Native.Nat.{ℕ, zero, suc, _+_, _-_, _≤_, _<_, _/_}
 use mathlib.Core.Path.{_≡_, refl, sym, _∙_, ap}
 use mathlib.Core.Bool.{Bool, true, not, _&&_}
 use mathlib.Core.List.{List, [], _∷_}
@@ -8,19 +8,22 @@ use native.Mathlib.Omega.{arith}
 use borrow.Author.Tests.{eq-eqb, ne-eqb, le-ltb, ltb-false}
 use lib.Dec.{eqb, ltb}
 use lib.ListN.{length, getD}
-use Rattle.disc.specs.Types.{Lba, Fragment, Disc, Found, Number, Nowhere, Verdict, Accepted, Drive, WriteProtected, EndOfUserArea}
-use Rattle.disc.specs.Address.{firstSector}
-use Rattle.disc.specs.Fragment.{unusedRecord, end, complete, nextWritable}
-use Rattle.disc.specs.Records.{records, used, numbered, find, writableAt}
+use Rattle.disc.specs.Types.{Lba, Fragment, Disc, Found, Number, Nowhere, Verdict, Accepted, Drive, WriteProtected, EndOfUserArea, AddressOutOfRange, BlankCheck}
+use Rattle.disc.specs.Address.{firstSector, lba, sectorsIn}
+use Rattle.disc.specs.Fragment.{unusedRecord, end, complete, nextWritable, pendingIn}
+use Rattle.disc.specs.Records.{records, used, numbered, find, writableAt, readable}
 use Rattle.disc.specs.Rules.{at}
 use Rattle.disc.specs.Ready.{Ready}
 use Rattle.disc.specs.Verdict.{accepted, accept, refuse}
-use Rattle.disc.specs.Write.{Writable, writeTo, writeFound, write}
+use Rattle.disc.specs.Read.{allReadable, read}
+use Rattle.disc.specs.Write.{flushOthersCount, Writable, writeTo, writeFound, write}
 use Rattle.disc.proofs.Laws.Bool.{and-both, by-cases, cond-yes, cond-no, cond-cases, contradiction}
 use Rattle.disc.proofs.Laws.Records.{listed-at}
 use Rattle.disc.proofs.Laws.Rules.{sound-rules}
 use Rattle.disc.proofs.Laws.Sound.{writable-once}
-use Rattle.disc.proofs.Laws.Write.{writable-found}
+use Rattle.disc.proofs.Laws.Write.{writable-found, place, write-count, flush-count-most}
+use Rattle.disc.proofs.Laws.Flush.{rise-same}
+use Rattle.disc.proofs.Laws.Read.{all-readable-at, at-all-readable}
 
 -- a WRITE of n at an address: the address is the next writable one of an incomplete fragment, and n sectors fit there
 pub record Takes (d : Disc) (a : Lba) (n : ℕ) : Type 0 where
@@ -99,3 +102,62 @@ write-takes d a n z e =
     (λ f.
     found-takes d a n (writableAt d a) refl
     (sym (ap (λ (v : Verdict). v .answer) (cond-no (eqb n 0) _ _ (ne-eqb _ _ z) ∙ cond-no (d .finalized) _ _ f)) ∙ e))
+
+-- a READ of 1 up within the disc is accepted exactly when every sector touched is readable
+pub read-accepted :
+    (d : Disc) (a : Lba) (n : ℕ) → (n ≡ 0 → ⊥) → a .0 + n ≤ sectorsIn (d .capacity)
+    → ((k : ℕ) → k < n → readable d (lba (a .0 + k)) ≡ true) → read d a n .answer ≡ Accepted
+unfolding read accept accepted
+read-accepted d a n z h r =
+    ap (λ (v : Verdict). v .answer)
+    (cond-no (eqb n 0) _ _ (ne-eqb _ _ z)
+    ∙ (cond-no (ltb (sectorsIn (d .capacity)) (a .0 + n)) _ _ (le-ltb _ _ h) ∙ cond-yes (allReadable d a n) _ _ (at-all-readable d a n r)))
+
+pub accepted-read :
+    (d : Disc) (a : Lba) (n : ℕ) → (n ≡ 0 → ⊥) → read d a n .answer ≡ Accepted
+    → (a .0 + n ≤ sectorsIn (d .capacity)) × ((k : ℕ) → k < n → readable d (lba (a .0 + k)) ≡ true)
+unfolding read refuse
+accepted-read d a n z e =
+    by-cases (ltb (sectorsIn (d .capacity)) (a .0 + n))
+    (λ h.
+    absurd
+    (let k : Drive AddressOutOfRange ≡ Accepted =
+    sym (ap (λ (v : Verdict). v .answer) (cond-no (eqb n 0) _ _ (ne-eqb _ _ z) ∙ cond-yes (ltb (sectorsIn (d .capacity)) (a .0 + n)) _ _ h)) ∙ e in
+    let q : _≡_ {A = ℕ} 0 1 = cc in
+    omega arith))
+    (λ h.
+    by-cases (allReadable d a n)
+    (λ t. (ltb-false _ _ h, all-readable-at d a n t))
+    (λ t.
+    absurd
+    (let k : Drive BlankCheck ≡ Accepted =
+    sym (ap (λ (v : Verdict). v .answer) (cond-no (eqb n 0) _ _ (ne-eqb _ _ z) ∙ (cond-no (ltb (sectorsIn (d .capacity)) (a .0 + n)) _ _ h ∙ cond-no (allReadable d a n) _ _ t))) ∙ e in
+    let q : _≡_ {A = ℕ} 0 1 = cc in
+    omega arith)))
+
+-- a WRITE of n records at most 1 + n/16 blocks
+gathered-most :
+    (d : Disc) (number n : ℕ) → Ready d → flushOthersCount d number + (pendingIn d number + n) / 16 ≤ 1 + n / 16
+unfolding flushOthersCount
+gathered-most d number n r =
+    let s = sound-rules d (r .sound) in
+    by-cases (eqb (d .owner) number)
+    (λ e. rw e (omega (arith, s .few)))
+    (λ e. rw e (omega (arith, flush-count-most d)))
+
+found-most : (d : Disc) (a : Lba) (n : ℕ) → Ready d → (w : Found) → writableAt d a ≡ w → writeFound d a n w .recorded ≤ 1 + n / 16
+unfolding writeFound writeTo accept accepted refuse
+found-most d a n r (Number number) e =
+    let w = writable-found d a number e in
+    cond-cases (λ (v : Verdict). v .recorded ≤ 1 + n / 16) (ltb (firstSector (end (numbered d number)) .0) (a .0 + n)) _ _
+    (λ h. omega arith)
+    (λ h. rw (write-count d number n r (w .from) (place d a number r w .slot)) (gathered-most d number n r))
+found-most d a n r Nowhere e = omega arith
+
+pub write-most : (d : Disc) (a : Lba) (n : ℕ) → Ready d → write d a n .recorded ≤ 1 + n / 16
+unfolding write accept accepted refuse
+write-most d a n r =
+    cond-cases (λ (v : Verdict). v .recorded ≤ 1 + n / 16) (eqb n 0) _ _ (λ e. omega (arith, rise-same d))
+    (λ e.
+    cond-cases (λ (v : Verdict). v .recorded ≤ 1 + n / 16) (d .finalized) _ _ (λ f. omega arith)
+    (λ f. found-most d a n r (writableAt d a) refl))

@@ -1,15 +1,25 @@
 -- What the decision about a command does to the disc.
-use Prim.Native.Nat.{ℕ}
+use Prim.Native.Nat.{ℕ, _+_}
 use mathlib.Core.Path.{_≡_, ap}
-use mathlib.Core.Bool.{true}
+use mathlib.Core.Bool.{true, not}
 use mathlib.Core.List.{List}
-use Rattle.disc.specs.Types.{Disc, Verdict}
+use lib.ListN.{length}
+use lib.Dec.{eqb, ltb}
+use Rattle.disc.specs.Types.{Lba, Disc, Verdict, Found, Number, Nowhere, Command, TestUnitReady, RequestSense, ReadCapacity, Read, Write, SynchronizeCache, ReserveTrack, CloseTrackSession, ReadDiscInformation, ReadTrackInformation, Unlisted, InvalidOperationCode, InvalidFieldInCommand, AddressOutOfRange, BlankCheck}
+use Rattle.disc.specs.Address.{lba, sectorsIn}
 use Rattle.disc.specs.Answer.{number, allowedSense}
+use Rattle.disc.specs.Command.{decode}
+use Rattle.disc.specs.Records.{used, isListed, hasTail, atAddress}
 use Rattle.disc.specs.Sound.{sound, allowedState}
 use Rattle.disc.specs.Blank.{inRange}
 use Rattle.disc.specs.Ready.{Ready}
-use Rattle.disc.specs.Judge.{judge, Judged}
-use Rattle.disc.proofs.Laws.Bool.{and-left}
+use Rattle.disc.specs.Lengths.{lengthsFit}
+use Rattle.disc.specs.Verdict.{refuseLink, noReply, noPlan}
+use Rattle.disc.specs.Read.{allReadable, read}
+use Rattle.disc.specs.Reports.{requestSense, readCapacity, readDiscInformation, trackReport, trackFound, trackNumbered, readTrackInformation}
+use Rattle.disc.specs.Judge.{testUnitReady, perform, judgeCommand, judge, Judged}
+use Rattle.disc.proofs.Laws.Bool.{and-left, cond-cases}
+use Rattle.disc.proofs.Laws.Outcome.{Outcome, refused, same-outcome, synchronize-outcome, write-outcome, reserve-outcome, close-outcome, outcome-ready}
 
 -- a state that L3 lets through, with a capacity in range, is ready for every command
 pub allowed-ready : (d : Disc) → inRange (d .capacity) ≡ true → allowedState d ≡ true → Ready d
@@ -18,3 +28,74 @@ allowed-ready d r a = record { sound = and-left (sound d) (allowedSense (d .sens
 
 pub judged : (d : Disc) (b : List ℕ) (n m : ℕ) (r : Verdict) → r ≡ judge d b n m → Judged d b n m r
 judged d b n m r e = record { verdict = e; numbered = ap (λ v. number (v .answer)) e }
+
+-- READ and the reports leave the list alone
+read-outcome : (d : Disc) (a : Lba) (n : ℕ) → Ready d → Outcome d (read d a n)
+unfolding read
+read-outcome d a n r =
+    cond-cases (Outcome d) (eqb n 0) _ _ (λ e. same-outcome d noReply noPlan r)
+    (λ e.
+    cond-cases (Outcome d) (ltb (sectorsIn (d .capacity)) (a .0 + n)) _ _ (λ h. refused AddressOutOfRange)
+    (λ h. cond-cases (Outcome d) (allReadable d a n) _ _ (λ t. same-outcome d noReply _ r) (λ t. refused BlankCheck)))
+
+disc-outcome : (d : Disc) (t n : ℕ) → Ready d → Outcome d (readDiscInformation d t n)
+unfolding readDiscInformation
+disc-outcome d t n r =
+    cond-cases (Outcome d) (eqb t 0) _ _ (λ e. same-outcome d _ noPlan r) (λ e. refused InvalidFieldInCommand)
+
+report-outcome : (d : Disc) (n m : ℕ) → Ready d → Outcome d (trackReport d n m)
+unfolding trackReport
+report-outcome d n m r = same-outcome d _ noPlan r
+
+found-report : (d : Disc) (n : ℕ) → Ready d → (w : Found) → Outcome d (trackFound d n w)
+unfolding trackFound
+found-report d n r (Number m) = report-outcome d n m r
+found-report d n r Nowhere = refused AddressOutOfRange
+
+track-outcome : (d : Disc) (t n m : ℕ) → Ready d → Outcome d (readTrackInformation d t n m)
+unfolding readTrackInformation trackNumbered
+track-outcome d t n m r =
+    cond-cases (Outcome d) (eqb t 0) _ _ (λ e. found-report d m r (atAddress d (lba n)))
+    (λ e.
+    cond-cases (Outcome d) (eqb t 1) _ _
+    (λ h.
+    cond-cases (Outcome d) (eqb n 0xFF) _ _
+    (λ f. cond-cases (Outcome d) (hasTail d) _ _ (λ a. report-outcome d m (used d) r) (λ a. refused InvalidFieldInCommand))
+    (λ f. cond-cases (Outcome d) (isListed d n) _ _ (λ a. report-outcome d m n r) (λ a. refused InvalidFieldInCommand)))
+    (λ h. refused InvalidFieldInCommand))
+
+other-outcomes : (d : Disc) → Ready d → Outcome d (testUnitReady d) × Outcome d (readCapacity d)
+unfolding testUnitReady readCapacity
+other-outcomes d r = (same-outcome d noReply noPlan r, same-outcome d _ noPlan r)
+
+sense-outcome : (d : Disc) (n : ℕ) → Ready d → Outcome d (requestSense d n)
+unfolding requestSense
+sense-outcome d n r = same-outcome d _ noPlan r
+
+-- every command keeps the list sound and the capacity, or changes the sense alone
+pub perform-outcome : (d : Disc) (c : Command) → Ready d → Outcome d (perform d c)
+unfolding perform
+perform-outcome d TestUnitReady r = other-outcomes d r .0
+perform-outcome d (RequestSense n) r = sense-outcome d n r
+perform-outcome d ReadCapacity r = other-outcomes d r .1
+perform-outcome d (Read a n) r = read-outcome d a n r
+perform-outcome d (Write a n) r = write-outcome d a n r
+perform-outcome d SynchronizeCache r = synchronize-outcome d r
+perform-outcome d (ReserveTrack n) r = reserve-outcome d n r
+perform-outcome d (CloseTrackSession f n) r = close-outcome d f n r
+perform-outcome d (ReadDiscInformation t n) r = disc-outcome d t n r
+perform-outcome d (ReadTrackInformation t n m) r = track-outcome d t n m r
+perform-outcome d Unlisted r = refused InvalidOperationCode
+
+-- the same of a decision: a disc that is ready stays so, whatever the block and the lengths
+pub judge-ready : (d : Disc) (b : List ℕ) (n m : ℕ) → Ready d → Ready (judge d b n m .disc)
+unfolding judge judgeCommand refuseLink
+judge-ready d b n m r =
+    cond-cases (λ (v : Verdict). Ready (v .disc)) (not (eqb (length b) 12)) _ _ (λ e. r)
+    (λ e.
+    cond-cases (λ (v : Verdict). Ready (v .disc)) (not (inRange (d .capacity))) _ _ (λ h. r)
+    (λ h.
+    cond-cases (λ (v : Verdict). Ready (v .disc)) (not (allowedState d)) _ _ (λ a. r)
+    (λ a.
+    cond-cases (λ (v : Verdict). Ready (v .disc)) (not (lengthsFit (decode b) n m)) _ _ (λ l. r)
+    (λ l. outcome-ready d (perform d (decode b)) r (perform-outcome d (decode b) r)))))

@@ -8,6 +8,7 @@ pub mod Rules
 pub mod Sound
 pub mod Grow
 pub mod Order
+pub mod Onward
 pub mod Blank
 pub mod Lengths
 pub mod Verdict

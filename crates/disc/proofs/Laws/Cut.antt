@@ -1,17 +1,32 @@
 -- A WRITE cut in two: the list after it.
-use Prim.Native.Nat.{ℕ, _+_, _-_, _/_, _%_, _≤_}
+use Prim.Native.Nat.{ℕ, suc, _<_, _+_, _-_, _/_, _%_, _≤_}
 use mathlib.Core.Path.{_≡_, refl, sym, _∙_, ap}
-use mathlib.Core.Bool.{cond}
+use mathlib.Core.Bool.{true, false, cond}
 use native.Mathlib.Omega.{arith}
-use borrow.Author.Tests.{eq-eqb, ne-eqb, eqb-true}
-use lib.Dec.{eqb}
+use borrow.Author.Tests.{eq-eqb, ne-eqb, eqb-true, le-ltb}
+use lib.Dec.{eqb, ltb}
 use lib.ListN.{length, set}
 use lib.Seq.{getD-set-same, set-set}
-use Rattle.disc.specs.Types.{Fragment, Disc}
-use Rattle.disc.specs.Fragment.{unusedRecord, pendingIn}
-use Rattle.disc.specs.Records.{numbered}
-use Rattle.disc.specs.Write.{grownRecord, gather}
-use Rattle.disc.proofs.Laws.Bool.{cond-yes, cond-no, by-cases}
+use Rattle.disc.specs.Types.{Lba, Fragment, Disc, Verdict, Accepted, Gather}
+use Rattle.disc.specs.Fragment.{unusedRecord, end, firstUnrecorded, pendingIn, nextWritable}
+use Rattle.disc.specs.Address.{lba, firstSector}
+use Rattle.disc.specs.Answer.{noSense}
+use Rattle.disc.specs.Records.{used, numbered, withSense}
+use Rattle.disc.specs.Ready.{Ready}
+use Rattle.disc.specs.Verdict.{accepted, accept, noReply, plan}
+use Rattle.disc.specs.Write.{flushOthers, flushOthersPlan, flushOthersCount, grownRecord, gather, writeTo, writeFound, write}
+use Rattle.disc.proofs.Laws.Bool.{cond-yes, cond-no, by-cases, contradiction}
+use Rattle.disc.proofs.Laws.Rules.{sound-rules}
+use Rattle.disc.proofs.Laws.Write.{place, write-count, others-numbered, others-pending, others-used, others-sound, others-length}
+use Rattle.disc.proofs.Laws.Numbers.{order-cases}
+use Rattle.disc.proofs.Laws.Sound.{starts-rise, writable-within}
+use Rattle.disc.specs.Rules.{at}
+use Rattle.disc.proofs.Laws.Flush.{flush-none}
+use Rattle.disc.proofs.Laws.Grow.{grown-used}
+use Rattle.disc.proofs.Laws.Keep.{gather-grows, write-room}
+use Rattle.disc.specs.Flush.{flushCount}
+use Rattle.disc.proofs.Laws.Outcome.{outcome-ready, write-outcome}
+use Rattle.disc.proofs.Laws.Accepts.{Takes, takes-found, takes-accepted}
 
 -- the fragment and its pending sectors after gathering
 module _ (d : Disc) (number n : ℕ) (from : 1 ≤ number) (slot : number ≤ length (d .fragments)) where
@@ -69,3 +84,211 @@ gather-gather d number n m from slot =
       owner = cond (eqb (pending i) 0) 0 number;
       fragments = list i;
     }
+
+-- an accepted WRITE of 1 up, by what it takes
+module _ (d : Disc) (a : Lba) (n : ℕ) (r : Ready d) (z : n ≡ 0 → ⊥) (t : Takes d a n) where
+  takes-open : d .finalized ≡ false
+  takes-open =
+      let s = sound-rules d (r .sound) in
+      let w = t .here in
+      by-cases (d .finalized)
+      (λ f. absurd (contradiction (s .closed f (t .number - 1) (omega (arith, w .from, w .listed))) (w .incomplete)))
+      (λ f. f)
+
+  pub write-done :
+      write d a n
+      ≡ accept d (gather (flushOthers d (t .number)) (t .number) n) noReply
+      (plan (flushOthersPlan d (t .number)) (Gather (firstUnrecorded (numbered d (t .number))) (pendingIn d (t .number)) n))
+  unfolding write writeFound writeTo
+  write-done =
+      cond-no (eqb n 0) _ _ (ne-eqb _ _ z)
+      ∙ (cond-no (d .finalized) _ _ takes-open
+      ∙ (ap (λ w. writeFound d a n w) (takes-found d a (t .number) r (t .here))
+      ∙ cond-no (ltb (firstSector (end (numbered d (t .number))) .0) (a .0 + n)) _ _ (le-ltb _ _ (t .fits))))
+
+  pub write-disc : write d a n .disc ≡ withSense (gather (flushOthers d (t .number)) (t .number) n) noSense
+  unfolding accept accepted
+  write-disc = ap (λ (v : Verdict). v .disc) write-done
+
+  pub write-recorded : write d a n .recorded ≡ flushOthersCount d (t .number) + (pendingIn d (t .number) + n) / 16
+  unfolding accept accepted
+  write-recorded =
+      ap (λ (v : Verdict). v .recorded) write-done
+      ∙ write-count d (t .number) n r (t .here .from) (place d a (t .number) r (t .here) .slot)
+
+-- gathering leaves nobody else's sectors pending, so the next WRITE to the fragment flushes nothing
+module _ (d : Disc) (number n : ℕ) (from : 1 ≤ number) where
+  gathered-alone : flushOthers (withSense (gather d number n) noSense) number ≡ withSense (gather d number n) noSense
+  unfolding flushOthers gather
+  gathered-alone =
+      let held = (pendingIn d number + n) % 16 in
+      by-cases (eqb held 0)
+      (λ z.
+      let other : eqb (cond (eqb held 0) 0 number) number ≡ false = rw z (ne-eqb 0 number (λ q. omega arith)) in
+      cond-no (eqb (cond (eqb held 0) 0 number) number) _ _ other ∙ flush-none _ (eqb-true held 0 z))
+      (λ z.
+      let own : eqb (cond (eqb held 0) 0 number) number ≡ true = rw z (eq-eqb number number refl) in
+      cond-yes (eqb (cond (eqb held 0) 0 number) number) _ _ own)
+
+  gathered-count : flushOthersCount (withSense (gather d number n) noSense) number ≡ 0
+  unfolding flushOthersCount flushCount gather
+  gathered-count =
+      let held = (pendingIn d number + n) % 16 in
+      by-cases (eqb held 0)
+      (λ z.
+      let other : eqb (cond (eqb held 0) 0 number) number ≡ false = rw z (ne-eqb 0 number (λ q. omega arith)) in
+      cond-no (eqb (cond (eqb held 0) 0 number) number) _ _ other ∙ cond-yes (eqb held 0) _ _ z)
+      (λ z.
+      let own : eqb (cond (eqb held 0) 0 number) number ≡ true = rw z (eq-eqb number number refl) in
+      cond-yes (eqb (cond (eqb held 0) 0 number) number) _ _ own)
+
+-- the second part of a WRITE that was cut in two takes what is left
+module _ (d : Disc) (a : Lba) (n m : ℕ) (r : Ready d) (z : n ≡ 0 → ⊥) (y : m ≡ 0 → ⊥) (t : Takes d a (n + m)) where
+  pub first-takes : Takes d a n
+  first-takes = record { number = t .number; here = t .here; fits = omega (arith, t .fits) }
+
+  -- the disc between the parts
+  pub between : Disc
+  between = withSense (gather (flushOthers d (t .number)) (t .number) n) noSense
+
+  second-takes : Takes between (lba (a .0 + n)) m
+  unfolding between
+  second-takes =
+      let k = t .number in
+      let w = t .here in
+      let e = flushOthers d k in
+      let p = place d a k r w in
+      let slot : k ≤ length (e .fragments) = omega (arith, others-length d k, sound-rules d (r .sound) .array, p .slot) in
+      let f = numbered d k in
+      let same : numbered (gather e k n) k ≡ grownRecord ((pendingIn d k + n) / 16) f =
+      gathered-record e k n (w .from) slot
+      ∙ (ap (λ x. grownRecord ((x + n) / 16) (numbered e k)) (others-pending d k r (w .from))
+      ∙ ap (λ x. grownRecord ((pendingIn d k + n) / 16) x) (others-numbered d k r (w .from))) in
+      let held : pendingIn (gather e k n) k ≡ (pendingIn d k + n) % 16 =
+      gathered-pending e k n (w .from) slot ∙ ap (λ x. (x + n) % 16) (others-pending d k r (w .from)) in
+      let some-left : 1 ≤ m = omega arith in
+      record {
+        number = k;
+        here =
+            record {
+              from = w .from;
+              listed =
+                  omega (arith, w .listed, others-used d k r, grown-used e (gather e k n) (others-sound d k r) (gather-grows e k n (others-sound d k r) (write-room d a k n r w (omega (arith, t .fits)))));
+              incomplete =
+                  rw same
+                  (ne-eqb (f .recorded + (pendingIn d k + n) / 16) (f .length) (λ q. omega (arith, t .fits, w .here)));
+              here = rw (same, held) (omega (arith, w .here));
+            };
+        fits = rw same (omega (arith, t .fits));
+      }
+
+  between-is : write d a n .disc ≡ between
+  unfolding between first-takes
+  between-is = write-disc d a n r z first-takes
+
+  between-ready : Ready between
+  between-ready = rw between-is at (outcome-ready d (write d a n) r (write-outcome d a n r))
+
+  sum-some : n + m ≡ 0 → ⊥
+  sum-some e = z (omega arith)
+
+  second-disc : write between (lba (a .0 + n)) m .disc ≡ write d a (n + m) .disc
+  unfolding between gather second-takes
+  second-disc =
+      let k = t .number in
+      let e = flushOthers d k in
+      let slot : k ≤ length (e .fragments) =
+      omega (arith, others-length d k, sound-rules d (r .sound) .array, place d a k r (t .here) .slot) in
+      write-disc between (lba (a .0 + n)) m between-ready y second-takes
+      ∙ (ap (λ x. withSense (gather x k m) noSense) (gathered-alone e k n (t .here .from))
+      ∙ (ap (λ x. withSense x noSense) (gather-gather e k n m (t .here .from) slot) ∙ sym (write-disc d a (n + m) r sum-some t)))
+
+  second-recorded : write d a n .recorded + write between (lba (a .0 + n)) m .recorded ≡ write d a (n + m) .recorded
+  unfolding between first-takes second-takes
+  second-recorded =
+      let k = t .number in
+      let e = flushOthers d k in
+      let p = pendingIn d k in
+      let slot : k ≤ length (e .fragments) =
+      omega (arith, others-length d k, sound-rules d (r .sound) .array, place d a k r (t .here) .slot) in
+      let held : pendingIn (gather e k n) k ≡ (p + n) % 16 =
+      gathered-pending e k n (t .here .from) slot ∙ ap (λ x. (x + n) % 16) (others-pending d k r (t .here .from)) in
+      let one = write-recorded d a n r z first-takes in
+      let two = write-recorded between (lba (a .0 + n)) m between-ready y second-takes in
+      let whole = write-recorded d a (n + m) r sum-some t in
+      let none = gathered-count e k n (t .here .from) in
+      let part : (pendingIn (gather e k n) k + m) / 16 ≡ ((p + n) % 16 + m) / 16 = ap (λ x. (x + m) / 16) held in
+      let sum : (p + n + m) / 16 ≡ (p + (n + m)) / 16 = ap (λ x. x / 16) (omega arith) in
+      omega (arith, div-cut (p + n) m)
+
+  -- a WRITE that is accepted whole is accepted in two parts, with the same disc afterwards and counts that add up
+  pub cut-accepted :
+      (write d a n .answer ≡ Accepted)
+      × (write (write d a n .disc) (lba (a .0 + n)) m .answer ≡ Accepted)
+      × (write (write d a n .disc) (lba (a .0 + n)) m .disc ≡ write d a (n + m) .disc)
+      × (write d a n .recorded + write (write d a n .disc) (lba (a .0 + n)) m .recorded ≡ write d a (n + m) .recorded)
+  cut-accepted = (
+    takes-accepted d a n r first-takes,
+    rw between-is (takes-accepted between (lba (a .0 + n)) m between-ready second-takes),
+    rw between-is second-disc,
+    rw between-is second-recorded,
+  )
+
+-- the fragment after an accepted WRITE to it
+module _ (d : Disc) (a : Lba) (n : ℕ) (r : Ready d) (z : n ≡ 0 → ⊥) (t : Takes d a n) where
+  after-record : numbered (write d a n .disc) (t .number) ≡ grownRecord ((pendingIn d (t .number) + n) / 16) (numbered d (t .number))
+  after-record =
+      let k = t .number in
+      let w = t .here in
+      let e = flushOthers d k in
+      let slot : k ≤ length (e .fragments) =
+      omega (arith, others-length d k, sound-rules d (r .sound) .array, place d a k r w .slot) in
+      ap (λ x. numbered x k) (write-disc d a n r z t)
+      ∙ (gathered-record e k n (w .from) slot
+      ∙ (ap (λ x. grownRecord ((x + n) / 16) (numbered e k)) (others-pending d k r (w .from))
+      ∙ ap (λ x. grownRecord ((pendingIn d k + n) / 16) x) (others-numbered d k r (w .from))))
+
+  after-used : used (write d a n .disc) ≡ used d
+  after-used =
+      let k = t .number in
+      let e = flushOthers d k in
+      ap used (write-disc d a n r z t)
+      ∙ (grown-used e (gather e k n) (others-sound d k r) (gather-grows e k n (others-sound d k r) (write-room d a k n r (t .here) (t .fits)))
+      ∙ others-used d k r)
+
+-- and two parts that are accepted one after the other are accepted whole
+module _ (d : Disc) (a : Lba) (n m : ℕ) (r : Ready d) (z : n ≡ 0 → ⊥) (t : Takes d a n) where
+  -- the fragment between the parts: it stands where it stood
+  after-start : numbered (write d a n .disc) (t .number) .start .0 ≡ numbered d (t .number) .start .0
+  after-start =
+      ap (λ f. f .start .0) (after-record d a n r z t)
+
+  after-length : numbered (write d a n .disc) (t .number) .length ≡ numbered d (t .number) .length
+  after-length = ap (λ f. f .length) (after-record d a n r z t)
+
+  pub parts-takes : Takes (write d a n .disc) (lba (a .0 + n)) m → Takes d a (n + m)
+  parts-takes u =
+      let e = write d a n .disc in
+      let ready = outcome-ready d (write d a n) r (write-outcome d a n r) in
+      let s = sound-rules e (ready .sound) in
+      let w = t .here in
+      let v = u .here in
+      let i = t .number - 1 in
+      let j = u .number - 1 in
+      let listed : i < used e = omega (arith, w .from, w .listed, after-used d a n r z t) in
+      let listed-too : j < used e = omega (arith, v .from, v .listed) in
+      let number : suc j ≡ u .number = omega (arith, v .from) in
+      let within = writable-within e s j listed-too (v .incomplete) in
+      let here : nextWritable e (suc j) (at e j) .0 ≡ a .0 + n =
+      ap (λ k. nextWritable e k (at e j) .0) number ∙ sym (v .here) in
+      let same : j ≡ i =
+      order-cases j i
+      (λ h. absurd (omega (arith, starts-rise e s j i h listed, within .1, here, after-start, w .here)))
+      (λ h. h)
+      (λ h. absurd (omega (arith, starts-rise e s i j h listed-too, within .0, here, after-start, after-length, t .fits))) in
+      let equal : u .number ≡ t .number = omega (arith, w .from, v .from) in
+      record {
+        number = t .number;
+        here = w;
+        fits = omega (arith, u .fits, ap (λ k. firstSector (end (numbered e k)) .0) equal, after-start, after-length);
+      }

@@ -23,11 +23,12 @@ use Rattle.disc.proofs.Laws.Bool.{and-left, and-right, and-both, by-cas
 use Rattle.disc.proofs.Laws.Numbers.{equal-cases, below-limit}
 use Rattle.disc.proofs.Laws.Records.{listed-le, listed-at, at-some}
 use Rattle.disc.proofs.Laws.Rules.{sound-rules}
-use Rattle.disc.proofs.Laws.Grow.{Grown, GrownRecord, set-grown, grown-used, grown-sound}
+use Rattle.disc.proofs.Laws.Grow.{Grown, set-grown, grown-used, grown-sound}
 use Rattle.disc.proofs.Laws.Reserve.{blank-recorded}
 use Rattle.disc.proofs.Laws.Flush.{owner, flush-used, flush-none, flush-records}
 use Rattle.disc.proofs.Laws.Write.{others-numbered, others-pending, others-used, others-alone, place}
 use Rattle.disc.proofs.Laws.Session.{kept-blank, kept-tail, kept-same, tail-written}
+use Rattle.disc.proofs.Laws.Onward.{Onward, same-onward, onward-on, grown-onward, replace-onward, drop-onward, extend-onward}
 use Rattle.disc.proofs.Laws.Order.{Ordered, sound-ordered, open-sound, Replaces, replace-last, drop-last, Extends, extend-sound, extended-last, last-used, drop-used}
 
 -- a tail from a block below the capacity is one, and reaches it
@@ -45,59 +46,98 @@ blank-unowned d n f b z e =
     (sym (cond-yes (eqb (d .owner) n) (d .pending) 0 (eq-eqb _ _ e))
     ∙ eqb-true (pendingIn d n) 0 (and-right (eqb (f .recorded) 0) (eqb (pendingIn d n) 0) b))
 
--- RESERVE
-pub split-sound :
-    (d : Disc) (b : ℕ) → Sound d → d .finalized ≡ false → hasBlankTail d ≡ true → used d < limit → 1 ≤ b
-    → nextFragmentStart (end (reservedAt (lastRecord d) b)) .0 < d .capacity → Sound (splitTail d b)
-unfolding splitTail
-split-sound d b s f t free size start =
+-- the last record is the one that was put there
+replaced-is :
+    (d : Disc) (s : Sound d) (g : Fragment) → (g .length ≡ 0 → ⊥)
+    → (used (withRecord d (used d) g) ≡ used d) × (lastRecord (withRecord d (used d) g) ≡ g)
+replaced-is d s g l =
     let n = used d in
-    let g = reservedAt (lastRecord d) b in
-    let r : Replaces d g =
-    record {
-      session = refl;
-      start = refl;
-      size = λ z. omega arith;
-      ends = omega arith;
-      recorded = omega arith;
-      zeroed = omega arith;
-      tailless = refl;
-      unowned = blank-unowned d n (lastRecord d) (and-right (hasTail d) (isBlank d n (lastRecord d)) t);
-    } in
-    let e = withRecord d n g in
-    let o = replace-last d s g r in
-    let u : used e ≡ n = last-used d s g (λ z. omega arith) in
+    let u = last-used d s g l in
     let slot : n - 1 < length (d .fragments) = omega (arith, s .some, listed-le (d .fragments)) in
-    let last : lastRecord e ≡ g =
-    ap (λ j. getD (set (d .fragments) (n - 1) g) (j - 1) unusedRecord) u ∙ getD-set-same (d .fragments) (n - 1) g unusedRecord slot in
-    let m = tailFrom (d .capacity) (g .session) (nextFragmentStart (end g)) in
-    let x : Extends e m =
-    record {
-      free = omega arith;
-      follows = rw last (inl (refl, refl));
-      ends = tail-from-end (d .capacity) (g .session) (nextFragmentStart (end g)) start;
-      recorded = refl;
-      zeroed = refl;
-      tail = tail-from-tail (d .capacity) (g .session) (nextFragmentStart (end g)) start;
-      tailless = ap isTail last;
-      closed = λ q. absurd (q (sym (ap (λ h. h .session) last)));
-    } in
-    rw (ap (λ j. withRecord e (j + 1) m) u) at (extend-sound e o m x f)
+    (u, ap (λ j. getD (set (d .fragments) (n - 1) g) (j - 1) unusedRecord) u ∙ getD-set-same (d .fragments) (n - 1) g unusedRecord slot)
+
+-- RESERVE
+module _
+    (d : Disc) (b : ℕ) (s : Sound d) (t : hasBlankTail d ≡ true) (free : used d < limit) (size : 1 ≤ b)
+    (start : nextFragmentStart (end (reservedAt (lastRecord d) b)) .0 < d .capacity) where
+  -- the reserved record, the disc with it, and the tail behind it
+  abbrev reserved : Fragment
+  reserved = reservedAt (lastRecord d) b
+
+  abbrev reservedDisc : Disc
+  reservedDisc = withRecord d (used d) reserved
+
+  abbrev rest : Fragment
+  rest = tailFrom (d .capacity) (reserved .session) (nextFragmentStart (end reserved))
+
+  reserved-size : reserved .length ≡ 0 → ⊥
+  reserved-size z = omega arith
+
+  reserved-replaces : Replaces d reserved
+  reserved-replaces =
+      record {
+        session = refl;
+        start = refl;
+        size = reserved-size;
+        ends = omega arith;
+        recorded = omega arith;
+        zeroed = omega arith;
+        tailless = refl;
+        unowned = blank-unowned d (used d) (lastRecord d) (and-right (hasTail d) (isBlank d (used d) (lastRecord d)) t);
+      }
+
+  reserved-used : used reservedDisc ≡ used d
+  reserved-used = replaced-is d s reserved reserved-size .0
+
+  reserved-ordered : Ordered reservedDisc
+  reserved-ordered = replace-last d s reserved reserved-replaces
+
+  reserved-extends : Extends reservedDisc rest
+  reserved-extends =
+      let last = replaced-is d s reserved reserved-size .1 in
+      record {
+        free = omega (arith, reserved-used);
+        follows = rw last (inl (refl, refl));
+        ends = tail-from-end (d .capacity) (reserved .session) (nextFragmentStart (end reserved)) start;
+        recorded = refl;
+        zeroed = refl;
+        tail = tail-from-tail (d .capacity) (reserved .session) (nextFragmentStart (end reserved)) start;
+        tailless = ap isTail last;
+        closed = λ q. absurd (q (sym (ap (λ h. h .session) last)));
+      }
+
+  pub split-sound : d .finalized ≡ false → Sound (splitTail d b)
+  unfolding splitTail
+  split-sound f =
+      rw (ap (λ j. withRecord reservedDisc (j + 1) rest) reserved-used) at (extend-sound reservedDisc reserved-ordered rest reserved-extends f)
+
+  pub split-onward : Onward d (splitTail d b)
+  unfolding splitTail
+  split-onward =
+      onward-on d reservedDisc _
+      (replace-onward d reserved s reserved-size refl (omega (arith, blank-recorded d t)))
+      (rw (ap (λ j. withRecord reservedDisc (j + 1) rest) reserved-used) at (extend-onward reservedDisc reserved-ordered rest reserved-extends))
 
 -- CLOSE 001 of a reserved fragment
-pub fill-sound : (d : Disc) (n : ℕ) → Sound d → d .pending ≡ 0 → 1 ≤ n → n ≤ used d → Sound (withRecord d n (filledRecord (numbered d n)))
-fill-sound d n s p from to =
+fill-grows : (d : Disc) (n : ℕ) → Sound d → 1 ≤ n → n ≤ used d → Grown d (withRecord d n (filledRecord (numbered d n)))
+fill-grows d n s from to =
     let f = numbered d n in
     let w = s .recorded (n - 1) (omega arith) in
     let z = s .zeroed (n - 1) (omega arith) in
-    let g : GrownRecord f (filledRecord f) =
-    record { session = refl; start = refl; size = refl; kind = refl; more = w; recorded = omega arith; zeroed = omega arith } in
-    grown-sound d (withRecord d n (filledRecord f)) s
-    (set-grown d (withRecord d n (filledRecord f)) (n - 1) (filledRecord f) s (omega arith) refl refl refl g)
+    set-grown d (withRecord d n (filledRecord f)) (n - 1) (filledRecord f) s (omega arith) refl refl refl
+    (record { session = refl; start = refl; size = refl; kind = refl; more = w; recorded = omega arith; zeroed = omega arith })
+
+pub fill-sound : (d : Disc) (n : ℕ) → Sound d → d .pending ≡ 0 → 1 ≤ n → n ≤ used d → Sound (withRecord d n (filledRecord (numbered d n)))
+fill-sound d n s p from to =
+    grown-sound d (withRecord d n (filledRecord (numbered d n))) s (fill-grows d n s from to)
     (s .few)
     (s .none)
     (λ q. absurd (q p))
     (λ q. p)
+
+pub fill-onward : (d : Disc) (n : ℕ) → Sound d → 1 ≤ n → n ≤ used d → Onward d (withRecord d n (filledRecord (numbered d n)))
+fill-onward d n s from to =
+    grown-onward d (withRecord d n (filledRecord (numbered d n))) s (fill-grows d n s from to)
 
 -- a complete fragment is no tail
 complete-tailless : (f : Fragment) → complete f ≡ true → isTail f ≡ false
@@ -118,16 +158,6 @@ shorten-replaces d s p w =
       tailless = complete-tailless (shortenedRecord (lastRecord d)) (eq-eqb (lastRecord d .recorded) (lastRecord d .recorded) refl);
       unowned = λ z. absurd (z p);
     }
-
--- the last record is the one that was put there
-replaced-is :
-    (d : Disc) (s : Sound d) (g : Fragment) → (g .length ≡ 0 → ⊥)
-    → (used (withRecord d (used d) g) ≡ used d) × (lastRecord (withRecord d (used d) g) ≡ g)
-replaced-is d s g l =
-    let n = used d in
-    let u = last-used d s g l in
-    let slot : n - 1 < length (d .fragments) = omega (arith, s .some, listed-le (d .fragments)) in
-    (u, ap (λ j. getD (set (d .fragments) (n - 1) g) (j - 1) unusedRecord) u ∙ getD-set-same (d .fragments) (n - 1) g unusedRecord slot)
 
 -- CLOSE 001 of the tail
 module _ (d : Disc) (s : Sound d) (p : d .pending ≡ 0) (w : lastRecord d .recorded ≡ 0 → ⊥) where
@@ -193,6 +223,19 @@ module _ (d : Disc) (s : Sound d) (p : d .pending ≡ 0) (w : lastRecord d .reco
       inr
       (let past = ltb-false (nextFragmentStart (end closedTail) .0) (d .capacity) y in
       omega (arith, ap (λ h. end h .0) (ap (λ j. numbered shortened j) shortened-used))))))))
+
+  shortened-onward : Onward d shortened
+  shortened-onward = replace-onward d (shortenedRecord (lastRecord d)) s w refl (omega arith)
+
+  pub shorten-onward : Onward d (appendTail shortened (used d))
+  unfolding appendTail
+  shorten-onward =
+      by-cases roomForTail
+      (λ t.
+      rw t
+      (onward-on d shortened _ shortened-onward
+      (rw (ap (λ j. withRecord shortened (j + 1) newTail) shortened-used) at (extend-onward shortened shortened-ordered newTail (room-extends t)))))
+      (λ t. rw t shortened-onward)
 
   -- 001 opens a new tail exactly where there is room for one
   pub new-tail : hasTail (appendTail shortened (used d)) ≡ roomForTail
@@ -286,25 +329,40 @@ module _ (d : Disc) (s : Sound d) (p : d .pending ≡ 0) (e : hasIncompleteReser
       (λ t. rw (kept-tail d b t) (closed-replaced (tail-written d p t b)))
       (λ t. rw (kept-same d t) (closed-same t)))
 
+pub close-tail-onward : (d : Disc) → Sound d → d .pending ≡ 0 → Onward d (closeTail d)
+close-tail-onward d s p =
+    by-cases (hasBlankTail d)
+    (λ b. rw (kept-blank d b) (drop-onward d s (blank-recorded d b)))
+    (λ b.
+    by-cases (hasTail d)
+    (λ t. rw (kept-tail d b t) (replace-onward d (shortenedRecord (lastRecord d)) s (tail-written d p t b) refl (omega arith)))
+    (λ t. rw (kept-same d t) (same-onward d)))
+
 -- CLOSE 010: a tail of the next session
-pub open-session-sound :
-    (k : Disc) → Closed k → k .finalized ≡ false → used k < limit → nextSessionStart (end (lastRecord k)) .0 < k .capacity → Sound (openSession k)
-unfolding openSession
-open-session-sound k c f free start =
-    let b = nextSessionStart (end (lastRecord k)) in
-    let m = tailFrom (k .capacity) (lastRecord k .session + 1) b in
-    extend-sound k (c .ordered) m
-    (record {
-      free = free;
-      follows = inr (refl, refl);
-      ends = tail-from-end (k .capacity) (lastRecord k .session + 1) b start;
-      recorded = refl;
-      zeroed = refl;
-      tail = tail-from-tail (k .capacity) (lastRecord k .session + 1) b start;
-      tailless = c .tailless;
-      closed = λ q. c .complete;
-    })
-    f
+module _ (k : Disc) (c : Closed k) (free : used k < limit) (start : nextSessionStart (end (lastRecord k)) .0 < k .capacity) where
+  abbrev sessionTail : Fragment
+  sessionTail = tailFrom (k .capacity) (lastRecord k .session + 1) (nextSessionStart (end (lastRecord k)))
+
+  session-extends : Extends k sessionTail
+  session-extends =
+      record {
+        free = free;
+        follows = inr (refl, refl);
+        ends = tail-from-end (k .capacity) (lastRecord k .session + 1) (nextSessionStart (end (lastRecord k))) start;
+        recorded = refl;
+        zeroed = refl;
+        tail = tail-from-tail (k .capacity) (lastRecord k .session + 1) (nextSessionStart (end (lastRecord k))) start;
+        tailless = c .tailless;
+        closed = λ q. c .complete;
+      }
+
+  pub open-session-sound : k .finalized ≡ false → Sound (openSession k)
+  unfolding openSession
+  open-session-sound f = extend-sound k (c .ordered) sessionTail session-extends f
+
+  pub open-session-onward : Onward k (openSession k)
+  unfolding openSession
+  open-session-onward = extend-onward k (c .ordered) sessionTail session-extends
 
 -- CLOSE 110
 pub finalize-sound : (k : Disc) → Closed k → k .pending ≡ 0 → Sound (finalized k)
@@ -363,7 +421,7 @@ pub record Room (d : Disc) (number n : ℕ) : Type 0 where
   pub alone : (d .pending ≡ 0) ⊎ (d .owner ≡ number)
   pub fits : numbered d number .recorded * 16 + (pendingIn d number + n) ≤ numbered d number .length * 16
 
-gather-grows : (d : Disc) (number n : ℕ) → Sound d → Room d number n → Grown d (gather d number n)
+pub gather-grows : (d : Disc) (number n : ℕ) → Sound d → Room d number n → Grown d (gather d number n)
 unfolding gather
 gather-grows d number n s m =
     let f = numbered d number in

@@ -1,5 +1,5 @@
 -- What a command does to the list: accepted, it leaves a sound list and the capacity; refused, the disc but for the sense.
-use Prim.Native.Nat.{ℕ, _+_, _-_, _≤_}
+use Prim.Native.Nat.{ℕ, _+_, _-_, _≤_, _<_}
 use mathlib.Core.Path.{_≡_, refl, sym, _∙_, ap}
 use mathlib.Core.Bool.{true, false, not, _&&_, _||_}
 use native.Mathlib.Omega.{arith}
@@ -14,37 +14,55 @@ use Rattle.disc.specs.Rules.{Sound}
 use Rattle.disc.specs.Ready.{Ready}
 use Rattle.disc.specs.Verdict.{rise, accepted, accept, refuse, noReply, noPlan, plan}
 use Rattle.disc.specs.Flush.{flush, flushPlan, synchronizeCache}
-use Rattle.disc.specs.Write.{flushOthers, gather, writeTo, writeFound, write}
+use Rattle.disc.specs.Write.{flushOthers, gather, writeTo, writeFound, write, Writable}
 use Rattle.disc.specs.Reserve.{reservedAt, splitTail, reserve}
 use Rattle.disc.specs.Close.{filledRecord, shortenedRecord, appendTail, closeIncomplete, closeFragment, hasIncompleteReserved, closeTail, openSession, closeSession, finalized, finalize, close}
 use Rattle.disc.proofs.Laws.Bool.{and-both, by-cases, cond-cases, or-right, or-false-left, contradiction}
 use Rattle.disc.proofs.Laws.Numbers.{equal-cases, below-limit}
 use Rattle.disc.proofs.Laws.Records.{listed-number}
 use Rattle.disc.proofs.Laws.Rules.{sound-rules, rules-sound}
-use Rattle.disc.proofs.Laws.Flush.{used-limit, flush-sound, flush-capacity, flush-finalized, flush-pending, flush-used, flush-written}
+use Rattle.disc.proofs.Laws.Flush.{used-limit, flush-sound, flush-capacity, flush-finalized, flush-pending, flush-used, flush-written, flush-grows}
 use Rattle.disc.proofs.Laws.Write.{writable-found, others-sound}
 use Rattle.disc.proofs.Laws.Close.{appended-last}
 use Rattle.disc.proofs.Laws.Session.{kept-few, kept-capacity, kept-finalized, kept-pending}
-use Rattle.disc.proofs.Laws.Keep.{split-sound, fill-sound, shorten-sound, close-tail-closed, open-session-sound, finalize-sound, only-blank, gather-sound, write-room}
+use Rattle.disc.proofs.Laws.Onward.{Onward, same-onward, onward-on, grown-onward}
+use Rattle.disc.proofs.Laws.Keep.{split-onward, fill-onward, shorten-onward, close-tail-onward, open-session-onward, gather-grows, split-sound, fill-sound, shorten-sound, close-tail-closed, open-session-sound, finalize-sound, only-blank, gather-sound, write-room}
 
 pub data Outcome (d : Disc) : Verdict → Type 0 where
   done :
-      (after : Disc) (n : ℕ) (r : Reply) (p : Plan) → Sound after → after .capacity ≡ d .capacity → Outcome d (accepted after n r p)
+      (after : Disc) (n : ℕ) (r : Reply) (p : Plan) → Sound after → after .capacity ≡ d .capacity → Onward d after → Outcome d (accepted after n r p)
   refused : (r : DriveRefusal) → Outcome d (refuse d r)
 
 -- an accepted command that leaves the list alone
 pub same-outcome : (d : Disc) (r : Reply) (p : Plan) → Ready d → Outcome d (accept d d r p)
 unfolding accept
-same-outcome d r p k = done d (rise d d) r p (sound-rules d (k .sound)) refl
+same-outcome d r p k = done d (rise d d) r p (sound-rules d (k .sound)) refl (same-onward d)
+
+flush-onward : (d : Disc) → Ready d → Onward d (flush d)
+flush-onward d r = grown-onward d (flush d) (sound-rules d (r .sound)) (flush-grows d r)
 
 pub synchronize-outcome : (d : Disc) → Ready d → Outcome d (synchronizeCache d)
 unfolding synchronizeCache accept
-synchronize-outcome d r = done (flush d) (rise d (flush d)) noReply (plan (flushPlan d) Nothing) (flush-sound d r) (flush-capacity d)
+synchronize-outcome d r = done (flush d) (rise d (flush d)) noReply (plan (flushPlan d) Nothing) (flush-sound d r) (flush-capacity d) (flush-onward d r)
 
 -- WRITE
 gather-capacity : (d : Disc) (number n : ℕ) → gather (flushOthers d number) number n .capacity ≡ d .capacity
 unfolding gather flushOthers
 gather-capacity d number n = cond-cases (λ e. e .capacity ≡ d .capacity) (eqb (d .owner) number) d (flush d) (λ e. refl) (λ e. flush-capacity d)
+
+others-onward : (d : Disc) (number : ℕ) → Ready d → Onward d (flushOthers d number)
+unfolding flushOthers
+others-onward d number r =
+    cond-cases (λ (e : Disc). Onward d e) (eqb (d .owner) number) d (flush d) (λ e. same-onward d) (λ e. flush-onward d r)
+
+write-onward :
+    (d : Disc) (a : Lba) (number n : ℕ) → Ready d → Writable d a number → a .0 + n ≤ firstSector (end (numbered d number)) .0
+    → Onward d (gather (flushOthers d number) number n)
+write-onward d a number n r w h =
+    let e = flushOthers d number in
+    let s = others-sound d number r in
+    onward-on d e (gather e number n) (others-onward d number r)
+    (grown-onward e (gather e number n) s (gather-grows e number n s (write-room d a number n r w h)))
 
 found-outcome : (d : Disc) (a : Lba) (n : ℕ) → Ready d → (w : Found) → writableAt d a ≡ w → Outcome d (writeFound d a n w)
 unfolding writeFound writeTo accept
@@ -54,7 +72,8 @@ found-outcome d a n r (Number number) e =
     (λ h.
     done (gather (flushOthers d number) number n) _ _ _
     (gather-sound (flushOthers d number) number n (others-sound d number r) (write-room d a number n r w (ltb-false _ _ h)))
-    (gather-capacity d number n))
+    (gather-capacity d number n)
+    (write-onward d a number n r w (ltb-false _ _ h)))
 found-outcome d a n r Nowhere e = refused InvalidAddressForWrite
 
 pub write-outcome : (d : Disc) (a : Lba) (n : ℕ) → Ready d → Outcome d (write d a n)
@@ -87,8 +106,9 @@ reserve-outcome d size r =
     cond-cases (Outcome d) (leb (d .capacity) (nextFragmentStart (end (reservedAt (lastRecord d) b)) .0)) _ _ (λ h. refused EndOfUserArea)
     (λ h.
     done (splitTail d b) _ _ _
-    (split-sound d b s f (not-false _ t) (below-limit (used-limit d r) (eqb-false _ _ u)) (blocks-some size (eqb-false _ _ z)) (leb-false _ _ h))
-    (split-capacity d b))))))
+    (split-sound d b s (not-false _ t) (below-limit (used-limit d r) (eqb-false _ _ u)) (blocks-some size (eqb-false _ _ z)) (leb-false _ _ h) f)
+    (split-capacity d b)
+    (split-onward d b s (not-false _ t) (below-limit (used-limit d r) (eqb-false _ _ u)) (blocks-some size (eqb-false _ _ z)) (leb-false _ _ h)))))))
 
 -- CLOSE 001
 append-capacity : (d : Disc) (n : ℕ) → appendTail d n .capacity ≡ d .capacity
@@ -109,16 +129,18 @@ unfolding closeIncomplete accept
 incomplete-outcome d n r from to b c Reserved e =
     done (withRecord (flush d) n (filledRecord (numbered (flush d) n))) _ _ _
     (fill-sound (flush d) n (flush-sound d r) (flush-pending d) from to) (flush-capacity d)
+    (onward-on d (flush d) _ (flush-onward d r) (fill-onward (flush d) n (flush-sound d r) from to))
 incomplete-outcome d n r from to b c Appended e =
     let s = flush-sound d r in
     let last = appended-last (flush d) n s from to c e in
     let g = shortenedRecord (numbered (flush d) n) in
+    let written : lastRecord (flush d) .recorded ≡ 0 → ⊥ =
+    λ w. flush-written d n r b (ap (λ m. numbered (flush d) m .recorded) last ∙ w) in
+    let same = ap (λ m. appendTail (withRecord (flush d) m (shortenedRecord (numbered (flush d) m))) m) (sym last) in
     done (appendTail (withRecord (flush d) n g) n) _ _ _
-    (rw (ap (λ m. appendTail (withRecord (flush d) m (shortenedRecord (numbered (flush d) m))) m) (sym last))
-    at
-    (shorten-sound (flush d) s (flush-pending d)
-    (λ w. flush-written d n r b (ap (λ m. numbered (flush d) m .recorded) last ∙ w)) (incomplete-open (flush d) n s from to c)))
+    (rw same at (shorten-sound (flush d) s (flush-pending d) written (incomplete-open (flush d) n s from to c)))
     (append-capacity (withRecord (flush d) n g) n ∙ flush-capacity d)
+    (onward-on d (flush d) _ (flush-onward d r) (rw same at (shorten-onward (flush d) s (flush-pending d) written)))
 
 pub close-fragment-outcome : (d : Disc) (n : ℕ) → Ready d → Outcome d (closeFragment d n)
 unfolding closeFragment accept
@@ -129,7 +151,7 @@ close-fragment-outcome d n r =
     cond-cases (Outcome d) (isBlank d n (numbered d n)) _ _ (λ b. refused EmptyTrack)
     (λ b.
     cond-cases (Outcome d) (complete (numbered (flush d) n)) _ _
-    (λ c. done (flush d) _ _ _ (flush-sound d r) (flush-capacity d))
+    (λ c. done (flush d) _ _ _ (flush-sound d r) (flush-capacity d) (flush-onward d r))
     (λ c. incomplete-outcome d n r (k .0) (omega (arith, k .1, flush-used d r)) b c (numbered (flush d) n .kind) refl)))
 
 -- CLOSE 010 and 110
@@ -161,15 +183,20 @@ close-session-outcome d r =
     (λ l.
     let c = close-tail-closed e s p i (two-kept d r (λ b q. contradiction (or-right (d .finalized) b) h)) in
     let same = kept-capacity e ∙ flush-capacity d in
+    let few = kept-few e s p (eqb-false _ _ u) in
+    let start : nextSessionStart (end (lastRecord k)) .0 < k .capacity =
+    omega (arith, ltb-false (d .capacity) (nextSessionStart (end (lastRecord k)) .0 + 1) l, same) in
     done (openSession k) _ _ _
-    (open-session-sound k c
-    (kept-finalized e ∙ (flush-finalized d ∙ or-false-left (d .finalized) (blankTailOnly d) h))
-    (kept-few e s p (eqb-false _ _ u))
-    (omega (arith, ltb-false (d .capacity) (nextSessionStart (end (lastRecord k)) .0 + 1) l, same)))
-    (open-capacity k ∙ same)))))
+    (open-session-sound k c few start (kept-finalized e ∙ (flush-finalized d ∙ or-false-left (d .finalized) (blankTailOnly d) h)))
+    (open-capacity k ∙ same)
+    (onward-on d e _ (flush-onward d r) (onward-on e k _ (close-tail-onward e s p) (open-session-onward k c few start)))))))
   where
     same-done : (d : Disc) → Ready d → Outcome d (accepted d (rise d d) noReply noPlan)
-    same-done d r = done d _ _ _ (sound-rules d (r .sound)) refl
+    same-done d r = done d _ _ _ (sound-rules d (r .sound)) refl (same-onward d)
+
+finalized-onward : (d k : Disc) → Onward d k → Onward d (finalized k)
+finalized-onward d k o =
+    record { stays = λ i h n. let a = o .stays i h n in record { listed = a .listed; start = a .start; recorded = a .recorded } }
 
 pub finalize-outcome : (d : Disc) → Ready d → Outcome d (finalize d)
 unfolding finalize accept
@@ -178,14 +205,15 @@ finalize-outcome d r =
     let s = flush-sound d r in
     let p = flush-pending d in
     let k = closeTail e in
-    cond-cases (Outcome d) (d .finalized) _ _ (λ h. done d _ _ _ (sound-rules d (r .sound)) refl)
+    cond-cases (Outcome d) (d .finalized) _ _ (λ h. done d _ _ _ (sound-rules d (r .sound)) refl (same-onward d))
     (λ h.
     cond-cases (Outcome d) (hasIncompleteReserved e) _ _ (λ i. refused IncompleteTrackInSession)
     (λ i.
     cond-cases (Outcome d) (blankTailOnly d && eqb (lastRecord d .session) 1) _ _ (λ b. refused EmptyTrack)
     (λ b.
     let c = close-tail-closed e s p i (two-kept d r (λ t q. contradiction (and-both t (eq-eqb _ _ q)) b)) in
-    done (finalized k) _ _ _ (finalize-sound k c (kept-pending e ∙ p)) (kept-capacity e ∙ flush-capacity d))))
+    done (finalized k) _ _ _ (finalize-sound k c (kept-pending e ∙ p)) (kept-capacity e ∙ flush-capacity d)
+    (finalized-onward d k (onward-on d e k (flush-onward d r) (close-tail-onward e s p))))))
 
 pub close-outcome : (d : Disc) (function n : ℕ) → Ready d → Outcome d (close d function n)
 unfolding close
@@ -222,23 +250,31 @@ sense-sound d q s =
 -- so every command keeps the list sound and the capacity
 pub outcome-ready : (d : Disc) (v : Verdict) → Ready d → Outcome d v → Ready (v .disc)
 unfolding accepted refuse
-outcome-ready d v r (done after n q p s c) =
+outcome-ready d v r (done after n q p s c o) =
     record { sound = rules-sound (withSense after noSense) (sense-sound after noSense s); range = rw c (r .range) }
 outcome-ready d v r (refused q) =
     record { sound = rules-sound (withSense d (refusalSense q)) (sense-sound d (refusalSense q) (sound-rules d (r .sound))); range = r .range }
 
 pub outcome-capacity : (d : Disc) (v : Verdict) → Outcome d v → v .disc .capacity ≡ d .capacity
 unfolding accepted refuse
-outcome-capacity d v (done after n q p s c) = c
+outcome-capacity d v (done after n q p s c o) = c
 outcome-capacity d v (refused q) = refl
 
 -- an accepted command clears the sense, a refused one changes the sense alone
 pub outcome-accepted : (d : Disc) (v : Verdict) → Outcome d v → v .answer ≡ Accepted → v .disc .sense ≡ noSense
 unfolding accepted refuse
-outcome-accepted d v (done after n q p s c) e = refl
+outcome-accepted d v (done after n q p s c o) e = refl
 outcome-accepted d v (refused q) e = absurd (let z : _≡_ {A = ℕ} 0 1 = cc in omega arith)
 
 pub outcome-refused : (d : Disc) (v : Verdict) (q : DriveRefusal) → Outcome d v → v .answer ≡ Drive q → v ≡ refuse d q
 unfolding accepted refuse
-outcome-refused d v q (done after n x p s c) e = absurd (let z : _≡_ {A = ℕ} 0 1 = cc in omega arith)
+outcome-refused d v q (done after n x p s c o) e = absurd (let z : _≡_ {A = ℕ} 0 1 = cc in omega arith)
 outcome-refused d v q (refused x) e = let same : x ≡ q = cc in rw same
+
+-- and what was recorded before it is recorded after it
+pub outcome-onward : (d : Disc) (v : Verdict) → Outcome d v → Onward d (v .disc)
+unfolding accepted refuse
+outcome-onward d v (done after n q p s c o) =
+    record { stays = λ i h m. let a = o .stays i h m in record { listed = a .listed; start = a .start; recorded = a .recorded } }
+outcome-onward d v (refused q) =
+    record { stays = λ i h m. record { listed = h; start = refl; recorded = omega arith } }

@@ -1,25 +1,29 @@
 -- What the decision about a command does to the disc.
 use Prim.Native.Nat.{ℕ, _+_}
-use mathlib.Core.Path.{_≡_, ap}
+use mathlib.Core.Path.{_≡_, ap, refl}
 use mathlib.Core.Bool.{true, not}
 use mathlib.Core.List.{List}
+use native.Mathlib.Omega.{arith}
+use borrow.Author.Tests.{not-false}
 use lib.ListN.{length}
 use lib.Dec.{eqb, ltb}
-use Rattle.disc.specs.Types.{Lba, Disc, Verdict, Found, Number, Nowhere, Command, TestUnitReady, RequestSense, ReadCapacity, Read, Write, SynchronizeCache, ReserveTrack, CloseTrackSession, ReadDiscInformation, ReadTrackInformation, Unlisted, InvalidOperationCode, InvalidFieldInCommand, AddressOutOfRange, BlankCheck}
+use Rattle.disc.specs.Types.{Lba, Disc, Verdict, Found, Number, Nowhere, Command, TestUnitReady, RequestSense, ReadCapacity, Read, Write, SynchronizeCache, ReserveTrack, CloseTrackSession, ReadDiscInformation, ReadTrackInformation, Unlisted, InvalidOperationCode, InvalidFieldInCommand, AddressOutOfRange, BlankCheck, DriveRefusal, LinkRefusal, Accepted, Link, Drive, CommandBlockLength, MediumSize, UnsoundState, TransferLength}
 use Rattle.disc.specs.Address.{lba, sectorsIn}
-use Rattle.disc.specs.Answer.{number, allowedSense}
+use Rattle.disc.specs.Answer.{number, allowedSense, noSense}
 use Rattle.disc.specs.Command.{decode}
-use Rattle.disc.specs.Records.{used, isListed, hasTail, atAddress}
+use Rattle.disc.specs.Records.{used, isListed, hasTail, atAddress, readable}
 use Rattle.disc.specs.Sound.{sound, allowedState}
 use Rattle.disc.specs.Blank.{inRange}
 use Rattle.disc.specs.Ready.{Ready}
 use Rattle.disc.specs.Lengths.{lengthsFit}
-use Rattle.disc.specs.Verdict.{refuseLink, noReply, noPlan}
+use Rattle.disc.specs.Verdict.{refuseLink, noReply, noPlan, refuse}
 use Rattle.disc.specs.Read.{allReadable, read}
 use Rattle.disc.specs.Reports.{requestSense, readCapacity, readDiscInformation, trackReport, trackFound, trackNumbered, readTrackInformation}
 use Rattle.disc.specs.Judge.{testUnitReady, perform, judgeCommand, judge, Judged}
 use Rattle.disc.proofs.Laws.Bool.{and-left, cond-cases}
-use Rattle.disc.proofs.Laws.Outcome.{Outcome, refused, same-outcome, synchronize-outcome, write-outcome, reserve-outcome, close-outcome, outcome-ready}
+use Rattle.disc.proofs.Laws.Onward.{Onward, same-onward}
+use Rattle.disc.proofs.Laws.Read.{readable-onward}
+use Rattle.disc.proofs.Laws.Outcome.{Outcome, refused, same-outcome, synchronize-outcome, write-outcome, reserve-outcome, close-outcome, outcome-ready, outcome-answer, outcome-refused, outcome-accepted, outcome-capacity, outcome-onward}
 
 -- a state that L3 lets through, with a capacity in range, is ready for every command
 pub allowed-ready : (d : Disc) → inRange (d .capacity) ≡ true → allowedState d ≡ true → Ready d
@@ -87,15 +91,65 @@ perform-outcome d (ReadDiscInformation t n) r = disc-outcome d t n r
 perform-outcome d (ReadTrackInformation t n m) r = track-outcome d t n m r
 perform-outcome d Unlisted r = refused InvalidOperationCode
 
--- the same of a decision: a disc that is ready stays so, whatever the block and the lengths
-pub judge-ready : (d : Disc) (b : List ℕ) (n m : ℕ) → Ready d → Ready (judge d b n m .disc)
-unfolding judge judgeCommand refuseLink
-judge-ready d b n m r =
-    cond-cases (λ (v : Verdict). Ready (v .disc)) (not (eqb (length b) 12)) _ _ (λ e. r)
+-- a decision is a link refusal, or what the drive makes of a disc that is ready: of any state, block and lengths
+pub data Decided (d : Disc) : Verdict → Type 0 where
+  onLink : (q : LinkRefusal) → Decided d (refuseLink d q)
+  byDrive : (v : Verdict) → Ready d → Outcome d v → Decided d v
+
+pub judge-decided : (d : Disc) (b : List ℕ) (n m : ℕ) → Decided d (judge d b n m)
+unfolding judge judgeCommand
+judge-decided d b n m =
+    cond-cases (Decided d) (not (eqb (length b) 12)) _ _ (λ e. onLink CommandBlockLength)
     (λ e.
-    cond-cases (λ (v : Verdict). Ready (v .disc)) (not (inRange (d .capacity))) _ _ (λ h. r)
+    cond-cases (Decided d) (not (inRange (d .capacity))) _ _ (λ h. onLink MediumSize)
     (λ h.
-    cond-cases (λ (v : Verdict). Ready (v .disc)) (not (allowedState d)) _ _ (λ a. r)
+    cond-cases (Decided d) (not (allowedState d)) _ _ (λ a. onLink UnsoundState)
     (λ a.
-    cond-cases (λ (v : Verdict). Ready (v .disc)) (not (lengthsFit (decode b) n m)) _ _ (λ l. r)
-    (λ l. outcome-ready d (perform d (decode b)) r (perform-outcome d (decode b) r)))))
+    cond-cases (Decided d) (not (lengthsFit (decode b) n m)) _ _ (λ l. onLink TransferLength)
+    (λ l. let r = allowed-ready d (not-false _ h) (not-false _ a) in byDrive (perform d (decode b)) r (perform-outcome d (decode b) r)))))
+
+-- a link refusal changes nothing, a drive refusal the sense alone, an accepted command clears the sense
+pub decided-link : (d : Disc) (v : Verdict) (q : LinkRefusal) → Decided d v → v .answer ≡ Link q → v ≡ refuseLink d q
+unfolding refuseLink
+decided-link d v q (onLink x) e = let same : x ≡ q = cc in rw same
+decided-link d v q (byDrive w r o) e = absurd (outcome-answer d w q o e)
+
+pub decided-refused : (d : Disc) (v : Verdict) (q : DriveRefusal) → Decided d v → v .answer ≡ Drive q → v ≡ refuse d q
+unfolding refuseLink
+decided-refused d v q (onLink x) e = absurd (let z : _≡_ {A = ℕ} 0 1 = cc in omega arith)
+decided-refused d v q (byDrive w r o) e = outcome-refused d w q o e
+
+pub decided-accepted : (d : Disc) (v : Verdict) → Decided d v → v .answer ≡ Accepted → v .disc .sense ≡ noSense
+unfolding refuseLink
+decided-accepted d v (onLink x) e = absurd (let z : _≡_ {A = ℕ} 0 1 = cc in omega arith)
+decided-accepted d v (byDrive w r o) e = outcome-accepted d w o e
+
+-- every decision keeps a disc ready, its capacity, and every sector that was readable
+pub decided-ready : (d : Disc) (v : Verdict) → Ready d → Decided d v → Ready (v .disc)
+unfolding refuseLink
+decided-ready d v r (onLink x) = r
+decided-ready d v r (byDrive w k o) = outcome-ready d w r o
+
+pub decided-capacity : (d : Disc) (v : Verdict) → Decided d v → v .disc .capacity ≡ d .capacity
+unfolding refuseLink
+decided-capacity d v (onLink x) = refl
+decided-capacity d v (byDrive w k o) = outcome-capacity d w o
+
+pub decided-onward : (d : Disc) (v : Verdict) → Decided d v → Onward d (v .disc)
+unfolding refuseLink
+decided-onward d v (onLink x) = same-onward d
+decided-onward d v (byDrive w k o) = outcome-onward d w o
+
+pub judge-ready : (d : Disc) (b : List ℕ) (n m : ℕ) → Ready d → Ready (judge d b n m .disc)
+judge-ready d b n m r = decided-ready d (judge d b n m) r (judge-decided d b n m)
+
+pub judge-readable :
+    (d : Disc) (b : List ℕ) (n m : ℕ) (a : Lba) → readable d a ≡ true → readable (judge d b n m .disc) a ≡ true
+judge-readable d b n m a t =
+    readable-onward d (judge d b n m .disc) a (decided-onward d (judge d b n m) (judge-decided d b n m)) t
+
+-- blocks with the same fields are decided alike, whatever stands in the bytes that no field reads
+pub judge-decodes :
+    (d : Disc) (b c : List ℕ) (n m : ℕ) → length b ≡ length c → decode b ≡ decode c → judge d b n m ≡ judge d c n m
+unfolding judge
+judge-decodes d b c n m l e = rw (l, e)

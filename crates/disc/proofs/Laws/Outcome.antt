@@ -5,7 +5,7 @@ use mathlib.Core.Bool.{true, false, not, _&&_, _||_}
 use native.Mathlib.Omega.{arith}
 use borrow.Author.Tests.{eq-eqb, eqb-false, leb-false, ltb-false, not-false}
 use lib.Dec.{eqb, leb, ltb}
-use Rattle.disc.specs.Types.{Sense, Accepted, Drive, Lba, Kind, Reserved, Appended, Disc, Found, Number, Nowhere, Reply, Plan, Verdict, DriveRefusal, Nothing, WriteProtected, InvalidFieldInCommand, InvalidAddressForWrite, IncompleteTrackInSession, EmptyTrack, NoMoreReservations, EndOfUserArea}
+use Rattle.disc.specs.Types.{Sense, Accepted, Drive, Lba, Kind, Reserved, Appended, Disc, Found, Number, Nowhere, Reply, Plan, Verdict, DriveRefusal, LinkRefusal, Link, Nothing, WriteProtected, InvalidFieldInCommand, InvalidAddressForWrite, IncompleteTrackInSession, EmptyTrack, NoMoreReservations, EndOfUserArea}
 use Rattle.disc.specs.Address.{firstSector, blocksFor}
 use Rattle.disc.specs.Answer.{noSense, refusalSense}
 use Rattle.disc.specs.Fragment.{end, complete, isBlank, nextFragmentStart, nextSessionStart}
@@ -270,6 +270,12 @@ pub outcome-refused : (d : Disc) (v : Verdict) (q : DriveRefusal) → Outcome d 
 unfolding accepted refuse
 outcome-refused d v q (done after n x p s c o) e = absurd (let z : _≡_ {A = ℕ} 0 1 = cc in omega arith)
 outcome-refused d v q (refused x) e = let same : x ≡ q = cc in rw same
+
+-- the drive gives no link refusal
+pub outcome-answer : (d : Disc) (v : Verdict) (q : LinkRefusal) → Outcome d v → v .answer ≡ Link q → ⊥
+unfolding accepted refuse
+outcome-answer d v q (done after n x p s c o) e = let z : _≡_ {A = ℕ} 0 1 = cc in omega arith
+outcome-answer d v q (refused x) e = let z : _≡_ {A = ℕ} 0 1 = cc in omega arith
 
 -- and what was recorded before it is recorded after it
 pub outcome-onward : (d : Disc) (v : Verdict) → Outcome d v → Onward d (v .disc)

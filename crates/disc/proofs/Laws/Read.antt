@@ -17,6 +17,7 @@ use Rattle.disc.proofs.Laws.Bool.{and-left, and-right, and-both, by-cas
 use Rattle.disc.proofs.Laws.Numbers.{order-cases}
 use Rattle.disc.proofs.Laws.Records.{listed-at, some-cases, at-some}
 use Rattle.disc.proofs.Laws.Sound.{starts-rise}
+use Rattle.disc.proofs.Laws.Onward.{Onward}
 
 -- a sector is readable where a record in use holds it in its recorded blocks
 module _ (d : Disc) (a : Lba) where
@@ -43,6 +44,17 @@ module _ (a : Lba) (f : Fragment) where
   pub recorded-between :
       firstSector (f .start) .0 ≤ a .0 → a .0 < firstSector (firstUnrecorded f) .0 → holdsRecorded a f ≡ true
   recorded-between h k = and-both (le-leb _ _ h) (lt-ltb _ _ k)
+
+-- a readable sector stays so while the list goes onward
+pub readable-onward : (d e : Disc) (a : Lba) → Onward d e → readable d a ≡ true → readable e a ≡ true
+readable-onward d e a o =
+    readable-cases d a
+    (λ i l t.
+    let from = recorded-from a (at d i) t in
+    let below = recorded-below a (at d i) t in
+    let s = o .stays i l (λ z. omega (arith, from, below, z)) in
+    at-readable e a i (s .listed)
+    (recorded-between a (at e i) (omega (arith, from, s .start)) (omega (arith, below, s .start, s .recorded))))
 
 module _ (a : Lba) (n : ℕ) (f : Fragment) where
   pub run-from : holdsRun a n f ≡ true → firstSector (f .start) .0 ≤ a .0

@@ -10,6 +10,7 @@ pub mod Grow
 pub mod Order
 pub mod Onward
 pub mod Blank
+pub mod Plan
 pub mod Lengths
 pub mod Verdict
 pub mod Flush

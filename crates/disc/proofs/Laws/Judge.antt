@@ -1,5 +1,5 @@
 -- What the decision about a command does to the disc.
-use Prim.Native.Nat.{ℕ, _+_}
+use Prim.Native.Nat.{ℕ, _+_, _≤_}
 use mathlib.Core.Path.{_≡_, ap, refl}
 use mathlib.Core.Bool.{true, not}
 use mathlib.Core.List.{List}
@@ -11,7 +11,7 @@ use Rattle.disc.specs.Types.{Lba, Disc, Verdict, Found, Number, Nowhere,
 use Rattle.disc.specs.Address.{lba, sectorsIn}
 use Rattle.disc.specs.Answer.{number, allowedSense, noSense}
 use Rattle.disc.specs.Command.{decode}
-use Rattle.disc.specs.Records.{used, isListed, hasTail, atAddress, readable}
+use Rattle.disc.specs.Records.{used, isListed, hasTail, atAddress, readable, sumRecorded}
 use Rattle.disc.specs.Sound.{sound, allowedState}
 use Rattle.disc.specs.Blank.{inRange}
 use Rattle.disc.specs.Ready.{Ready}
@@ -21,9 +21,11 @@ use Rattle.disc.specs.Read.{allReadable, read}
 use Rattle.disc.specs.Reports.{requestSense, readCapacity, readDiscInformation, trackReport, trackFound, trackNumbered, readTrackInformation}
 use Rattle.disc.specs.Judge.{testUnitReady, perform, judgeCommand, judge, Judged}
 use Rattle.disc.proofs.Laws.Bool.{and-left, cond-cases}
-use Rattle.disc.proofs.Laws.Onward.{Onward, same-onward}
+use Rattle.disc.proofs.Laws.Rules.{sound-rules}
+use Rattle.disc.proofs.Laws.Onward.{Onward, same-onward, onward-sum}
+use Rattle.disc.proofs.Laws.Plan.{Placed, placed-none, placed-send}
 use Rattle.disc.proofs.Laws.Read.{readable-onward}
-use Rattle.disc.proofs.Laws.Outcome.{Outcome, refused, same-outcome, synchronize-outcome, write-outcome, reserve-outcome, close-outcome, outcome-ready, outcome-answer, outcome-refused, outcome-accepted, outcome-capacity, outcome-onward}
+use Rattle.disc.proofs.Laws.Outcome.{Outcome, refused, same-outcome, synchronize-outcome, write-outcome, reserve-outcome, close-outcome, outcome-ready, outcome-answer, outcome-refused, outcome-accepted, outcome-capacity, outcome-onward, outcome-placed}
 
 -- a state that L3 lets through, with a capacity in range, is ready for every command
 pub allowed-ready : (d : Disc) → inRange (d .capacity) ≡ true → allowedState d ≡ true → Ready d
@@ -37,19 +39,19 @@ judged d b n m r e = record { verdict = e; numbered = ap (λ v. number (v .answe
 read-outcome : (d : Disc) (a : Lba) (n : ℕ) → Ready d → Outcome d (read d a n)
 unfolding read
 read-outcome d a n r =
-    cond-cases (Outcome d) (eqb n 0) _ _ (λ e. same-outcome d noReply noPlan r)
+    cond-cases (Outcome d) (eqb n 0) _ _ (λ e. same-outcome d noReply noPlan (placed-none d) r)
     (λ e.
     cond-cases (Outcome d) (ltb (sectorsIn (d .capacity)) (a .0 + n)) _ _ (λ h. refused AddressOutOfRange)
-    (λ h. cond-cases (Outcome d) (allReadable d a n) _ _ (λ t. same-outcome d noReply _ r) (λ t. refused BlankCheck)))
+    (λ h. cond-cases (Outcome d) (allReadable d a n) _ _ (λ t. same-outcome d noReply _ (placed-send d a n) r) (λ t. refused BlankCheck)))
 
 disc-outcome : (d : Disc) (t n : ℕ) → Ready d → Outcome d (readDiscInformation d t n)
 unfolding readDiscInformation
 disc-outcome d t n r =
-    cond-cases (Outcome d) (eqb t 0) _ _ (λ e. same-outcome d _ noPlan r) (λ e. refused InvalidFieldInCommand)
+    cond-cases (Outcome d) (eqb t 0) _ _ (λ e. same-outcome d _ noPlan (placed-none d) r) (λ e. refused InvalidFieldInCommand)
 
 report-outcome : (d : Disc) (n m : ℕ) → Ready d → Outcome d (trackReport d n m)
 unfolding trackReport
-report-outcome d n m r = same-outcome d _ noPlan r
+report-outcome d n m r = same-outcome d _ noPlan (placed-none d) r
 
 found-report : (d : Disc) (n : ℕ) → Ready d → (w : Found) → Outcome d (trackFound d n w)
 unfolding trackFound
@@ -70,11 +72,11 @@ track-outcome d t n m r =
 
 other-outcomes : (d : Disc) → Ready d → Outcome d (testUnitReady d) × Outcome d (readCapacity d)
 unfolding testUnitReady readCapacity
-other-outcomes d r = (same-outcome d noReply noPlan r, same-outcome d _ noPlan r)
+other-outcomes d r = (same-outcome d noReply noPlan (placed-none d) r, same-outcome d _ noPlan (placed-none d) r)
 
 sense-outcome : (d : Disc) (n : ℕ) → Ready d → Outcome d (requestSense d n)
 unfolding requestSense
-sense-outcome d n r = same-outcome d _ noPlan r
+sense-outcome d n r = same-outcome d _ noPlan (placed-none d) r
 
 -- every command keeps the list sound and the capacity, or changes the sense alone
 pub perform-outcome : (d : Disc) (c : Command) → Ready d → Outcome d (perform d c)
@@ -142,6 +144,17 @@ decided-onward d v (byDrive w k o) = outcome-onward d w o
 
 pub judge-ready : (d : Disc) (b : List ℕ) (n m : ℕ) → Ready d → Ready (judge d b n m .disc)
 judge-ready d b n m r = decided-ready d (judge d b n m) r (judge-decided d b n m)
+
+pub decided-sum : (d : Disc) (v : Verdict) → Decided d v → sumRecorded (d .fragments) ≤ sumRecorded (v .disc .fragments)
+unfolding refuseLink
+decided-sum d v (onLink x) = omega arith
+decided-sum d v (byDrive w k o) = onward-sum d (w .disc) (sound-rules d (k .sound)) (outcome-onward d w o)
+
+-- the blocks that its plan records were unrecorded before, inside the medium, each time of one fragment
+pub decided-placed : (d : Disc) (v : Verdict) → Decided d v → Placed d (v .plan)
+unfolding refuseLink
+decided-placed d v (onLink x) = placed-none d
+decided-placed d v (byDrive w k o) = outcome-placed d w o
 
 pub judge-readable :
     (d : Disc) (b : List ℕ) (n m : ℕ) (a : Lba) → readable d a ≡ true → readable (judge d b n m .disc) a ≡ true

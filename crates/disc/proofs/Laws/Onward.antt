@@ -1,13 +1,17 @@
 -- What is recorded stays recorded: a record with recorded blocks stays at its place and start and records no fewer.
-use Prim.Native.Nat.{ℕ, _+_, _-_, _≤_, _<_}
+use Prim.Native.Nat.{ℕ, _+_, _-_, _≤_, _<_, suc}
 use mathlib.Core.Path.{_≡_, refl, sym, _∙_, ap}
 use native.Mathlib.Omega.{arith}
 use lib.ListN.{length, getD, set}
 use lib.Seq.{getD-set-same, getD-set-other}
+use mathlib.Core.List.{List, [], _∷_}
+use borrow.Author.Tests.{ltb-true, ltb-false}
+use lib.Dec.{ltb}
 use Rattle.disc.specs.Types.{Fragment, Disc}
 use Rattle.disc.specs.Fragment.{unusedRecord}
-use Rattle.disc.specs.Records.{used, lastRecord, withRecord}
+use Rattle.disc.specs.Records.{used, lastRecord, withRecord, sumRecorded}
 use Rattle.disc.specs.Rules.{at, Sound}
+use Rattle.disc.proofs.Laws.Bool.{by-cases}
 use Rattle.disc.proofs.Laws.Numbers.{equal-cases}
 use Rattle.disc.proofs.Laws.Records.{listed-le}
 use Rattle.disc.proofs.Laws.Grow.{Grown, grown-used}
@@ -96,3 +100,20 @@ extend-onward d o t x =
           ap (λ j. getD (set (d .fragments) j t) i unusedRecord) behind ∙ getD-set-other (d .fragments) (used d) i t unusedRecord (λ e. omega arith) in
           record { listed = omega arith; start = ap (λ f. f .start .0) here; recorded = omega (arith, ap (λ f. f .recorded) here) };
     }
+
+-- the recorded blocks of all fragments together never get fewer
+sum-grows :
+    (fs gs : List Fragment) → ((i : ℕ) → getD fs i unusedRecord .recorded ≤ getD gs i unusedRecord .recorded)
+    → sumRecorded fs ≤ sumRecorded gs
+unfolding sumRecorded
+sum-grows [] gs h = omega arith
+sum-grows (f ∷ fs) [] h = omega (arith, h 0, sum-grows fs [] (λ i. h (suc i)))
+sum-grows (f ∷ fs) (g ∷ gs) h = omega (arith, h 0, sum-grows fs gs (λ i. h (suc i)))
+
+pub onward-sum : (d e : Disc) → Sound d → Onward d e → sumRecorded (d .fragments) ≤ sumRecorded (e .fragments)
+onward-sum d e s o =
+    sum-grows (d .fragments) (e .fragments)
+    (λ i.
+    by-cases (ltb i (used d))
+    (λ l. equal-cases (at d i .recorded) 0 (λ z. omega (arith, z)) (λ n. o .stays i (ltb-true _ _ l) n .recorded))
+    (λ l. let z : at d i .recorded ≡ 0 = ap (λ (f : Fragment). f .recorded) (s .unused i (ltb-false _ _ l)) in omega (arith, z)))

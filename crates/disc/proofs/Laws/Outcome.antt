@@ -26,24 +26,26 @@ use Rattle.disc.proofs.Laws.Write.{writable-found, others-sound}
 use Rattle.disc.proofs.Laws.Close.{appended-last}
 use Rattle.disc.proofs.Laws.Session.{kept-few, kept-capacity, kept-finalized, kept-pending}
 use Rattle.disc.proofs.Laws.Onward.{Onward, same-onward, onward-on, grown-onward}
+use Rattle.disc.proofs.Laws.Plan.{Placed, placed-none, placed-flush, placed-gather, placed-fill}
 use Rattle.disc.proofs.Laws.Keep.{split-onward, fill-onward, shorten-onward, close-tail-onward, open-session-onward, gather-grows, split-sound, fill-sound, shorten-sound, close-tail-closed, open-session-sound, finalize-sound, only-blank, gather-sound, write-room}
 
 pub data Outcome (d : Disc) : Verdict → Type 0 where
   done :
-      (after : Disc) (n : ℕ) (r : Reply) (p : Plan) → Sound after → after .capacity ≡ d .capacity → Onward d after → Outcome d (accepted after n r p)
+      (after : Disc) (n : ℕ) (r : Reply) (p : Plan) → Sound after → after .capacity ≡ d .capacity → Onward d after → Placed d p
+      → Outcome d (accepted after n r p)
   refused : (r : DriveRefusal) → Outcome d (refuse d r)
 
 -- an accepted command that leaves the list alone
-pub same-outcome : (d : Disc) (r : Reply) (p : Plan) → Ready d → Outcome d (accept d d r p)
+pub same-outcome : (d : Disc) (r : Reply) (p : Plan) → Placed d p → Ready d → Outcome d (accept d d r p)
 unfolding accept
-same-outcome d r p k = done d (rise d d) r p (sound-rules d (k .sound)) refl (same-onward d)
+same-outcome d r p l k = done d (rise d d) r p (sound-rules d (k .sound)) refl (same-onward d) l
 
 flush-onward : (d : Disc) → Ready d → Onward d (flush d)
 flush-onward d r = grown-onward d (flush d) (sound-rules d (r .sound)) (flush-grows d r)
 
 pub synchronize-outcome : (d : Disc) → Ready d → Outcome d (synchronizeCache d)
 unfolding synchronizeCache accept
-synchronize-outcome d r = done (flush d) (rise d (flush d)) noReply (plan (flushPlan d) Nothing) (flush-sound d r) (flush-capacity d) (flush-onward d r)
+synchronize-outcome d r = done (flush d) (rise d (flush d)) noReply (plan (flushPlan d) Nothing) (flush-sound d r) (flush-capacity d) (flush-onward d r) (placed-flush d r)
 
 -- WRITE
 gather-capacity : (d : Disc) (number n : ℕ) → gather (flushOthers d number) number n .capacity ≡ d .capacity
@@ -73,13 +75,13 @@ found-outcome d a n r (Number number) e =
     done (gather (flushOthers d number) number n) _ _ _
     (gather-sound (flushOthers d number) number n (others-sound d number r) (write-room d a number n r w (ltb-false _ _ h)))
     (gather-capacity d number n)
-    (write-onward d a number n r w (ltb-false _ _ h)))
+    (write-onward d a number n r w (ltb-false _ _ h)) (placed-gather d a number n r w (ltb-false _ _ h)))
 found-outcome d a n r Nowhere e = refused InvalidAddressForWrite
 
 pub write-outcome : (d : Disc) (a : Lba) (n : ℕ) → Ready d → Outcome d (write d a n)
 unfolding write
 write-outcome d a n r =
-    cond-cases (Outcome d) (eqb n 0) _ _ (λ e. same-outcome d noReply noPlan r)
+    cond-cases (Outcome d) (eqb n 0) _ _ (λ e. same-outcome d noReply noPlan (placed-none d) r)
     (λ e. cond-cases (Outcome d) (d .finalized) _ _ (λ f. refused WriteProtected) (λ f. found-outcome d a n r (writableAt d a) refl))
 
 -- RESERVE
@@ -108,7 +110,8 @@ reserve-outcome d size r =
     done (splitTail d b) _ _ _
     (split-sound d b s (not-false _ t) (below-limit (used-limit d r) (eqb-false _ _ u)) (blocks-some size (eqb-false _ _ z)) (leb-false _ _ h) f)
     (split-capacity d b)
-    (split-onward d b s (not-false _ t) (below-limit (used-limit d r) (eqb-false _ _ u)) (blocks-some size (eqb-false _ _ z)) (leb-false _ _ h)))))))
+    (split-onward d b s (not-false _ t) (below-limit (used-limit d r) (eqb-false _ _ u)) (blocks-some size (eqb-false _ _ z)) (leb-false _ _ h))
+    (placed-none d))))))
 
 -- CLOSE 001
 append-capacity : (d : Disc) (n : ℕ) → appendTail d n .capacity ≡ d .capacity
@@ -130,6 +133,7 @@ incomplete-outcome d n r from to b c Reserved e =
     done (withRecord (flush d) n (filledRecord (numbered (flush d) n))) _ _ _
     (fill-sound (flush d) n (flush-sound d r) (flush-pending d) from to) (flush-capacity d)
     (onward-on d (flush d) _ (flush-onward d r) (fill-onward (flush d) n (flush-sound d r) from to))
+    (placed-fill d n r from to)
 incomplete-outcome d n r from to b c Appended e =
     let s = flush-sound d r in
     let last = appended-last (flush d) n s from to c e in
@@ -141,6 +145,7 @@ incomplete-outcome d n r from to b c Appended e =
     (rw same at (shorten-sound (flush d) s (flush-pending d) written (incomplete-open (flush d) n s from to c)))
     (append-capacity (withRecord (flush d) n g) n ∙ flush-capacity d)
     (onward-on d (flush d) _ (flush-onward d r) (rw same at (shorten-onward (flush d) s (flush-pending d) written)))
+    (placed-flush d r)
 
 pub close-fragment-outcome : (d : Disc) (n : ℕ) → Ready d → Outcome d (closeFragment d n)
 unfolding closeFragment accept
@@ -151,7 +156,7 @@ close-fragment-outcome d n r =
     cond-cases (Outcome d) (isBlank d n (numbered d n)) _ _ (λ b. refused EmptyTrack)
     (λ b.
     cond-cases (Outcome d) (complete (numbered (flush d) n)) _ _
-    (λ c. done (flush d) _ _ _ (flush-sound d r) (flush-capacity d) (flush-onward d r))
+    (λ c. done (flush d) _ _ _ (flush-sound d r) (flush-capacity d) (flush-onward d r) (placed-flush d r))
     (λ c. incomplete-outcome d n r (k .0) (omega (arith, k .1, flush-used d r)) b c (numbered (flush d) n .kind) refl)))
 
 -- CLOSE 010 and 110
@@ -189,10 +194,11 @@ close-session-outcome d r =
     done (openSession k) _ _ _
     (open-session-sound k c few start (kept-finalized e ∙ (flush-finalized d ∙ or-false-left (d .finalized) (blankTailOnly d) h)))
     (open-capacity k ∙ same)
-    (onward-on d e _ (flush-onward d r) (onward-on e k _ (close-tail-onward e s p) (open-session-onward k c few start)))))))
+    (onward-on d e _ (flush-onward d r) (onward-on e k _ (close-tail-onward e s p) (open-session-onward k c few start)))
+    (placed-flush d r)))))
   where
     same-done : (d : Disc) → Ready d → Outcome d (accepted d (rise d d) noReply noPlan)
-    same-done d r = done d _ _ _ (sound-rules d (r .sound)) refl (same-onward d)
+    same-done d r = done d _ _ _ (sound-rules d (r .sound)) refl (same-onward d) (placed-none d)
 
 finalized-onward : (d k : Disc) → Onward d k → Onward d (finalized k)
 finalized-onward d k o =
@@ -205,7 +211,7 @@ finalize-outcome d r =
     let s = flush-sound d r in
     let p = flush-pending d in
     let k = closeTail e in
-    cond-cases (Outcome d) (d .finalized) _ _ (λ h. done d _ _ _ (sound-rules d (r .sound)) refl (same-onward d))
+    cond-cases (Outcome d) (d .finalized) _ _ (λ h. done d _ _ _ (sound-rules d (r .sound)) refl (same-onward d) (placed-none d))
     (λ h.
     cond-cases (Outcome d) (hasIncompleteReserved e) _ _ (λ i. refused IncompleteTrackInSession)
     (λ i.
@@ -213,7 +219,8 @@ finalize-outcome d r =
     (λ b.
     let c = close-tail-closed e s p i (two-kept d r (λ t q. contradiction (and-both t (eq-eqb _ _ q)) b)) in
     done (finalized k) _ _ _ (finalize-sound k c (kept-pending e ∙ p)) (kept-capacity e ∙ flush-capacity d)
-    (finalized-onward d k (onward-on d e k (flush-onward d r) (close-tail-onward e s p))))))
+    (finalized-onward d k (onward-on d e k (flush-onward d r) (close-tail-onward e s p)))
+    (placed-flush d r))))
 
 pub close-outcome : (d : Disc) (function n : ℕ) → Ready d → Outcome d (close d function n)
 unfolding close
@@ -250,37 +257,43 @@ sense-sound d q s =
 -- so every command keeps the list sound and the capacity
 pub outcome-ready : (d : Disc) (v : Verdict) → Ready d → Outcome d v → Ready (v .disc)
 unfolding accepted refuse
-outcome-ready d v r (done after n q p s c o) =
+outcome-ready d v r (done after n q p s c o l) =
     record { sound = rules-sound (withSense after noSense) (sense-sound after noSense s); range = rw c (r .range) }
 outcome-ready d v r (refused q) =
     record { sound = rules-sound (withSense d (refusalSense q)) (sense-sound d (refusalSense q) (sound-rules d (r .sound))); range = r .range }
 
 pub outcome-capacity : (d : Disc) (v : Verdict) → Outcome d v → v .disc .capacity ≡ d .capacity
 unfolding accepted refuse
-outcome-capacity d v (done after n q p s c o) = c
+outcome-capacity d v (done after n q p s c o l) = c
 outcome-capacity d v (refused q) = refl
 
 -- an accepted command clears the sense, a refused one changes the sense alone
 pub outcome-accepted : (d : Disc) (v : Verdict) → Outcome d v → v .answer ≡ Accepted → v .disc .sense ≡ noSense
 unfolding accepted refuse
-outcome-accepted d v (done after n q p s c o) e = refl
+outcome-accepted d v (done after n q p s c o l) e = refl
 outcome-accepted d v (refused q) e = absurd (let z : _≡_ {A = ℕ} 0 1 = cc in omega arith)
 
 pub outcome-refused : (d : Disc) (v : Verdict) (q : DriveRefusal) → Outcome d v → v .answer ≡ Drive q → v ≡ refuse d q
 unfolding accepted refuse
-outcome-refused d v q (done after n x p s c o) e = absurd (let z : _≡_ {A = ℕ} 0 1 = cc in omega arith)
+outcome-refused d v q (done after n x p s c o l) e = absurd (let z : _≡_ {A = ℕ} 0 1 = cc in omega arith)
 outcome-refused d v q (refused x) e = let same : x ≡ q = cc in rw same
 
 -- the drive gives no link refusal
 pub outcome-answer : (d : Disc) (v : Verdict) (q : LinkRefusal) → Outcome d v → v .answer ≡ Link q → ⊥
 unfolding accepted refuse
-outcome-answer d v q (done after n x p s c o) e = let z : _≡_ {A = ℕ} 0 1 = cc in omega arith
+outcome-answer d v q (done after n x p s c o l) e = let z : _≡_ {A = ℕ} 0 1 = cc in omega arith
 outcome-answer d v q (refused x) e = let z : _≡_ {A = ℕ} 0 1 = cc in omega arith
 
 -- and what was recorded before it is recorded after it
 pub outcome-onward : (d : Disc) (v : Verdict) → Outcome d v → Onward d (v .disc)
 unfolding accepted refuse
-outcome-onward d v (done after n q p s c o) =
+outcome-onward d v (done after n q p s c o l) =
     record { stays = λ i h m. let a = o .stays i h m in record { listed = a .listed; start = a .start; recorded = a .recorded } }
 outcome-onward d v (refused q) =
     record { stays = λ i h m. record { listed = h; start = refl; recorded = omega arith } }
+
+-- and its plan records blocks that were unrecorded before
+pub outcome-placed : (d : Disc) (v : Verdict) → Outcome d v → Placed d (v .plan)
+unfolding accepted refuse
+outcome-placed d v (done after n q p s c o l) = l
+outcome-placed d v (refused q) = placed-none d

@@ -6,7 +6,7 @@ ghost use Rattle.disc.specs.Address.{sectorsIn, blocksFor, block, lba, f
 // The number of an ECC block, from 0. A disc's block numbers fit 32 bits.
 pub struct Block(pub u32);
 
-// A sector's logical block address. It has 64 bits, so that the sum of an address and a length never wraps.
+// A sector's logical block address. It has 64 bits, so that an address of a command block and a length add up without wrapping.
 pub struct Lba(pub u64);
 
 // Sectors in an ECC block.

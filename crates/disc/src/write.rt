@@ -104,7 +104,7 @@ impl Disc {
         ensures { λ r. ⌜ r ≡ write self address sectors ⌝ }
     {
         if sectors == 0 {
-            return Verdict::accepted(self, 0, Reply::none(), Plan::none());
+            return Verdict::unchanged(self, Reply::none());
         }
         if self.finalized {
             return Verdict::refused(self, DriveRefusal::WriteProtected);

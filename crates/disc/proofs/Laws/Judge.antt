@@ -7,25 +7,25 @@ use native.Mathlib.Omega.{arith}
 use borrow.Author.Tests.{not-false}
 use lib.ListN.{length}
 use lib.Dec.{eqb, ltb}
-use Rattle.disc.specs.Types.{Lba, Disc, Verdict, Found, Number, Nowhere, Command, TestUnitReady, RequestSense, ReadCapacity, Read, Write, SynchronizeCache, ReserveTrack, CloseTrackSession, ReadDiscInformation, ReadTrackInformation, Unlisted, InvalidOperationCode, InvalidFieldInCommand, AddressOutOfRange, BlankCheck, DriveRefusal, LinkRefusal, Accepted, Link, Drive, CommandBlockLength, MediumSize, UnsoundState, TransferLength}
+use Rattle.disc.specs.Types.{Lba, Disc, Verdict, Found, Number, Nowhere, Command, TestUnitReady, RequestSense, ReadCapacity, Read, Write, SynchronizeCache, ReserveTrack, CloseTrackSession, ReadDiscInformation, ReadTrackInformation, Unlisted, InvalidOperationCode, InvalidFieldInCommand, AddressOutOfRange, BlankCheck, DriveRefusal, LinkRefusal, Accepted, Link, Drive, CommandBlockLength, MediumSize, UnsoundState, TransferLength, WriteProtected, InvalidAddressForWrite, IncompleteTrackInSession, EmptyTrack, NoMoreReservations, EndOfUserArea}
 use Rattle.disc.specs.Address.{lba, sectorsIn}
-use Rattle.disc.specs.Answer.{number, allowedSense, noSense}
+use Rattle.disc.specs.Answer.{number, allowedSense, noSense, refusalSense, isRefusalSense}
 use Rattle.disc.specs.Command.{decode}
 use Rattle.disc.specs.Records.{used, isListed, hasTail, atAddress, readable, sumRecorded}
 use Rattle.disc.specs.Sound.{sound, allowedState}
 use Rattle.disc.specs.Blank.{inRange}
 use Rattle.disc.specs.Ready.{Ready}
 use Rattle.disc.specs.Lengths.{lengthsFit}
-use Rattle.disc.specs.Verdict.{refuseLink, noReply, noPlan, refuse}
+use Rattle.disc.specs.Verdict.{refuseLink, noReply, noPlan, refuse, accepted}
 use Rattle.disc.specs.Read.{allReadable, read}
 use Rattle.disc.specs.Reports.{requestSense, readCapacity, readDiscInformation, trackReport, trackFound, trackNumbered, readTrackInformation}
 use Rattle.disc.specs.Judge.{testUnitReady, perform, judgeCommand, judge, Judged}
-use Rattle.disc.proofs.Laws.Bool.{and-left, cond-cases}
+use Rattle.disc.proofs.Laws.Bool.{and-left, cond-cases, and-both}
 use Rattle.disc.proofs.Laws.Rules.{sound-rules}
 use Rattle.disc.proofs.Laws.Onward.{Onward, same-onward, onward-sum}
 use Rattle.disc.proofs.Laws.Plan.{Placed, placed-none, placed-send}
 use Rattle.disc.proofs.Laws.Read.{readable-onward}
-use Rattle.disc.proofs.Laws.Outcome.{Outcome, refused, same-outcome, synchronize-outcome, write-outcome, reserve-outcome, close-outcome, outcome-ready, outcome-answer, outcome-refused, outcome-accepted, outcome-capacity, outcome-onward, outcome-placed}
+use Rattle.disc.proofs.Laws.Outcome.{Outcome, refused, same-outcome, synchronize-outcome, write-outcome, reserve-outcome, close-outcome, outcome-ready, outcome-answer, outcome-refused, outcome-accepted, outcome-capacity, outcome-onward, outcome-placed, done}
 
 -- a state that L3 lets through, with a capacity in range, is ready for every command
 pub allowed-ready : (d : Disc) → inRange (d .capacity) ≡ true → allowedState d ≡ true → Ready d
@@ -132,6 +132,30 @@ unfolding refuseLink
 decided-ready d v r (onLink x) = r
 decided-ready d v r (byDrive w k o) = outcome-ready d w r o
 
+-- and a state that L3 lets through is let through again: its sense is none or a drive refusal's
+refusal-allowed : (q : DriveRefusal) → allowedSense (refusalSense q) ≡ true
+unfolding allowedSense isRefusalSense
+refusal-allowed InvalidOperationCode = refl
+refusal-allowed WriteProtected = refl
+refusal-allowed InvalidFieldInCommand = refl
+refusal-allowed AddressOutOfRange = refl
+refusal-allowed BlankCheck = refl
+refusal-allowed InvalidAddressForWrite = refl
+refusal-allowed IncompleteTrackInSession = refl
+refusal-allowed EmptyTrack = refl
+refusal-allowed NoMoreReservations = refl
+refusal-allowed EndOfUserArea = refl
+
+outcome-sense : (d : Disc) (v : Verdict) → Outcome d v → allowedSense (v .disc .sense) ≡ true
+unfolding accepted refuse allowedSense
+outcome-sense d v (done after n q p s c o l) = refl
+outcome-sense d v (refused q) = refusal-allowed q
+
+pub decided-allowed : (d : Disc) (v : Verdict) → allowedState d ≡ true → Decided d v → allowedState (v .disc) ≡ true
+unfolding refuseLink allowedState
+decided-allowed d v t (onLink x) = t
+decided-allowed d v t (byDrive w k o) = and-both (outcome-ready d w k o .sound) (outcome-sense d w o)
+
 pub decided-capacity : (d : Disc) (v : Verdict) → Decided d v → v .disc .capacity ≡ d .capacity
 unfolding refuseLink
 decided-capacity d v (onLink x) = refl
@@ -141,9 +165,6 @@ pub decided-onward : (d : Disc) (v : Verdict) → Decided d v → Onward d (v .d
 unfolding refuseLink
 decided-onward d v (onLink x) = same-onward d
 decided-onward d v (byDrive w k o) = outcome-onward d w o
-
-pub judge-ready : (d : Disc) (b : List ℕ) (n m : ℕ) → Ready d → Ready (judge d b n m .disc)
-judge-ready d b n m r = decided-ready d (judge d b n m) r (judge-decided d b n m)
 
 pub decided-sum : (d : Disc) (v : Verdict) → Decided d v → sumRecorded (d .fragments) ≤ sumRecorded (v .disc .fragments)
 unfolding refuseLink
@@ -156,10 +177,8 @@ unfolding refuseLink
 decided-placed d v (onLink x) = placed-none d
 decided-placed d v (byDrive w k o) = outcome-placed d w o
 
-pub judge-readable :
-    (d : Disc) (b : List ℕ) (n m : ℕ) (a : Lba) → readable d a ≡ true → readable (judge d b n m .disc) a ≡ true
-judge-readable d b n m a t =
-    readable-onward d (judge d b n m .disc) a (decided-onward d (judge d b n m) (judge-decided d b n m)) t
+pub decided-readable : (d : Disc) (v : Verdict) (a : Lba) → Decided d v → readable d a ≡ true → readable (v .disc) a ≡ true
+decided-readable d v a w t = readable-onward d (v .disc) a (decided-onward d v w) t
 
 -- blocks with the same fields are decided alike, whatever stands in the bytes that no field reads
 pub judge-decodes :

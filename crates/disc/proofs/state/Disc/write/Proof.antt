@@ -1,5 +1,4 @@
 use mathlib.Core.Path.{sym, _∙_}
-use Rattle.disc.proofs.Laws.Flush.{rise-same}
 use Rattle.disc.proofs.Laws.Write.{writable-found}
 use Rattle.disc.specs.Verdict.{accept}
 use Rattle.disc.specs.Write.{write, writeFound}
@@ -11,15 +10,12 @@ use Rattle.disc.proofs.state.Disc.write.Tie as tie
 none-requires : tie.Need-none-requires
 none-requires c κs = search needs
 
-none-requires-2 : tie.Need-none-requires-2
-none-requires-2 c κs = search needs
-
-accepted-requires : tie.Need-accepted-requires
-accepted-requires c κs = search needs
+unchanged-requires : tie.Need-unchanged-requires
+unchanged-requires c κs = search needs
 
 returns : tie.Need-returns
-unfolding write accept
-returns c = rw (c .accepted .ensures, c .before .before .none .ensures, c .before .none2 .ensures, eq-eqb _ _ (c .before .before .before .if1 .taken), rise-same (c .before .before .before .before .args .self))
+unfolding write
+returns c = simp (c .unchanged .ensures, c .before .none .ensures, eq-eqb _ _ (c .before .before .if1 .taken))
 
 refused-requires : tie.Need-refused-requires
 refused-requires c κs = search needs
@@ -56,8 +52,7 @@ write-spec =
     tie.close
     (tie.spec
     none-requires
-    none-requires-2
-    accepted-requires
+    unchanged-requires
     returns
     refused-requires
     returns-2

@@ -25,5 +25,5 @@ pub mod Cut
 pub mod Reports
 pub mod Read
 pub mod Run
-pub mod Sends
 pub mod Judge
+pub mod Lent

@@ -20,5 +20,6 @@ pub mod Reserve
 pub mod Close
 pub mod Reports
 pub mod Judge
+pub mod Lent
 pub mod Shift
 pub mod Examples

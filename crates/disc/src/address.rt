@@ -10,7 +10,7 @@ pub struct Block(pub u32);
 pub struct Lba(pub u64);
 
 // Sectors in an ECC block.
-pub(crate) const SECTORS_PER_BLOCK: u32 = 16;
+pub const SECTORS_PER_BLOCK: u32 = 16;
 
 // How many sectors that many blocks have.
 pub(crate) fn sectors_in(blocks: u32) -> u64

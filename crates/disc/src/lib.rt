@@ -23,6 +23,7 @@ mod write;
 
 pub use address::Block;
 pub use address::Lba;
+pub use address::SECTORS_PER_BLOCK;
 pub use answer::Answer;
 pub use answer::DriveRefusal;
 pub use answer::LinkRefusal;
@@ -31,6 +32,9 @@ pub use blank::Blank;
 pub use command::Command;
 pub use fragment::Fragment;
 pub use fragment::Kind;
+pub use lengths::BLOCK_LENGTH;
+pub use lengths::COMMAND_LENGTH;
+pub use lengths::SECTOR_LENGTH;
 pub use state::Disc;
 pub use state::Found;
 pub use verdict::Flush;

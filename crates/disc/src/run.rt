@@ -11,9 +11,6 @@ ghost use Rattle.disc.specs.Ready.{Ready};
 ghost use Rattle.disc.specs.Read.{read};
 ghost use Rattle.disc.specs.Run.{stretch, sent, served, RunOf};
 
-// Bytes of a block.
-const BLOCK_LENGTH: usize = 32768;
-
 // The sectors of a run.
 fn stretch<'a>(address: Lba, sectors: u32, medium: &'a [u8]) -> &'a [u8]
     requires { ⌜ 2048 * (address .0 + sectors) ≤ length (now medium) ⌝ }
@@ -29,7 +26,7 @@ impl Disc {
     fn serves(self, block: usize, medium: usize) -> bool
         ensures { λ r. ⌜ r ≡ served self «block» medium ⌝ }
     {
-        let whole = medium == BLOCK_LENGTH * (self.capacity as usize);
+        let whole = medium == lengths::BLOCK_LENGTH * (self.capacity as usize);
         (block == lengths::COMMAND_LENGTH)
             & Disc::in_range(self.capacity)
             & whole

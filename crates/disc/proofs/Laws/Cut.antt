@@ -7,7 +7,7 @@ use borrow.Author.Tests.{eq-eqb, ne-eqb, eqb-true, le-ltb}
 use lib.Dec.{eqb, ltb}
 use lib.ListN.{length, set}
 use lib.Seq.{getD-set-same, set-set}
-use Rattle.disc.specs.Types.{Lba, Fragment, Disc, Verdict, Accepted, Gather}
+use Rattle.disc.specs.Types.{Lba, Fragment, Disc, Verdict, Accepted, Gather, Write}
 use Rattle.disc.specs.Fragment.{unusedRecord, end, firstUnrecorded, pendingIn, nextWritable}
 use Rattle.disc.specs.Address.{lba, firstSector}
 use Rattle.disc.specs.Answer.{noSense}
@@ -187,7 +187,7 @@ module _ (d : Disc) (a : Lba) (n m : ℕ) (r : Ready d) (z : n ≡ 0 → ⊥) (y
   between-is = write-disc d a n r z first-takes
 
   between-ready : Ready between
-  between-ready = rw between-is at (outcome-ready d (write d a n) r (write-outcome d a n r))
+  between-ready = rw between-is at (outcome-ready d (Write a n) (write d a n) r (write-outcome d a n r))
 
   sum-some : n + m ≡ 0 → ⊥
   sum-some e = z (omega arith)
@@ -269,7 +269,7 @@ module _ (d : Disc) (a : Lba) (n m : ℕ) (r : Ready d) (z : n ≡ 0 → ⊥) (t
   pub parts-takes : Takes (write d a n .disc) (lba (a .0 + n)) m → Takes d a (n + m)
   parts-takes u =
       let e = write d a n .disc in
-      let ready = outcome-ready d (write d a n) r (write-outcome d a n r) in
+      let ready = outcome-ready d (Write a n) (write d a n) r (write-outcome d a n r) in
       let s = sound-rules e (ready .sound) in
       let w = t .here in
       let v = u .here in

@@ -1,31 +1,33 @@
 -- What the decision about a command does to the disc.
-use Prim.Native.Nat.{ℕ, _+_, _≤_}
+use Prim.Native.Nat.{ℕ, _+_, _-_, _/_, _≤_, min}
 use mathlib.Core.Path.{_≡_, ap, refl}
 use mathlib.Core.Bool.{true, not}
-use mathlib.Core.List.{List}
+use mathlib.Core.List.{List, _++_}
 use native.Mathlib.Omega.{arith}
-use borrow.Author.Tests.{not-false}
-use lib.ListN.{length}
+use borrow.Author.Tests.{not-false, ltb-false}
+use native.Mathlib.Nat.{le-refl}
+use lib.ListN.{length, replicate, length-append}
 use lib.Dec.{eqb, ltb}
 use Rattle.disc.specs.Types.{Lba, Disc, Verdict, Found, Number, Nowhere, Command, TestUnitReady, RequestSense, ReadCapacity, Read, Write, SynchronizeCache, ReserveTrack, CloseTrackSession, ReadDiscInformation, ReadTrackInformation, Unlisted, InvalidOperationCode, InvalidFieldInCommand, AddressOutOfRange, BlankCheck, DriveRefusal, LinkRefusal, Accepted, Link, Drive, CommandBlockLength, MediumSize, UnsoundState, TransferLength, WriteProtected, InvalidAddressForWrite, IncompleteTrackInSession, EmptyTrack, NoMoreReservations, EndOfUserArea}
 use Rattle.disc.specs.Address.{lba, sectorsIn}
 use Rattle.disc.specs.Answer.{number, allowedSense, noSense, refusalSense, isRefusalSense}
 use Rattle.disc.specs.Command.{decode}
-use Rattle.disc.specs.Records.{used, isListed, hasTail, atAddress, readable, sumRecorded}
+use Rattle.disc.specs.Records.{lastReadable, records, used, isListed, hasTail, atAddress, readable, sumRecorded}
 use Rattle.disc.specs.Sound.{sound, allowedState}
 use Rattle.disc.specs.Blank.{inRange}
 use Rattle.disc.specs.Ready.{Ready}
-use Rattle.disc.specs.Lengths.{lengthsFit}
-use Rattle.disc.specs.Verdict.{refuseLink, noReply, noPlan, refuse, accepted}
+use Rattle.disc.specs.Lengths.{lengthsFit, replyRoom, capacityLength}
+use Rattle.disc.specs.Verdict.{refuseLink, noReply, noPlan, refuse, accepted, accept, report, rise}
 use Rattle.disc.specs.Read.{allReadable, read}
-use Rattle.disc.specs.Reports.{requestSense, readCapacity, readDiscInformation, trackReport, trackFound, trackNumbered, readTrackInformation}
+use Rattle.disc.specs.Reports.{bytes32, senseBytes, requestSense, readCapacity, discInformation, readDiscInformation, trackInformation, trackReport, trackFound, trackNumbered, readTrackInformation}
 use Rattle.disc.specs.Judge.{testUnitReady, perform, judgeCommand, judge, Judged}
 use Rattle.disc.proofs.Laws.Bool.{and-left, cond-cases, and-both}
 use Rattle.disc.proofs.Laws.Rules.{sound-rules}
 use Rattle.disc.proofs.Laws.Onward.{Onward, same-onward, onward-sum}
 use Rattle.disc.proofs.Laws.Plan.{Placed, placed-none, placed-send}
 use Rattle.disc.proofs.Laws.Read.{readable-onward}
-use Rattle.disc.proofs.Laws.Outcome.{Outcome, refused, same-outcome, synchronize-outcome, write-outcome, reserve-outcome, close-outcome, outcome-ready, outcome-answer, outcome-refused, outcome-accepted, outcome-capacity, outcome-onward, outcome-placed, done}
+use Rattle.disc.proofs.Laws.Accepts.{write-most}
+use Rattle.disc.proofs.Laws.Outcome.{Outcome, refused, same-outcome, unchanged-outcome, no-room, outcome-rise, synchronize-outcome, write-outcome, reserve-outcome, close-outcome, outcome-ready, outcome-answer, outcome-refused, outcome-accepted, outcome-capacity, outcome-onward, outcome-placed, done}
 
 -- a state that L3 lets through, with a capacity in range, is ready for every command
 pub allowed-ready : (d : Disc) → inRange (d .capacity) ≡ true → allowedState d ≡ true → Ready d
@@ -36,103 +38,99 @@ pub judged : (d : Disc) (b : List ℕ) (n m : ℕ) (r : Verdict) → r ≡ judge
 judged d b n m r e = record { verdict = e; numbered = ap (λ v. number (v .answer)) e }
 
 -- READ and the reports leave the list alone
-read-outcome : (d : Disc) (a : Lba) (n : ℕ) → Ready d → Outcome d (read d a n)
+read-outcome : (d : Disc) (a : Lba) (n : ℕ) → Ready d → Outcome d (Read a n) (read d a n)
 unfolding read
 read-outcome d a n r =
-    cond-cases (Outcome d) (eqb n 0) _ _ (λ e. same-outcome d noReply noPlan (placed-none d) r)
+    let c = Read a n in
+    cond-cases (Outcome d c) (eqb n 0) _ _ (λ e. unchanged-outcome d c r)
     (λ e.
-    cond-cases (Outcome d) (ltb (sectorsIn (d .capacity)) (a .0 + n)) _ _ (λ h. refused AddressOutOfRange)
-    (λ h. cond-cases (Outcome d) (allReadable d a n) _ _ (λ t. same-outcome d noReply _ (placed-send d a n) r) (λ t. refused BlankCheck)))
-
-disc-outcome : (d : Disc) (t n : ℕ) → Ready d → Outcome d (readDiscInformation d t n)
-unfolding readDiscInformation
-disc-outcome d t n r =
-    cond-cases (Outcome d) (eqb t 0) _ _ (λ e. same-outcome d _ noPlan (placed-none d) r) (λ e. refused InvalidFieldInCommand)
-
-report-outcome : (d : Disc) (n m : ℕ) → Ready d → Outcome d (trackReport d n m)
-unfolding trackReport
-report-outcome d n m r = same-outcome d _ noPlan (placed-none d) r
-
-found-report : (d : Disc) (n : ℕ) → Ready d → (w : Found) → Outcome d (trackFound d n w)
-unfolding trackFound
-found-report d n r (Number m) = report-outcome d n m r
-found-report d n r Nowhere = refused AddressOutOfRange
-
-track-outcome : (d : Disc) (t n m : ℕ) → Ready d → Outcome d (readTrackInformation d t n m)
-unfolding readTrackInformation trackNumbered
-track-outcome d t n m r =
-    cond-cases (Outcome d) (eqb t 0) _ _ (λ e. found-report d m r (atAddress d (lba n)))
-    (λ e.
-    cond-cases (Outcome d) (eqb t 1) _ _
+    cond-cases (Outcome d c) (ltb (sectorsIn (d .capacity)) (a .0 + n)) _ _ (λ h. refused AddressOutOfRange)
     (λ h.
-    cond-cases (Outcome d) (eqb n 0xFF) _ _
-    (λ f. cond-cases (Outcome d) (hasTail d) _ _ (λ a. report-outcome d m (used d) r) (λ a. refused InvalidFieldInCommand))
-    (λ f. cond-cases (Outcome d) (isListed d n) _ _ (λ a. report-outcome d m n r) (λ a. refused InvalidFieldInCommand)))
-    (λ h. refused InvalidFieldInCommand))
+    cond-cases (Outcome d c) (allReadable d a n) _ _ (λ t. same-outcome d c noReply _ (placed-send d a n (ltb-false _ _ h) t) (no-room c) r)
+    (λ t. refused BlankCheck)))
 
-other-outcomes : (d : Disc) → Ready d → Outcome d (testUnitReady d) × Outcome d (readCapacity d)
-unfolding testUnitReady readCapacity
-other-outcomes d r = (same-outcome d noReply noPlan (placed-none d) r, same-outcome d _ noPlan (placed-none d) r)
+report-outcome :
+    (d : Disc) (c : Command) (bytes : List ℕ) (n : ℕ) → min (length bytes) n ≤ replyRoom c → Ready d
+    → Outcome d c (accept d d (report bytes n) noPlan)
+report-outcome d c bytes n m r =
+    same-outcome d c (report bytes n) noPlan (placed-none d c)
+    (record { fits = m; whole = omega (arith, length-append bytes (replicate (36 - length bytes) 0)) }) r
 
-sense-outcome : (d : Disc) (n : ℕ) → Ready d → Outcome d (requestSense d n)
-unfolding requestSense
-sense-outcome d n r = same-outcome d _ noPlan (placed-none d) r
+sense-outcome : (d : Disc) (n : ℕ) → Ready d → Outcome d (RequestSense n) (requestSense d n)
+unfolding requestSense senseBytes replyRoom
+sense-outcome d n r = report-outcome d (RequestSense n) (senseBytes (d .sense)) n (le-refl _) r
+
+capacity-outcome : (d : Disc) → Ready d → Outcome d ReadCapacity (readCapacity d)
+unfolding readCapacity replyRoom
+capacity-outcome d r = report-outcome d ReadCapacity (bytes32 (lastReadable (records d)) ++ bytes32 2048) capacityLength (le-refl _) r
+
+disc-outcome : (d : Disc) (t n : ℕ) → Ready d → Outcome d (ReadDiscInformation t n) (readDiscInformation d t n)
+unfolding readDiscInformation discInformation replyRoom
+disc-outcome d t n r =
+    let c = ReadDiscInformation t n in
+    cond-cases (Outcome d c) (eqb t 0) _ _ (λ e. report-outcome d c (discInformation d) n (le-refl _) r) (λ e. refused InvalidFieldInCommand)
+
+module _ (d : Disc) (t n m : ℕ) (r : Ready d) where
+  track-report : (k : ℕ) → Outcome d (ReadTrackInformation t n m) (trackReport d m k)
+  unfolding trackReport trackInformation replyRoom
+  track-report k = report-outcome d (ReadTrackInformation t n m) (trackInformation d k) m (le-refl _) r
+
+  found-report : (w : Found) → Outcome d (ReadTrackInformation t n m) (trackFound d m w)
+  unfolding trackFound
+  found-report (Number k) = track-report k
+  found-report Nowhere = refused AddressOutOfRange
+
+  track-outcome : Outcome d (ReadTrackInformation t n m) (readTrackInformation d t n m)
+  unfolding readTrackInformation trackNumbered
+  track-outcome =
+      let c = ReadTrackInformation t n m in
+      cond-cases (Outcome d c) (eqb t 0) _ _ (λ e. found-report (atAddress d (lba n)))
+      (λ e.
+      cond-cases (Outcome d c) (eqb t 1) _ _
+      (λ h.
+      cond-cases (Outcome d c) (eqb n 0xFF) _ _
+      (λ f. cond-cases (Outcome d c) (hasTail d) _ _ (λ a. track-report (used d)) (λ a. refused InvalidFieldInCommand))
+      (λ f. cond-cases (Outcome d c) (isListed d n) _ _ (λ a. track-report n) (λ a. refused InvalidFieldInCommand)))
+      (λ h. refused InvalidFieldInCommand))
+
+ready-outcome : (d : Disc) → Ready d → Outcome d TestUnitReady (testUnitReady d)
+unfolding testUnitReady
+ready-outcome d r = unchanged-outcome d TestUnitReady r
 
 -- every command keeps the list sound and the capacity, or changes the sense alone
-pub perform-outcome : (d : Disc) (c : Command) → Ready d → Outcome d (perform d c)
+pub perform-outcome : (d : Disc) (c : Command) → Ready d → Outcome d c (perform d c)
 unfolding perform
-perform-outcome d TestUnitReady r = other-outcomes d r .0
+perform-outcome d TestUnitReady r = ready-outcome d r
 perform-outcome d (RequestSense n) r = sense-outcome d n r
-perform-outcome d ReadCapacity r = other-outcomes d r .1
+perform-outcome d ReadCapacity r = capacity-outcome d r
 perform-outcome d (Read a n) r = read-outcome d a n r
 perform-outcome d (Write a n) r = write-outcome d a n r
-perform-outcome d SynchronizeCache r = synchronize-outcome d r
-perform-outcome d (ReserveTrack n) r = reserve-outcome d n r
-perform-outcome d (CloseTrackSession f n) r = close-outcome d f n r
+perform-outcome d SynchronizeCache r = synchronize-outcome d SynchronizeCache r
+perform-outcome d (ReserveTrack n) r = reserve-outcome d (ReserveTrack n) n r
+perform-outcome d (CloseTrackSession f n) r = close-outcome d (CloseTrackSession f n) f n r
 perform-outcome d (ReadDiscInformation t n) r = disc-outcome d t n r
 perform-outcome d (ReadTrackInformation t n m) r = track-outcome d t n m r
 perform-outcome d Unlisted r = refused InvalidOperationCode
 
 -- a decision is a link refusal, or what the drive makes of a disc that is ready: of any state, block and lengths
-pub data Decided (d : Disc) : Verdict → Type 0 where
-  onLink : (q : LinkRefusal) → Decided d (refuseLink d q)
-  byDrive : (v : Verdict) → Ready d → Outcome d v → Decided d v
+pub data Decided (d : Disc) (c : Command) (n m : ℕ) : Verdict → Type 0 where
+  onLink : (q : LinkRefusal) → Decided d c n m (refuseLink d q)
+  byDrive : inRange (d .capacity) ≡ true → allowedState d ≡ true → lengthsFit c n m ≡ true → Decided d c n m (perform d c)
 
-pub judge-decided : (d : Disc) (b : List ℕ) (n m : ℕ) → Decided d (judge d b n m)
+pub judge-decided : (d : Disc) (b : List ℕ) (n m : ℕ) → Decided d (decode b) n m (judge d b n m)
 unfolding judge judgeCommand
 judge-decided d b n m =
-    cond-cases (Decided d) (not (eqb (length b) 12)) _ _ (λ e. onLink CommandBlockLength)
+    let c = decode b in
+    cond-cases (Decided d c n m) (not (eqb (length b) 12)) _ _ (λ e. onLink CommandBlockLength)
     (λ e.
-    cond-cases (Decided d) (not (inRange (d .capacity))) _ _ (λ h. onLink MediumSize)
+    cond-cases (Decided d c n m) (not (inRange (d .capacity))) _ _ (λ h. onLink MediumSize)
     (λ h.
-    cond-cases (Decided d) (not (allowedState d)) _ _ (λ a. onLink UnsoundState)
+    cond-cases (Decided d c n m) (not (allowedState d)) _ _ (λ a. onLink UnsoundState)
     (λ a.
-    cond-cases (Decided d) (not (lengthsFit (decode b) n m)) _ _ (λ l. onLink TransferLength)
-    (λ l. let r = allowed-ready d (not-false _ h) (not-false _ a) in byDrive (perform d (decode b)) r (perform-outcome d (decode b) r)))))
+    cond-cases (Decided d c n m) (not (lengthsFit c n m)) _ _ (λ l. onLink TransferLength)
+    (λ l. byDrive (not-false _ h) (not-false _ a) (not-false _ l)))))
 
--- a link refusal changes nothing, a drive refusal the sense alone, an accepted command clears the sense
-pub decided-link : (d : Disc) (v : Verdict) (q : LinkRefusal) → Decided d v → v .answer ≡ Link q → v ≡ refuseLink d q
-unfolding refuseLink
-decided-link d v q (onLink x) e = let same : x ≡ q = cc in rw same
-decided-link d v q (byDrive w r o) e = absurd (outcome-answer d w q o e)
-
-pub decided-refused : (d : Disc) (v : Verdict) (q : DriveRefusal) → Decided d v → v .answer ≡ Drive q → v ≡ refuse d q
-unfolding refuseLink
-decided-refused d v q (onLink x) e = absurd (let z : _≡_ {A = ℕ} 0 1 = cc in omega arith)
-decided-refused d v q (byDrive w r o) e = outcome-refused d w q o e
-
-pub decided-accepted : (d : Disc) (v : Verdict) → Decided d v → v .answer ≡ Accepted → v .disc .sense ≡ noSense
-unfolding refuseLink
-decided-accepted d v (onLink x) e = absurd (let z : _≡_ {A = ℕ} 0 1 = cc in omega arith)
-decided-accepted d v (byDrive w r o) e = outcome-accepted d w o e
-
--- every decision keeps a disc ready, its capacity, and every sector that was readable
-pub decided-ready : (d : Disc) (v : Verdict) → Ready d → Decided d v → Ready (v .disc)
-unfolding refuseLink
-decided-ready d v r (onLink x) = r
-decided-ready d v r (byDrive w k o) = outcome-ready d w r o
-
--- and a state that L3 lets through is let through again: its sense is none or a drive refusal's
+-- the sense that an outcome leaves is allowed
 refusal-allowed : (q : DriveRefusal) → allowedSense (refusalSense q) ≡ true
 unfolding allowedSense isRefusalSense
 refusal-allowed InvalidOperationCode = refl
@@ -146,39 +144,82 @@ refusal-allowed EmptyTrack = refl
 refusal-allowed NoMoreReservations = refl
 refusal-allowed EndOfUserArea = refl
 
-outcome-sense : (d : Disc) (v : Verdict) → Outcome d v → allowedSense (v .disc .sense) ≡ true
-unfolding accepted refuse allowedSense
-outcome-sense d v (done after n q p s c o l) = refl
-outcome-sense d v (refused q) = refusal-allowed q
+outcome-sense : (d : Disc) (c : Command) (v : Verdict) → Outcome d c v → allowedSense (v .disc .sense) ≡ true
+unfolding accept accepted refuse allowedSense
+outcome-sense d c v (done after q p s k o l m) = refl
+outcome-sense d c v (refused q) = refusal-allowed q
 
-pub decided-allowed : (d : Disc) (v : Verdict) → allowedState d ≡ true → Decided d v → allowedState (v .disc) ≡ true
-unfolding refuseLink allowedState
-decided-allowed d v t (onLink x) = t
-decided-allowed d v t (byDrive w k o) = and-both (outcome-ready d w k o .sound) (outcome-sense d w o)
+-- what the drive makes of a command whose state the link let through
+pub allowed-outcome : (d : Disc) (c : Command) → inRange (d .capacity) ≡ true → allowedState d ≡ true → Outcome d c (perform d c)
+allowed-outcome d c r a = perform-outcome d c (allowed-ready d r a)
 
-pub decided-capacity : (d : Disc) (v : Verdict) → Decided d v → v .disc .capacity ≡ d .capacity
-unfolding refuseLink
-decided-capacity d v (onLink x) = refl
-decided-capacity d v (byDrive w k o) = outcome-capacity d w o
+-- a decision's laws, of any state, command and lengths
+module _ {c : Command} {n m : ℕ} (d : Disc) where
+  -- a link refusal changes nothing, a drive refusal the sense alone, an accepted command clears the sense
+  pub decided-link : (v : Verdict) (q : LinkRefusal) → Decided d c n m v → v .answer ≡ Link q → v ≡ refuseLink d q
+  unfolding refuseLink
+  decided-link v q (onLink x) e = let same : x ≡ q = cc in rw same
+  decided-link v q (byDrive r a l) e = absurd (outcome-answer d c _ q (allowed-outcome d c r a) e)
 
-pub decided-onward : (d : Disc) (v : Verdict) → Decided d v → Onward d (v .disc)
-unfolding refuseLink
-decided-onward d v (onLink x) = same-onward d
-decided-onward d v (byDrive w k o) = outcome-onward d w o
+  pub decided-refused : (v : Verdict) (q : DriveRefusal) → Decided d c n m v → v .answer ≡ Drive q → v ≡ refuse d q
+  unfolding refuseLink
+  decided-refused v q (onLink x) e = absurd (let z : _≡_ {A = ℕ} 0 1 = cc in omega arith)
+  decided-refused v q (byDrive r a l) e = outcome-refused d c _ q (allowed-outcome d c r a) e
 
-pub decided-sum : (d : Disc) (v : Verdict) → Decided d v → sumRecorded (d .fragments) ≤ sumRecorded (v .disc .fragments)
-unfolding refuseLink
-decided-sum d v (onLink x) = omega arith
-decided-sum d v (byDrive w k o) = onward-sum d (w .disc) (sound-rules d (k .sound)) (outcome-onward d w o)
+  pub decided-accepted : (v : Verdict) → Decided d c n m v → v .answer ≡ Accepted → v .disc .sense ≡ noSense
+  unfolding refuseLink
+  decided-accepted v (onLink x) e = absurd (let z : _≡_ {A = ℕ} 0 1 = cc in omega arith)
+  decided-accepted v (byDrive r a l) e = outcome-accepted d c _ (allowed-outcome d c r a) e
 
--- the blocks that its plan records were unrecorded before, inside the medium, each time of one fragment
-pub decided-placed : (d : Disc) (v : Verdict) → Decided d v → Placed d (v .plan)
-unfolding refuseLink
-decided-placed d v (onLink x) = placed-none d
-decided-placed d v (byDrive w k o) = outcome-placed d w o
+  -- every decision keeps a disc ready, its capacity, and every sector that was readable
+  pub decided-ready : (v : Verdict) → Ready d → Decided d c n m v → Ready (v .disc)
+  unfolding refuseLink
+  decided-ready v k (onLink x) = k
+  decided-ready v k (byDrive r a l) = outcome-ready d c _ k (allowed-outcome d c r a)
 
-pub decided-readable : (d : Disc) (v : Verdict) (a : Lba) → Decided d v → readable d a ≡ true → readable (v .disc) a ≡ true
-decided-readable d v a w t = readable-onward d (v .disc) a (decided-onward d v w) t
+  -- and a state that L3 lets through is let through again: its sense is none or a drive refusal's
+  pub decided-allowed : (v : Verdict) → allowedState d ≡ true → Decided d c n m v → allowedState (v .disc) ≡ true
+  unfolding refuseLink allowedState
+  decided-allowed v t (onLink x) = t
+  decided-allowed v t (byDrive r a l) =
+      let o = allowed-outcome d c r a in and-both (outcome-ready d c _ (allowed-ready d r a) o .sound) (outcome-sense d c _ o)
+
+  pub decided-capacity : (v : Verdict) → Decided d c n m v → v .disc .capacity ≡ d .capacity
+  unfolding refuseLink
+  decided-capacity v (onLink x) = refl
+  decided-capacity v (byDrive r a l) = outcome-capacity d c _ (allowed-outcome d c r a)
+
+  pub decided-onward : (v : Verdict) → Decided d c n m v → Onward d (v .disc)
+  unfolding refuseLink
+  decided-onward v (onLink x) = same-onward d
+  decided-onward v (byDrive r a l) = outcome-onward d c _ (allowed-outcome d c r a)
+
+  -- the number of blocks recorded is the rise of the sum of W, which never falls
+  pub decided-rise : (v : Verdict) → Decided d c n m v → v .recorded ≡ rise d (v .disc)
+  unfolding refuseLink
+  decided-rise v (onLink x) = omega arith
+  decided-rise v (byDrive r a l) = outcome-rise d c _ (allowed-outcome d c r a)
+
+  pub decided-sum : (v : Verdict) → Decided d c n m v → sumRecorded (d .fragments) ≤ sumRecorded (v .disc .fragments)
+  unfolding refuseLink
+  decided-sum v (onLink x) = omega arith
+  decided-sum v (byDrive r a l) =
+      onward-sum d (perform d c .disc) (sound-rules d (allowed-ready d r a .sound)) (outcome-onward d c _ (allowed-outcome d c r a))
+
+  -- of a WRITE of k sectors it is 1 + k/16 at most
+  pub decided-most : (v : Verdict) (a : Lba) (k : ℕ) → c ≡ Write a k → Decided d c n m v → v .recorded ≤ 1 + k / 16
+  unfolding refuseLink perform
+  decided-most v a k e (onLink x) = omega arith
+  decided-most v a k e (byDrive r s l) = rw e (write-most d a k (allowed-ready d r s))
+
+  -- the blocks that its plan records were unrecorded before, inside the medium, each time of one fragment
+  pub decided-placed : (v : Verdict) → Decided d c n m v → Placed d c (v .plan)
+  unfolding refuseLink
+  decided-placed v (onLink x) = placed-none d c
+  decided-placed v (byDrive r a l) = outcome-placed d c _ (allowed-outcome d c r a)
+
+  pub decided-readable : (v : Verdict) (a : Lba) → Decided d c n m v → readable d a ≡ true → readable (v .disc) a ≡ true
+  decided-readable v a w t = readable-onward d (v .disc) a (decided-onward v w) t
 
 -- blocks with the same fields are decided alike, whatever stands in the bytes that no field reads
 pub judge-decodes :

@@ -5,13 +5,15 @@ use mathlib.Core.Bool.{true, false, not, _&&_, _||_}
 use native.Mathlib.Omega.{arith}
 use borrow.Author.Tests.{eq-eqb, eqb-false, leb-false, ltb-false, not-false}
 use lib.Dec.{eqb, leb, ltb}
-use Rattle.disc.specs.Types.{Sense, Accepted, Drive, Lba, Kind, Reserved, Appended, Disc, Found, Number, Nowhere, Reply, Plan, Verdict, DriveRefusal, LinkRefusal, Link, Nothing, WriteProtected, InvalidFieldInCommand, InvalidAddressForWrite, IncompleteTrackInSession, EmptyTrack, NoMoreReservations, EndOfUserArea}
+use lib.ListN.{length}
+use Rattle.disc.specs.Types.{Sense, Accepted, Drive, Lba, Kind, Reserved, Appended, Disc, Found, Number, Nowhere, Reply, Plan, Verdict, DriveRefusal, LinkRefusal, Link, Nothing, Command, Write, WriteProtected, InvalidFieldInCommand, InvalidAddressForWrite, IncompleteTrackInSession, EmptyTrack, NoMoreReservations, EndOfUserArea}
 use Rattle.disc.specs.Address.{firstSector, blocksFor}
 use Rattle.disc.specs.Answer.{noSense, refusalSense}
 use Rattle.disc.specs.Fragment.{end, complete, isBlank, nextFragmentStart, nextSessionStart}
 use Rattle.disc.specs.Records.{limit, used, isListed, numbered, lastRecord, withRecord, hasBlankTail, writableAt, blankTailOnly, withSense}
 use Rattle.disc.specs.Rules.{Sound}
 use Rattle.disc.specs.Ready.{Ready}
+use Rattle.disc.specs.Lengths.{replyRoom}
 use Rattle.disc.specs.Verdict.{rise, accepted, accept, refuse, noReply, noPlan, plan}
 use Rattle.disc.specs.Flush.{flush, flushPlan, synchronizeCache}
 use Rattle.disc.specs.Write.{flushOthers, gather, writeTo, writeFound, write, Writable}
@@ -29,23 +31,40 @@ use Rattle.disc.proofs.Laws.Onward.{Onward, same-onward, onward-on, gro
 use Rattle.disc.proofs.Laws.Plan.{Placed, placed-none, placed-flush, placed-gather, placed-fill}
 use Rattle.disc.proofs.Laws.Keep.{split-onward, fill-onward, shorten-onward, close-tail-onward, open-session-onward, gather-grows, split-sound, fill-sound, shorten-sound, close-tail-closed, open-session-sound, finalize-sound, only-blank, gather-sound, write-room}
 
-pub data Outcome (d : Disc) : Verdict → Type 0 where
+-- a report's bytes are there, and the command asks for room for them
+pub record Room (c : Command) (r : Reply) : Type 0 where
+  pub fits : r .length ≤ replyRoom c
+  pub whole : r .length ≤ length (r .bytes)
+
+pub data Outcome (d : Disc) (c : Command) : Verdict → Type 0 where
   done :
-      (after : Disc) (n : ℕ) (r : Reply) (p : Plan) → Sound after → after .capacity ≡ d .capacity → Onward d after → Placed d p
-      → Outcome d (accepted after n r p)
-  refused : (r : DriveRefusal) → Outcome d (refuse d r)
+      (after : Disc) (r : Reply) (p : Plan) → Sound after → after .capacity ≡ d .capacity → Onward d after → Placed d c p
+      → Room c r → Outcome d c (accept d after r p)
+  refused : (r : DriveRefusal) → Outcome d c (refuse d r)
 
 -- an accepted command that leaves the list alone
-pub same-outcome : (d : Disc) (r : Reply) (p : Plan) → Placed d p → Ready d → Outcome d (accept d d r p)
-unfolding accept
-same-outcome d r p l k = done d (rise d d) r p (sound-rules d (k .sound)) refl (same-onward d) l
+pub same-outcome :
+    (d : Disc) (c : Command) (r : Reply) (p : Plan) → Placed d c p → Room c r → Ready d → Outcome d c (accept d d r p)
+same-outcome d c r p l m k = done d r p (sound-rules d (k .sound)) refl (same-onward d) l m
+
+-- no reply has room everywhere
+pub no-room : (c : Command) → Room c noReply
+no-room c = record { fits = omega arith; whole = omega arith }
+
+-- and moves no byte
+pub unchanged-outcome : (d : Disc) (c : Command) → Ready d → Outcome d c (accept d d noReply noPlan)
+unchanged-outcome d c r = same-outcome d c noReply noPlan (placed-none d c) (no-room c) r
 
 flush-onward : (d : Disc) → Ready d → Onward d (flush d)
 flush-onward d r = grown-onward d (flush d) (sound-rules d (r .sound)) (flush-grows d r)
 
-pub synchronize-outcome : (d : Disc) → Ready d → Outcome d (synchronizeCache d)
-unfolding synchronizeCache accept
-synchronize-outcome d r = done (flush d) (rise d (flush d)) noReply (plan (flushPlan d) Nothing) (flush-sound d r) (flush-capacity d) (flush-onward d r) (placed-flush d r)
+flush-done : (d : Disc) (c : Command) → Ready d → Outcome d c (accept d (flush d) noReply (plan (flushPlan d) Nothing))
+flush-done d c r =
+    done (flush d) noReply (plan (flushPlan d) Nothing) (flush-sound d r) (flush-capacity d) (flush-onward d r) (placed-flush d c r) (no-room c)
+
+pub synchronize-outcome : (d : Disc) (c : Command) → Ready d → Outcome d c (synchronizeCache d)
+unfolding synchronizeCache
+synchronize-outcome d c r = flush-done d c r
 
 -- WRITE
 gather-capacity : (d : Disc) (number n : ℕ) → gather (flushOthers d number) number n .capacity ≡ d .capacity
@@ -66,23 +85,23 @@ write-onward d a number n r w h =
     onward-on d e (gather e number n) (others-onward d number r)
     (grown-onward e (gather e number n) s (gather-grows e number n s (write-room d a number n r w h)))
 
-found-outcome : (d : Disc) (a : Lba) (n : ℕ) → Ready d → (w : Found) → writableAt d a ≡ w → Outcome d (writeFound d a n w)
-unfolding writeFound writeTo accept
+found-outcome : (d : Disc) (a : Lba) (n : ℕ) → Ready d → (w : Found) → writableAt d a ≡ w → Outcome d (Write a n) (writeFound d a n w)
+unfolding writeFound writeTo
 found-outcome d a n r (Number number) e =
     let w = writable-found d a number e in
-    cond-cases (Outcome d) (ltb (firstSector (end (numbered d number)) .0) (a .0 + n)) _ _ (λ h. refused EndOfUserArea)
+    cond-cases (Outcome d (Write a n)) (ltb (firstSector (end (numbered d number)) .0) (a .0 + n)) _ _ (λ h. refused EndOfUserArea)
     (λ h.
-    done (gather (flushOthers d number) number n) _ _ _
+    done (gather (flushOthers d number) number n) _ _
     (gather-sound (flushOthers d number) number n (others-sound d number r) (write-room d a number n r w (ltb-false _ _ h)))
     (gather-capacity d number n)
-    (write-onward d a number n r w (ltb-false _ _ h)) (placed-gather d a number n r w (ltb-false _ _ h)))
+    (write-onward d a number n r w (ltb-false _ _ h)) (placed-gather d a number n r w (ltb-false _ _ h)) (no-room (Write a n)))
 found-outcome d a n r Nowhere e = refused InvalidAddressForWrite
 
-pub write-outcome : (d : Disc) (a : Lba) (n : ℕ) → Ready d → Outcome d (write d a n)
+pub write-outcome : (d : Disc) (a : Lba) (n : ℕ) → Ready d → Outcome d (Write a n) (write d a n)
 unfolding write
 write-outcome d a n r =
-    cond-cases (Outcome d) (eqb n 0) _ _ (λ e. same-outcome d noReply noPlan (placed-none d) r)
-    (λ e. cond-cases (Outcome d) (d .finalized) _ _ (λ f. refused WriteProtected) (λ f. found-outcome d a n r (writableAt d a) refl))
+    cond-cases (Outcome d (Write a n)) (eqb n 0) _ _ (λ e. unchanged-outcome d (Write a n) r)
+    (λ e. cond-cases (Outcome d (Write a n)) (d .finalized) _ _ (λ f. refused WriteProtected) (λ f. found-outcome d a n r (writableAt d a) refl))
 
 -- RESERVE
 split-capacity : (d : Disc) (b : ℕ) → splitTail d b .capacity ≡ d .capacity
@@ -92,26 +111,26 @@ split-capacity d b = refl
 blocks-some : (size : ℕ) → (size ≡ 0 → ⊥) → 1 ≤ blocksFor size
 blocks-some size z = omega arith
 
-pub reserve-outcome : (d : Disc) (size : ℕ) → Ready d → Outcome d (reserve d size)
-unfolding reserve accept
-reserve-outcome d size r =
+pub reserve-outcome : (d : Disc) (c : Command) (size : ℕ) → Ready d → Outcome d c (reserve d size)
+unfolding reserve
+reserve-outcome d c size r =
     let s = sound-rules d (r .sound) in
     let b = blocksFor size in
-    cond-cases (Outcome d) (d .finalized) _ _ (λ f. refused WriteProtected)
+    cond-cases (Outcome d c) (d .finalized) _ _ (λ f. refused WriteProtected)
     (λ f.
-    cond-cases (Outcome d) (eqb size 0) _ _ (λ z. refused InvalidFieldInCommand)
+    cond-cases (Outcome d c) (eqb size 0) _ _ (λ z. refused InvalidFieldInCommand)
     (λ z.
-    cond-cases (Outcome d) (not (hasBlankTail d)) _ _ (λ t. refused NoMoreReservations)
+    cond-cases (Outcome d c) (not (hasBlankTail d)) _ _ (λ t. refused NoMoreReservations)
     (λ t.
-    cond-cases (Outcome d) (eqb (used d) limit) _ _ (λ u. refused NoMoreReservations)
+    cond-cases (Outcome d c) (eqb (used d) limit) _ _ (λ u. refused NoMoreReservations)
     (λ u.
-    cond-cases (Outcome d) (leb (d .capacity) (nextFragmentStart (end (reservedAt (lastRecord d) b)) .0)) _ _ (λ h. refused EndOfUserArea)
+    cond-cases (Outcome d c) (leb (d .capacity) (nextFragmentStart (end (reservedAt (lastRecord d) b)) .0)) _ _ (λ h. refused EndOfUserArea)
     (λ h.
-    done (splitTail d b) _ _ _
+    done (splitTail d b) _ _
     (split-sound d b s (not-false _ t) (below-limit (used-limit d r) (eqb-false _ _ u)) (blocks-some size (eqb-false _ _ z)) (leb-false _ _ h) f)
     (split-capacity d b)
     (split-onward d b s (not-false _ t) (below-limit (used-limit d r) (eqb-false _ _ u)) (blocks-some size (eqb-false _ _ z)) (leb-false _ _ h))
-    (placed-none d))))))
+    (placed-none d c) (no-room c))))))
 
 -- CLOSE 001
 append-capacity : (d : Disc) (n : ℕ) → appendTail d n .capacity ≡ d .capacity
@@ -126,38 +145,38 @@ incomplete-open d n s from to c =
     by-cases (d .finalized) (λ f. absurd (contradiction (s .closed f (n - 1) (omega arith)) c)) (λ f. f)
 
 incomplete-outcome :
-    (d : Disc) (n : ℕ) → Ready d → 1 ≤ n → n ≤ used (flush d) → isBlank d n (numbered d n) ≡ false → complete (numbered (flush d) n) ≡ false
-    → (k : Kind) → numbered (flush d) n .kind ≡ k → Outcome d (closeIncomplete d (flush d) n k)
-unfolding closeIncomplete accept
-incomplete-outcome d n r from to b c Reserved e =
-    done (withRecord (flush d) n (filledRecord (numbered (flush d) n))) _ _ _
+    (d : Disc) (c : Command) (n : ℕ) → Ready d → 1 ≤ n → n ≤ used (flush d) → isBlank d n (numbered d n) ≡ false → complete (numbered (flush d) n) ≡ false
+    → (k : Kind) → numbered (flush d) n .kind ≡ k → Outcome d c (closeIncomplete d (flush d) n k)
+unfolding closeIncomplete
+incomplete-outcome d c n r from to b i Reserved e =
+    done (withRecord (flush d) n (filledRecord (numbered (flush d) n))) _ _
     (fill-sound (flush d) n (flush-sound d r) (flush-pending d) from to) (flush-capacity d)
     (onward-on d (flush d) _ (flush-onward d r) (fill-onward (flush d) n (flush-sound d r) from to))
-    (placed-fill d n r from to)
-incomplete-outcome d n r from to b c Appended e =
+    (placed-fill d c n r from to) (no-room c)
+incomplete-outcome d c n r from to b i Appended e =
     let s = flush-sound d r in
-    let last = appended-last (flush d) n s from to c e in
+    let last = appended-last (flush d) n s from to i e in
     let g = shortenedRecord (numbered (flush d) n) in
     let written : lastRecord (flush d) .recorded ≡ 0 → ⊥ =
     λ w. flush-written d n r b (ap (λ m. numbered (flush d) m .recorded) last ∙ w) in
     let same = ap (λ m. appendTail (withRecord (flush d) m (shortenedRecord (numbered (flush d) m))) m) (sym last) in
-    done (appendTail (withRecord (flush d) n g) n) _ _ _
-    (rw same at (shorten-sound (flush d) s (flush-pending d) written (incomplete-open (flush d) n s from to c)))
+    done (appendTail (withRecord (flush d) n g) n) _ _
+    (rw same at (shorten-sound (flush d) s (flush-pending d) written (incomplete-open (flush d) n s from to i)))
     (append-capacity (withRecord (flush d) n g) n ∙ flush-capacity d)
     (onward-on d (flush d) _ (flush-onward d r) (rw same at (shorten-onward (flush d) s (flush-pending d) written)))
-    (placed-flush d r)
+    (placed-flush d c r) (no-room c)
 
-pub close-fragment-outcome : (d : Disc) (n : ℕ) → Ready d → Outcome d (closeFragment d n)
-unfolding closeFragment accept
-close-fragment-outcome d n r =
-    cond-cases (Outcome d) (not (isListed d n)) _ _ (λ l. refused InvalidFieldInCommand)
+pub close-fragment-outcome : (d : Disc) (c : Command) (n : ℕ) → Ready d → Outcome d c (closeFragment d n)
+unfolding closeFragment
+close-fragment-outcome d c n r =
+    cond-cases (Outcome d c) (not (isListed d n)) _ _ (λ l. refused InvalidFieldInCommand)
     (λ l.
     let k = listed-number d n (not-false _ l) in
-    cond-cases (Outcome d) (isBlank d n (numbered d n)) _ _ (λ b. refused EmptyTrack)
+    cond-cases (Outcome d c) (isBlank d n (numbered d n)) _ _ (λ b. refused EmptyTrack)
     (λ b.
-    cond-cases (Outcome d) (complete (numbered (flush d) n)) _ _
-    (λ c. done (flush d) _ _ _ (flush-sound d r) (flush-capacity d) (flush-onward d r) (placed-flush d r))
-    (λ c. incomplete-outcome d n r (k .0) (omega (arith, k .1, flush-used d r)) b c (numbered (flush d) n .kind) refl)))
+    cond-cases (Outcome d c) (complete (numbered (flush d) n)) _ _
+    (λ i. flush-done d c r)
+    (λ i. incomplete-outcome d c n r (k .0) (omega (arith, k .1, flush-used d r)) b i (numbered (flush d) n .kind) refl)))
 
 -- CLOSE 010 and 110
 two-kept :
@@ -171,65 +190,62 @@ open-capacity : (k : Disc) → openSession k .capacity ≡ k .capacity
 unfolding openSession
 open-capacity k = refl
 
-pub close-session-outcome : (d : Disc) → Ready d → Outcome d (closeSession d)
-unfolding closeSession accept
-close-session-outcome d r =
+pub close-session-outcome : (d : Disc) (c : Command) → Ready d → Outcome d c (closeSession d)
+unfolding closeSession
+close-session-outcome d c r =
     let e = flush d in
     let s = flush-sound d r in
     let p = flush-pending d in
     let k = closeTail e in
-    cond-cases (Outcome d) (d .finalized || blankTailOnly d) _ _ (λ h. same-done d r)
+    cond-cases (Outcome d c) (d .finalized || blankTailOnly d) _ _ (λ h. unchanged-outcome d c r)
     (λ h.
-    cond-cases (Outcome d) (hasIncompleteReserved e) _ _ (λ i. refused IncompleteTrackInSession)
+    cond-cases (Outcome d c) (hasIncompleteReserved e) _ _ (λ i. refused IncompleteTrackInSession)
     (λ i.
-    cond-cases (Outcome d) (eqb (used k) limit) _ _ (λ u. refused NoMoreReservations)
+    cond-cases (Outcome d c) (eqb (used k) limit) _ _ (λ u. refused NoMoreReservations)
     (λ u.
-    cond-cases (Outcome d) (ltb (d .capacity) (nextSessionStart (end (lastRecord k)) .0 + 1)) _ _ (λ l. refused EndOfUserArea)
+    cond-cases (Outcome d c) (ltb (d .capacity) (nextSessionStart (end (lastRecord k)) .0 + 1)) _ _ (λ l. refused EndOfUserArea)
     (λ l.
-    let c = close-tail-closed e s p i (two-kept d r (λ b q. contradiction (or-right (d .finalized) b) h)) in
+    let t = close-tail-closed e s p i (two-kept d r (λ b q. contradiction (or-right (d .finalized) b) h)) in
     let same = kept-capacity e ∙ flush-capacity d in
     let few = kept-few e s p (eqb-false _ _ u) in
     let start : nextSessionStart (end (lastRecord k)) .0 < k .capacity =
     omega (arith, ltb-false (d .capacity) (nextSessionStart (end (lastRecord k)) .0 + 1) l, same) in
-    done (openSession k) _ _ _
-    (open-session-sound k c few start (kept-finalized e ∙ (flush-finalized d ∙ or-false-left (d .finalized) (blankTailOnly d) h)))
+    done (openSession k) _ _
+    (open-session-sound k t few start (kept-finalized e ∙ (flush-finalized d ∙ or-false-left (d .finalized) (blankTailOnly d) h)))
     (open-capacity k ∙ same)
-    (onward-on d e _ (flush-onward d r) (onward-on e k _ (close-tail-onward e s p) (open-session-onward k c few start)))
-    (placed-flush d r)))))
-  where
-    same-done : (d : Disc) → Ready d → Outcome d (accepted d (rise d d) noReply noPlan)
-    same-done d r = done d _ _ _ (sound-rules d (r .sound)) refl (same-onward d) (placed-none d)
+    (onward-on d e _ (flush-onward d r) (onward-on e k _ (close-tail-onward e s p) (open-session-onward k t few start)))
+    (placed-flush d c r) (no-room c)))))
 
 finalized-onward : (d k : Disc) → Onward d k → Onward d (finalized k)
 finalized-onward d k o =
     record { stays = λ i h n. let a = o .stays i h n in record { listed = a .listed; start = a .start; recorded = a .recorded } }
 
-pub finalize-outcome : (d : Disc) → Ready d → Outcome d (finalize d)
-unfolding finalize accept
-finalize-outcome d r =
+pub finalize-outcome : (d : Disc) (c : Command) → Ready d → Outcome d c (finalize d)
+unfolding finalize
+finalize-outcome d c r =
     let e = flush d in
     let s = flush-sound d r in
     let p = flush-pending d in
     let k = closeTail e in
-    cond-cases (Outcome d) (d .finalized) _ _ (λ h. done d _ _ _ (sound-rules d (r .sound)) refl (same-onward d) (placed-none d))
+    cond-cases (Outcome d c) (d .finalized) _ _ (λ h. unchanged-outcome d c r)
     (λ h.
-    cond-cases (Outcome d) (hasIncompleteReserved e) _ _ (λ i. refused IncompleteTrackInSession)
+    cond-cases (Outcome d c) (hasIncompleteReserved e) _ _ (λ i. refused IncompleteTrackInSession)
     (λ i.
-    cond-cases (Outcome d) (blankTailOnly d && eqb (lastRecord d .session) 1) _ _ (λ b. refused EmptyTrack)
+    cond-cases (Outcome d c) (blankTailOnly d && eqb (lastRecord d .session) 1) _ _ (λ b. refused EmptyTrack)
     (λ b.
-    let c = close-tail-closed e s p i (two-kept d r (λ t q. contradiction (and-both t (eq-eqb _ _ q)) b)) in
-    done (finalized k) _ _ _ (finalize-sound k c (kept-pending e ∙ p)) (kept-capacity e ∙ flush-capacity d)
+    let t = close-tail-closed e s p i (two-kept d r (λ t q. contradiction (and-both t (eq-eqb _ _ q)) b)) in
+    done (finalized k) _ _ (finalize-sound k t (kept-pending e ∙ p)) (kept-capacity e ∙ flush-capacity d)
     (finalized-onward d k (onward-on d e k (flush-onward d r) (close-tail-onward e s p)))
-    (placed-flush d r))))
+    (placed-flush d c r) (no-room c))))
 
-pub close-outcome : (d : Disc) (function n : ℕ) → Ready d → Outcome d (close d function n)
+pub close-outcome : (d : Disc) (c : Command) (function n : ℕ) → Ready d → Outcome d c (close d function n)
 unfolding close
-close-outcome d function n r =
-    cond-cases (Outcome d) (eqb function 0b001) _ _ (λ e. close-fragment-outcome d n r)
+close-outcome d c function n r =
+    cond-cases (Outcome d c) (eqb function 0b001) _ _ (λ e. close-fragment-outcome d c n r)
     (λ e.
-    cond-cases (Outcome d) (eqb function 0b010) _ _ (λ g. close-session-outcome d r)
+    cond-cases (Outcome d c) (eqb function 0b010) _ _ (λ g. close-session-outcome d c r)
     (λ g.
-    cond-cases (Outcome d) (eqb function 0b110) _ _ (λ h. finalize-outcome d r) (λ h. refused InvalidFieldInCommand)))
+    cond-cases (Outcome d c) (eqb function 0b110) _ _ (λ h. finalize-outcome d c r) (λ h. refused InvalidFieldInCommand)))
 
 -- a sound list stays sound with another sense
 pub sense-sound : (d : Disc) (q : Sense) → Sound d → Sound (withSense d q)
@@ -255,45 +271,56 @@ sense-sound d q s =
     }
 
 -- so every command keeps the list sound and the capacity
-pub outcome-ready : (d : Disc) (v : Verdict) → Ready d → Outcome d v → Ready (v .disc)
-unfolding accepted refuse
-outcome-ready d v r (done after n q p s c o l) =
-    record { sound = rules-sound (withSense after noSense) (sense-sound after noSense s); range = rw c (r .range) }
-outcome-ready d v r (refused q) =
+pub outcome-ready : (d : Disc) (c : Command) (v : Verdict) → Ready d → Outcome d c v → Ready (v .disc)
+unfolding accept accepted refuse
+outcome-ready d c v r (done after q p s k o l m) =
+    record { sound = rules-sound (withSense after noSense) (sense-sound after noSense s); range = rw k (r .range) }
+outcome-ready d c v r (refused q) =
     record { sound = rules-sound (withSense d (refusalSense q)) (sense-sound d (refusalSense q) (sound-rules d (r .sound))); range = r .range }
 
-pub outcome-capacity : (d : Disc) (v : Verdict) → Outcome d v → v .disc .capacity ≡ d .capacity
-unfolding accepted refuse
-outcome-capacity d v (done after n q p s c o l) = c
-outcome-capacity d v (refused q) = refl
+pub outcome-capacity : (d : Disc) (c : Command) (v : Verdict) → Outcome d c v → v .disc .capacity ≡ d .capacity
+unfolding accept accepted refuse
+outcome-capacity d c v (done after q p s k o l m) = k
+outcome-capacity d c v (refused q) = refl
 
 -- an accepted command clears the sense, a refused one changes the sense alone
-pub outcome-accepted : (d : Disc) (v : Verdict) → Outcome d v → v .answer ≡ Accepted → v .disc .sense ≡ noSense
-unfolding accepted refuse
-outcome-accepted d v (done after n q p s c o l) e = refl
-outcome-accepted d v (refused q) e = absurd (let z : _≡_ {A = ℕ} 0 1 = cc in omega arith)
+pub outcome-accepted : (d : Disc) (c : Command) (v : Verdict) → Outcome d c v → v .answer ≡ Accepted → v .disc .sense ≡ noSense
+unfolding accept accepted refuse
+outcome-accepted d c v (done after q p s k o l m) e = refl
+outcome-accepted d c v (refused q) e = absurd (let z : _≡_ {A = ℕ} 0 1 = cc in omega arith)
 
-pub outcome-refused : (d : Disc) (v : Verdict) (q : DriveRefusal) → Outcome d v → v .answer ≡ Drive q → v ≡ refuse d q
-unfolding accepted refuse
-outcome-refused d v q (done after n x p s c o l) e = absurd (let z : _≡_ {A = ℕ} 0 1 = cc in omega arith)
-outcome-refused d v q (refused x) e = let same : x ≡ q = cc in rw same
+pub outcome-refused : (d : Disc) (c : Command) (v : Verdict) (q : DriveRefusal) → Outcome d c v → v .answer ≡ Drive q → v ≡ refuse d q
+unfolding accept accepted refuse
+outcome-refused d c v q (done after x p s k o l m) e = absurd (let z : _≡_ {A = ℕ} 0 1 = cc in omega arith)
+outcome-refused d c v q (refused x) e = let same : x ≡ q = cc in rw same
 
 -- the drive gives no link refusal
-pub outcome-answer : (d : Disc) (v : Verdict) (q : LinkRefusal) → Outcome d v → v .answer ≡ Link q → ⊥
-unfolding accepted refuse
-outcome-answer d v q (done after n x p s c o l) e = let z : _≡_ {A = ℕ} 0 1 = cc in omega arith
-outcome-answer d v q (refused x) e = let z : _≡_ {A = ℕ} 0 1 = cc in omega arith
+pub outcome-answer : (d : Disc) (c : Command) (v : Verdict) (q : LinkRefusal) → Outcome d c v → v .answer ≡ Link q → ⊥
+unfolding accept accepted refuse
+outcome-answer d c v q (done after x p s k o l m) e = let z : _≡_ {A = ℕ} 0 1 = cc in omega arith
+outcome-answer d c v q (refused x) e = let z : _≡_ {A = ℕ} 0 1 = cc in omega arith
 
 -- and what was recorded before it is recorded after it
-pub outcome-onward : (d : Disc) (v : Verdict) → Outcome d v → Onward d (v .disc)
-unfolding accepted refuse
-outcome-onward d v (done after n q p s c o l) =
+pub outcome-onward : (d : Disc) (c : Command) (v : Verdict) → Outcome d c v → Onward d (v .disc)
+unfolding accept accepted refuse
+outcome-onward d c v (done after q p s k o l m) =
     record { stays = λ i h m. let a = o .stays i h m in record { listed = a .listed; start = a .start; recorded = a .recorded } }
-outcome-onward d v (refused q) =
+outcome-onward d c v (refused q) =
     record { stays = λ i h m. record { listed = h; start = refl; recorded = omega arith } }
 
 -- and its plan records blocks that were unrecorded before
-pub outcome-placed : (d : Disc) (v : Verdict) → Outcome d v → Placed d (v .plan)
-unfolding accepted refuse
-outcome-placed d v (done after n q p s c o l) = l
-outcome-placed d v (refused q) = placed-none d
+pub outcome-placed : (d : Disc) (c : Command) (v : Verdict) → Outcome d c v → Placed d c (v .plan)
+unfolding accept accepted refuse
+outcome-placed d c v (done after q p s k o l m) = l
+outcome-placed d c v (refused q) = placed-none d c
+
+-- the number of blocks recorded is the rise of the sum of W
+pub outcome-rise : (d : Disc) (c : Command) (v : Verdict) → Outcome d c v → v .recorded ≡ rise d (v .disc)
+unfolding accept accepted refuse
+outcome-rise d c v (done after q p s k o l m) = refl
+outcome-rise d c v (refused q) = omega arith
+
+pub outcome-room : (d : Disc) (c : Command) (v : Verdict) → Outcome d c v → Room c (v .reply)
+unfolding accept accepted refuse
+outcome-room d c v (done after q p s k o l m) = m
+outcome-room d c v (refused q) = no-room c

@@ -1,22 +1,24 @@
 -- The blocks that a plan records: inside one fragment each time, behind its recorded blocks, so never recorded before.
 use Prim.Native.Nat.{ℕ, _+_, _*_, _-_, _/_, _≤_, _<_}
-use mathlib.Core.Path.{_≡_}
+use mathlib.Core.Path.{_≡_, refl}
 use mathlib.Core.Bool.{true}
 use native.Mathlib.Omega.{arith}
 use borrow.Author.Tests.{eqb-false}
 use lib.Dec.{eqb}
-use Rattle.disc.specs.Types.{Block, Lba, Disc, Flush, Skip, Record, Transfer, Nothing, Send, Gather, Fill, Plan}
-use Rattle.disc.specs.Address.{firstSector}
+use Rattle.disc.specs.Types.{Block, Lba, Disc, Flush, Skip, Record, Transfer, Nothing, Send, Gather, Fill, Plan, Command, Read, Write}
+use Rattle.disc.specs.Address.{firstSector, sectorsIn}
 use Rattle.disc.specs.Fragment.{end, firstUnrecorded, pendingIn}
 use Rattle.disc.specs.Records.{used, numbered, readable}
 use Rattle.disc.specs.Rules.{at, Sound}
 use Rattle.disc.specs.Ready.{Ready}
 use Rattle.disc.specs.Verdict.{noPlan, plan}
+use Rattle.disc.specs.Read.{allReadable}
 use Rattle.disc.specs.Flush.{flush, flushPlan}
 use Rattle.disc.specs.Write.{flushOthersPlan, Writable}
 use Rattle.disc.proofs.Laws.Bool.{cond-cases}
 use Rattle.disc.proofs.Laws.Numbers.{order-cases}
-use Rattle.disc.proofs.Laws.Sound.{starts-rise}
+use Rattle.disc.proofs.Laws.Rules.{sound-rules}
+use Rattle.disc.proofs.Laws.Sound.{starts-rise, pending-in-few}
 use Rattle.disc.proofs.Laws.Read.{readable-cases, recorded-from, recorded-below}
 use Rattle.disc.proofs.Laws.Flush.{owner, flush-grows, flush-sound, flush-used}
 
@@ -46,26 +48,31 @@ module _ (d : Disc) (s : Sound d) (b k : ℕ) (u : Unrecorded d b k) where
       (λ more. omega (arith, starts-rise d s j i more (u .listed), s .recorded j lj, below, h, u .from)))
       t
 
+-- the pending block, which has 1 to 15 sectors
 pub data Flushed (d : Disc) : Flush → Type 0 where
   skips : Flushed d Skip
-  records : (b : Block) (n : ℕ) → Unrecorded d (b .0) 1 → Flushed d (Record b n)
+  records : (b : Block) (n : ℕ) → 1 ≤ n → n < 16 → Unrecorded d (b .0) 1 → Flushed d (Record b n)
 
-pub data Moved (d : Disc) : Transfer → Type 0 where
-  nothing : Moved d Nothing
-  sends : (a : Lba) (n : ℕ) → Moved d (Send a n)
-  gathers : (b : Block) (held n : ℕ) → Unrecorded d (b .0) ((held + n) / 16) → Moved d (Gather b held n)
-  fills : (b : Block) (k : ℕ) → Unrecorded d (b .0) k → Moved d (Fill b k)
+-- only a READ sends, recorded sectors, and only a WRITE gathers, each its own
+pub data Moved (d : Disc) (c : Command) : Transfer → Type 0 where
+  nothing : Moved d c Nothing
+  sends : (a : Lba) (n : ℕ) → c ≡ Read a n → a .0 + n ≤ sectorsIn (d .capacity) → allReadable d a n ≡ true → Moved d c (Send a n)
+  gathers :
+      (a : Lba) (b : Block) (held n : ℕ) → c ≡ Write a n → held < 16 → Unrecorded d (b .0) ((held + n) / 16) → Moved d c (Gather b held n)
+  fills : (b : Block) (k : ℕ) → Unrecorded d (b .0) k → Moved d c (Fill b k)
 
--- every block that a plan records was unrecorded before
-pub record Placed (d : Disc) (p : Plan) : Type 0 where
+-- every block that the plan of a command records was unrecorded before
+pub record Placed (d : Disc) (c : Command) (p : Plan) : Type 0 where
   pub flushed : Flushed d (p .flush)
-  pub moved : Moved d (p .transfer)
+  pub moved : Moved d c (p .transfer)
 
-pub placed-none : (d : Disc) → Placed d noPlan
-placed-none d = record { flushed = skips; moved = nothing }
+pub placed-none : (d : Disc) (c : Command) → Placed d c noPlan
+placed-none d c = record { flushed = skips; moved = nothing }
 
-pub placed-send : (d : Disc) (a : Lba) (n : ℕ) → Placed d (plan Skip (Send a n))
-placed-send d a n = record { flushed = skips; moved = sends a n }
+pub placed-send :
+    (d : Disc) (a : Lba) (n : ℕ) → a .0 + n ≤ sectorsIn (d .capacity) → allReadable d a n ≡ true
+    → Placed d (Read a n) (plan Skip (Send a n))
+placed-send d a n h t = record { flushed = skips; moved = sends a n refl h t }
 
 flush-placed : (d : Disc) → Ready d → Flushed d (flushPlan d)
 unfolding flushPlan
@@ -73,26 +80,29 @@ flush-placed d r =
     cond-cases (Flushed d) (eqb (d .pending) 0) _ _ (λ z. skips)
     (λ z.
     let o = owner d r (eqb-false _ _ z) in
-    records _ _
+    records _ _ (some (d .pending) (eqb-false _ _ z)) (sound-rules d (r .sound) .few)
     (record {
       index = d .owner - 1;
       listed = omega (arith, o .number, o .listed);
       from = omega arith;
       to = omega (arith, o .room);
     }))
+  where
+    some : (n : ℕ) → (n ≡ 0 → ⊥) → 1 ≤ n
+    some n z = omega arith
 
-pub placed-flush : (d : Disc) → Ready d → Placed d (plan (flushPlan d) Nothing)
-placed-flush d r = record { flushed = flush-placed d r; moved = nothing }
+pub placed-flush : (d : Disc) (c : Command) → Ready d → Placed d c (plan (flushPlan d) Nothing)
+placed-flush d c r = record { flushed = flush-placed d r; moved = nothing }
 
 pub placed-gather :
     (d : Disc) (a : Lba) (number n : ℕ) → Ready d → Writable d a number → a .0 + n ≤ firstSector (end (numbered d number)) .0
-    → Placed d (plan (flushOthersPlan d number) (Gather (firstUnrecorded (numbered d number)) (pendingIn d number) n))
+    → Placed d (Write a n) (plan (flushOthersPlan d number) (Gather (firstUnrecorded (numbered d number)) (pendingIn d number) n))
 unfolding flushOthersPlan
 placed-gather d a number n r w fits =
     record {
       flushed = cond-cases (Flushed d) (eqb (d .owner) number) _ _ (λ e. skips) (λ e. flush-placed d r);
       moved =
-          gathers (firstUnrecorded (numbered d number)) (pendingIn d number) n
+          gathers a (firstUnrecorded (numbered d number)) (pendingIn d number) n refl (pending-in-few d (sound-rules d (r .sound)) number)
           (record {
             index = number - 1;
             listed = omega (arith, w .from, w .listed);
@@ -102,9 +112,9 @@ placed-gather d a number n r w fits =
     }
 
 pub placed-fill :
-    (d : Disc) (n : ℕ) → Ready d → 1 ≤ n → n ≤ used (flush d)
-    → Placed d (plan (flushPlan d) (Fill (firstUnrecorded (numbered (flush d) n)) (numbered (flush d) n .length - numbered (flush d) n .recorded)))
-placed-fill d n r from to =
+    (d : Disc) (c : Command) (n : ℕ) → Ready d → 1 ≤ n → n ≤ used (flush d)
+    → Placed d c (plan (flushPlan d) (Fill (firstUnrecorded (numbered (flush d) n)) (numbered (flush d) n .length - numbered (flush d) n .recorded)))
+placed-fill d c n r from to =
     let g = flush-grows d r in
     let s = flush-sound d r in
     let here : n - 1 < used (flush d) = omega arith in

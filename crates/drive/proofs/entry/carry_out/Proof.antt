@@ -1,0 +1,39 @@
+use Rattle.drive.specs.Step.{response, carriedOut}
+use mathlib.Core.Path.{ap}
+use borrow.Author.Needs.{needs}
+use Rattle.drive.proofs.entry.carry_out.Statement.{statement}
+use Rattle.drive.proofs.entry.carry_out.Tie as tie
+use Rattle.drive.proofs.entry.carry_out.Reads as reads
+use Rattle.drive.proofs.entry.carry_out.Lts as lts
+use Rattle.drive.proofs.reply.send.Reads as send-reads
+use Rattle.drive.proofs.transfer.carry_out.Reads as carry-out-reads
+
+-- src/entry.rt:62:9
+send-requires : tie.Need-send-requires
+send-requires c κs = search needs
+
+-- src/entry.rt:63:5
+carry-out-requires : tie.Need-carry-out-requires
+carry-out-requires c κs = search needs
+
+-- src/entry.rt:45:1
+same-length : tie.Need-same-length
+same-length c = search needs
+
+-- src/entry.rt:45:1
+same-length-2 : tie.Need-same-length-2
+same-length-2 c = search needs
+
+-- src/entry.rt:45:1
+same-length-3 : tie.Need-same-length-3
+same-length-3 c = search needs
+
+-- src/entry.rt:45:1
+returns : tie.Need-returns
+unfolding carriedOut
+returns c = (ap (response (c .before .before .before .before .before .before .before .before .before .before .before .before .before .before .before .before .before .before .before .args .verdict)) (c .before .before .before .before .before .before .before .before .before .before .send .ensures .0), (c .before .before .before .before .before .carry-out .ensures .0, (c .before .before .before .before .before .carry-out .ensures .1, c .before .before .before .before .before .before .before .before .before .before .send .ensures .1)))
+
+pub carry-out-spec : {M : Type 1} → statement M
+carry-out-spec =
+    tie.close
+    (tie.spec send-requires carry-out-requires same-length same-length-2 same-length-3 returns)

@@ -1,0 +1,94 @@
+-- One command: the link's tests of what is lent, the decision, and the bytes moved by its plan.
+use Prim.Native.Nat.{ℕ, _+_, _*_, _/_, _≤_}
+use mathlib.Core.Bool.{Bool, cond, not, _&&_}
+use mathlib.Core.Path.{_≡_}
+use mathlib.Core.List.{List}
+use lib.ListN.{length}
+use lib.Dec.{eqb}
+use Rattle.drive.specs.Types.{Lba, Disc, Answer, LinkRefusal, Verdict, Write, CommandBlockLength, MediumSize, Response}
+use Rattle.disc.specs.Answer.{number}
+use Rattle.disc.specs.Command.{decode}
+use Rattle.disc.specs.Verdict.{refuseLink, rise}
+use Rattle.disc.specs.Judge.{judge}
+use Rattle.disc.specs.Lent.{FlushFits, TransferFits}
+use Rattle.drive.specs.Bytes.{splice}
+use Rattle.drive.specs.Reply.{sentBytes, Sendable}
+use Rattle.drive.specs.Moves.{movedMedium, movedPending}
+
+-- what the box holds from one command to the next
+pub record Drive : Type 0 where
+  pub disc : Disc
+  pub medium : List ℕ
+  pub pending : List ℕ
+
+abbrev pub drive : Disc → List ℕ → List ℕ → Drive
+drive d m p = record { disc = d; medium = m; pending = p }
+
+-- what the cable delivers with a command: the command block, its data, and the reply buffer as it is lent
+pub record Request : Type 0 where
+  pub block : List ℕ
+  pub sectors : List ℕ
+  pub buffer : List ℕ
+
+abbrev pub request : List ℕ → List ℕ → List ℕ → Request
+request b x r = record { block = b; sectors = x; buffer = r }
+
+-- what comes of it: the answer, the reply's bytes, the number of blocks recorded, the reply buffer and the drive afterwards
+pub record Result : Type 0 where
+  pub answer : Answer
+  pub reply : List ℕ
+  pub recorded : ℕ
+  pub buffer : List ℕ
+  pub after : Drive
+
+-- the lent lengths that L2 tests: a medium of C whole blocks, a pending buffer of one block
+abbrev pub lent : Disc → ℕ → ℕ → Bool
+lent d mediumLent pendingLent = eqb mediumLent (32768 * d .capacity) && eqb pendingLent 32768
+
+-- L1, then L2 of what is lent, then what the disc decides (the rest of L2, L3, L4 and the drive's refusals)
+unfoldable pub verdictOn : Drive → Request → Verdict
+verdictOn s q =
+    cond (not (eqb (length (q .block)) 12)) (refuseLink (s .disc) CommandBlockLength)
+    (cond (not (lent (s .disc) (length (s .medium)) (length (s .pending)))) (refuseLink (s .disc) MediumSize)
+    (judge (s .disc) (q .block) (length (q .sectors)) (length (q .buffer))))
+
+-- a verdict carried out
+unfoldable pub carriedOut : Verdict → Drive → Request → Result
+carriedOut v s q =
+    let reply = sentBytes (v .plan .transfer) (v .reply) (s .medium) in
+    record {
+      answer = v .answer;
+      reply = reply;
+      recorded = v .recorded;
+      buffer = splice (q .buffer) 0 reply;
+      after =
+          drive (v .disc) (movedMedium (v .plan) (s .medium) (s .pending) (q .sectors)) (movedPending (v .plan) (s .pending) (q .sectors));
+    }
+
+unfoldable pub step : Drive → Request → Result
+step s q = carriedOut (verdictOn s q) s q
+
+-- what the code that carries a verdict out asks: what is sent is the recorded run, and what the plan asks of the lent buffers is there
+pub record Carried (v : Verdict) (s : Drive) (q : Request) : Type 0 where
+  pub sends : Sendable (s .disc) (q .block) (s .medium) (v .plan .transfer) (v .reply) (length (q .buffer))
+  pub block : length (s .pending) ≡ 32768
+  pub flush : FlushFits (length (s .medium)) (v .plan .flush)
+  pub transfer : TransferFits (length (s .medium)) (length (q .sectors)) (v .plan .transfer)
+
+-- the response by value: of a verdict whose reply has so many bytes, and of a link refusal
+abbrev pub response : Verdict → ℕ → Response
+response v n = record { answer = v .answer; disc = v .disc; length = n; recorded = v .recorded }
+
+abbrev pub refused : Disc → LinkRefusal → Response
+refused d r = response (refuseLink d r) 0
+
+-- the promise of the code that answers a command, but for the buffers
+pub record Answered (s : Drive) (q : Request) (r : Response) : Type 0 where
+  pub answer : r .answer ≡ step s q .answer
+  pub numbered : number (r .answer) ≡ number (step s q .answer)
+  pub disc : r .disc ≡ step s q .after .disc
+  pub length : r .length ≡ length (step s q .reply)
+  pub recorded : r .recorded ≡ step s q .recorded
+  -- it is the rise of the recorded blocks of all fragments, and for a WRITE of n at most 1 + n/16
+  pub risen : r .recorded ≡ rise (s .disc) (r .disc)
+  pub bounded : (a : Lba) (n : ℕ) → decode (q .block) ≡ Write a n → r .recorded ≤ 1 + n / 16

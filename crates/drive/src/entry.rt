@@ -1,0 +1,96 @@
+// One command: the link's tests of what is lent, the decision, and the bytes moved by its plan.
+use crate::reply;
+use crate::transfer;
+use disc::Answer;
+use disc::BLOCK_LENGTH;
+use disc::COMMAND_LENGTH;
+use disc::Disc;
+use disc::LinkRefusal;
+use disc::Verdict;
+ghost use mathlib.Core.Path.{_≡_};
+ghost use lib.ListN.{length};
+ghost use Rattle.disc.specs.Judge.{judge};
+ghost use Rattle.drive.specs.Step.{drive, request, lent, refused, response, Carried, carriedOut, step, Answered};
+
+// The answer to a command: how it ended, the disc afterwards, the reply's length and the number of blocks recorded.
+pub struct Response {
+    pub answer: Answer,
+    pub disc: Disc,
+    pub length: usize,
+    pub recorded: u32,
+}
+
+impl Response {
+    // Refused on the link: nothing changes.
+    fn refused(disc: Disc, refusal: LinkRefusal) -> Response
+        ensures { λ r. ⌜ r ≡ refused disc refusal ⌝ }
+    {
+        Response {
+            answer: Answer::Link(refusal),
+            disc,
+            length: 0,
+            recorded: 0,
+        }
+    }
+}
+
+// Whether the medium has the disc's blocks and the pending buffer is one block.
+fn is_lent(disc: Disc, medium: usize, pending: usize) -> bool
+    ensures { λ r. ⌜ r ≡ lent disc medium pending ⌝ }
+{
+    (medium == BLOCK_LENGTH * (disc.capacity as usize)) & (pending == BLOCK_LENGTH)
+}
+
+// Sends the reply, then moves the bytes that the plan names.
+fn carry_out(
+    verdict: Verdict,
+    block: &[u8],
+    data: &[u8],
+    disc: Disc,
+    medium: &mut [u8],
+    pending: &mut [u8],
+    reply: &mut [u8],
+) -> Response
+    requires { ⌜ Carried verdict (drive disc (now medium) (now pending)) (request (now block) (now «data») (now reply)) ⌝ }
+    ensures { λ r. ⌜ r ≡ response verdict (length (carriedOut verdict (drive disc (now (medium .entry)) (now (pending .entry))) (request (now (block .entry)) (now («data» .entry)) (now (reply .entry))) .reply)) ⌝ }
+    ensures medium { λ _. ⌜ now (medium .exit) ≡ carriedOut verdict (drive disc (now (medium .entry)) (now (pending .entry))) (request (now (block .entry)) (now («data» .entry)) (now (reply .entry))) .after .medium ⌝ }
+    ensures pending { λ _. ⌜ now (pending .exit) ≡ carriedOut verdict (drive disc (now (medium .entry)) (now (pending .entry))) (request (now (block .entry)) (now («data» .entry)) (now (reply .entry))) .after .pending ⌝ }
+    ensures reply { λ _. ⌜ now (reply .exit) ≡ carriedOut verdict (drive disc (now (medium .entry)) (now (pending .entry))) (request (now (block .entry)) (now («data» .entry)) (now (reply .entry))) .buffer ⌝ }
+{
+    let plan = verdict.plan;
+    let sent = plan.transfer;
+    let length = reply::send(sent, verdict.reply, disc, block, medium, reply);
+    transfer::carry_out(plan, data, medium, pending);
+    let answer = verdict.answer;
+    let disc = verdict.disc;
+    Response {
+        answer,
+        disc,
+        length,
+        recorded: verdict.recorded,
+    }
+}
+
+// Answers one command: the command block, its data, the disc by value, and the lent medium, pending buffer and reply buffer.
+pub fn command(
+    block: &[u8],
+    data: &[u8],
+    disc: Disc,
+    medium: &mut [u8],
+    pending: &mut [u8],
+    reply: &mut [u8],
+) -> Response
+    ensures { λ r. ⌜ Answered (drive disc (now (medium .entry)) (now (pending .entry))) (request (now (block .entry)) (now («data» .entry)) (now (reply .entry))) r ⌝ }
+    ensures medium { λ _. ⌜ now (medium .exit) ≡ step (drive disc (now (medium .entry)) (now (pending .entry))) (request (now (block .entry)) (now («data» .entry)) (now (reply .entry))) .after .medium ⌝ }
+    ensures pending { λ _. ⌜ now (pending .exit) ≡ step (drive disc (now (medium .entry)) (now (pending .entry))) (request (now (block .entry)) (now («data» .entry)) (now (reply .entry))) .after .pending ⌝ }
+    ensures reply { λ _. ⌜ now (reply .exit) ≡ step (drive disc (now (medium .entry)) (now (pending .entry))) (request (now (block .entry)) (now («data» .entry)) (now (reply .entry))) .buffer ⌝ }
+{
+    if block.len() != COMMAND_LENGTH {
+        return Response::refused(disc, LinkRefusal::CommandBlockLength);
+    }
+    if !is_lent(disc, medium.len(), pending.len()) {
+        return Response::refused(disc, LinkRefusal::MediumSize);
+    }
+    let verdict = disc.judge(block, data.len(), reply.len());
+    carry_out(verdict, block, data, disc, medium, pending, reply)
+}

@@ -1,0 +1,58 @@
+// A WRITE's sectors: they gather in the pending buffer, and each sixteen of them are recorded.
+use crate::bytes;
+use crate::medium;
+use disc::Block;
+use disc::SECTOR_LENGTH;
+use disc::SECTORS_PER_BLOCK;
+ghost use mathlib.Core.Path.{_≡_};
+ghost use Prim.Native.Nat.{_+_, _*_, _/_, _^_, _≤_, _<_};
+ghost use lib.ListN.{length};
+ghost use Rattle.drive.specs.Bytes.{splice};
+ghost use Rattle.drive.specs.Moves.{gatheredMedium, gatheredPending};
+
+// One more sector behind those held for a block; the sixteenth completes the block, which is then recorded.
+fn gather_sector(medium: &mut [u8], pending: &mut [u8], block: Block, held: usize, sector: &[u8])
+    requires { ⌜ (length (now pending) ≡ 32768) × (held < 16) × (length (now sector) ≡ 2048) × (32768 * (block .0 + (held + 1) / 16) ≤ length (now medium)) ⌝ }
+    ensures medium { λ _. ⌜ now (medium .exit) ≡ gatheredMedium (block .0) held 1 (now (medium .entry)) (now (pending .entry)) (now (sector .entry)) ⌝ }
+    ensures pending { λ _. ⌜ now (pending .exit) ≡ splice (now (pending .entry)) (2048 * held) (now (sector .entry)) ⌝ }
+{
+    bytes::put(pending, SECTOR_LENGTH * held, sector);
+    if held + 1 < SECTORS_PER_BLOCK as usize {
+        return;
+    }
+    medium::record_block(medium, block, pending);
+}
+
+// All sectors of a WRITE, behind those held for a block; the pending buffer's bytes past the last one become zero.
+pub(crate) fn gather(
+    medium: &mut [u8],
+    pending: &mut [u8],
+    block: Block,
+    held: u8,
+    sectors: u32,
+    data: &[u8],
+)
+    requires { ⌜ (length (now pending) ≡ 32768) × (held < 16) × (length (now «data») ≡ 2048 * sectors) × (block .0 + (held + sectors) / 16 < 2 ^ 32) × (32768 * (block .0 + (held + sectors) / 16) ≤ length (now medium)) ⌝ }
+    ensures medium { λ _. ⌜ now (medium .exit) ≡ gatheredMedium (block .0) held sectors (now (medium .entry)) (now (pending .entry)) (now («data» .entry)) ⌝ }
+    ensures pending { λ _. ⌜ now (pending .exit) ≡ gatheredPending held sectors (now (pending .entry)) (now («data» .entry)) ⌝ }
+{
+    let first = block.0;
+    let count = sectors as usize;
+    let before = held as usize;
+    let per_block = SECTORS_PER_BLOCK as usize;
+    let mut i = 0;
+    while i < count {
+        let from = SECTOR_LENGTH * i;
+        let to = from + SECTOR_LENGTH;
+        let here = Block(first + ((before + i) / per_block) as u32);
+        gather_sector(
+            medium,
+            pending,
+            here,
+            (before + i) % per_block,
+            &data[from..to],
+        );
+        i += 1;
+    }
+    bytes::clear_from(pending, SECTOR_LENGTH * ((before + count) % per_block));
+}

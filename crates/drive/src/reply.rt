@@ -1,0 +1,56 @@
+// The reply's bytes, copied to the beginning of the lent reply buffer; the bytes past them stay.
+use crate::bytes;
+use disc::Disc;
+use disc::Reply;
+use disc::Transfer;
+ghost use mathlib.Core.Path.{_≡_};
+ghost use Prim.Native.Nat.{_≤_};
+ghost use lib.ListN.{length, take};
+ghost use Rattle.disc.specs.Run.{recordedRun};
+ghost use Rattle.drive.specs.Bytes.{splice};
+ghost use Rattle.drive.specs.Reply.{sentBytes, Sendable};
+
+// A report, cut to its length.
+fn send_report(report: Reply, reply: &mut [u8]) -> usize
+    requires { ⌜ (report .length ≤ length (report .bytes)) × (report .length ≤ length (now reply)) ⌝ }
+    ensures { λ r. ⌜ r ≡ length (take (report .length) (report .bytes)) ⌝ }
+    ensures reply { λ _. ⌜ now (reply .exit) ≡ splice (now (reply .entry)) 0 (take (report .length) (report .bytes)) ⌝ }
+{
+    let length = report.length;
+    let bytes = report.bytes;
+    bytes::put(reply, 0, &bytes[0..length]);
+    length
+}
+
+// The recorded run that a READ asks for.
+fn send_run(disc: Disc, block: &[u8], medium: &[u8], reply: &mut [u8]) -> usize
+    requires { ⌜ length (recordedRun disc (now block) (now medium)) ≤ length (now reply) ⌝ }
+    ensures { λ r. ⌜ r ≡ length (recordedRun disc (now (block .entry)) (now (medium .entry))) ⌝ }
+    ensures reply { λ _. ⌜ now (reply .exit) ≡ splice (now (reply .entry)) 0 (recordedRun disc (now (block .entry)) (now (medium .entry))) ⌝ }
+{
+    let run = disc.recorded_run(block, medium);
+    bytes::put(reply, 0, run);
+    run.len()
+}
+
+// The one or the other; how many bytes it is.
+pub(crate) fn send(
+    transfer: Transfer,
+    report: Reply,
+    disc: Disc,
+    block: &[u8],
+    medium: &[u8],
+    reply: &mut [u8],
+) -> usize
+    requires { ⌜ Sendable disc (now block) (now medium) transfer report (length (now reply)) ⌝ }
+    ensures { λ r. ⌜ r ≡ length (sentBytes transfer report (now (medium .entry))) ⌝ }
+    ensures reply { λ _. ⌜ now (reply .exit) ≡ splice (now (reply .entry)) 0 (sentBytes transfer report (now (medium .entry))) ⌝ }
+{
+    match transfer {
+        Transfer::Send {
+            address: _,
+            sectors: _,
+        } => send_run(disc, block, medium, reply),
+        _ => send_report(report, reply),
+    }
+}

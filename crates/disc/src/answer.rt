@@ -1,6 +1,6 @@
 // The sense and the answers of the drive. specs/Answer.antt gives document 01's number and values for each case.
 ghost use mathlib.Core.Path.{_≡_};
-ghost use Rattle.disc.specs.Answer.{sense, noSense, sameSense, refusalSense, allowedSense};
+ghost use Rattle.disc.specs.Answer.{sense, noSense, sameSense, refusalSense, allowedSense, linkNumber, senseNumber, number};
 
 // Sense key, additional sense code and its qualifier, as a command left them.
 pub struct Sense {
@@ -14,6 +14,13 @@ impl Sense {
         ensures { λ r. ⌜ r ≡ sense key asc ascq ⌝ }
     {
         Sense { key, asc, ascq }
+    }
+
+    // Key, ASC and ASCQ as one number.
+    fn number(self) -> u32
+        ensures { λ r. ⌜ r ≡ senseNumber self ⌝ }
+    {
+        0x10000 * (self.key as u32) + 0x100 * (self.asc as u32) + self.ascq as u32
     }
 
     // The same key, ASC and ASCQ.
@@ -69,6 +76,20 @@ pub enum Answer {
     Drive(DriveRefusal),
 }
 
+impl LinkRefusal {
+    // Its number in document 01.
+    fn number(self) -> u32
+        ensures { λ r. ⌜ r ≡ linkNumber self ⌝ }
+    {
+        match self {
+            LinkRefusal::CommandBlockLength => 1,
+            LinkRefusal::MediumSize => 2,
+            LinkRefusal::UnsoundState => 3,
+            LinkRefusal::TransferLength => 4,
+        }
+    }
+}
+
 impl DriveRefusal {
     // The sense that the refusal leaves.
     pub(crate) fn sense(self) -> Sense
@@ -85,6 +106,19 @@ impl DriveRefusal {
             DriveRefusal::EmptyTrack => Sense::new(0x5, 0x72, 0x04),
             DriveRefusal::NoMoreReservations => Sense::new(0x5, 0x72, 0x05),
             DriveRefusal::EndOfUserArea => Sense::new(0x5, 0x63, 0x00),
+        }
+    }
+}
+
+impl Answer {
+    // Its number: 0 for accepted, 1 to 4 for L1 to L4, key, ASC and ASCQ in a row for a drive refusal.
+    pub fn number(self) -> u32
+        ensures { λ r. ⌜ r ≡ number self ⌝ }
+    {
+        match self {
+            Answer::Accepted => 0,
+            Answer::Link(refusal) => refusal.number(),
+            Answer::Drive(refusal) => refusal.sense().number(),
         }
     }
 }

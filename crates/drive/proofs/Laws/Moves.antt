@@ -1,9 +1,9 @@
 -- Laws of the bytes of a WRITE, a flush and a fill.
 use mathlib.Core.Path.{_≡_, refl, sym, ap, _∙_}
-use Prim.Native.Nat.{ℕ, _+_, _-_, _*_, _/_, _%_, _≤_, _<_}
+use Prim.Native.Nat.{ℕ, _+_, _-_, _*_, _/_, _%_, _≤_}
 use native.Mathlib.Omega.{arith}
 use mathlib.Core.List.{List, [], _∷_, _++_, append-assoc}
-use lib.ListN.{length, take, drop, length-append, length-take, length-drop}
+use lib.ListN.{length, take, drop, length-append, length-drop}
 use lib.Seq.{drop-drop, take-add, take-append-le, drop-append-le, length-take-le}
 use types.Run.{OneOf, miss}
 use denote.Enum.Declared.{tagOf}
@@ -106,10 +106,6 @@ fill-more m medium medium₁ b i h e f =
 pub fill-none : (m : List ℕ) (a : ℕ) → m ≡ splice m a (zeros (32768 * 0))
 unfolding zeros
 fill-none m a = sym (splice-nil m a)
-
--- the sectors of a block that is not full
-pub sectors-fit : (n : ℕ) (p : List ℕ) → n < 16 → length (take (2048 * n - 0) p) ≤ 32768
-sectors-fit n p h = rw (length-take (2048 * n - 0) p) (omega arith)
 
 -- a flush, from what its two steps leave
 pub flushed-record :

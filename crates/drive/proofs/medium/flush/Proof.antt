@@ -1,7 +1,7 @@
 use Rattle.drive.specs.Moves.{flushedMedium, flushedPending}
-use Rattle.drive.proofs.Laws.Moves.{sectors-fit, flushed-record}
+use Rattle.drive.proofs.Laws.Moves.{flushed-record}
 use mathlib.Core.Path.{subst, refl}
-use lib.ListN.{length}
+use lib.ListN.{length, length-take}
 use Rattle.disc.specs.Lent.{FlushFits}
 use native.Mathlib.Omega.{arith}
 use borrow.Author.Needs.{needs}
@@ -45,7 +45,8 @@ part-record-block-end c =
 record-block-requires : tie.Need-record-block-requires
 record-block-requires c κs =
     let start = c .before .before .before .before .before .before .before .before in
-    let f = subst (FlushFits (length (start .args .medium .now))) (c .before .before .before .before .flush .given .1) (start .pre .1) in (sectors-fit (c .before .before .before .before .flush .given .0 .1 .0) (start .args .pending .now) (omega (arith, f .1)), omega (arith, f .2))
+    let f = subst (FlushFits (length (start .args .medium .now))) (c .before .before .before .before .flush .given .1) (start .pre .1) in
+    (simp length-take (omega arith), omega (arith, f .2))
 
 -- src/medium.rt:44:13
 clear-requires : tie.Need-clear-requires

@@ -1,0 +1,107 @@
+// Hands the drive what a loose plug might deliver, and prints the number of each answer: 1 to 4 for L1 to L4; key, ASC and ASCQ in
+// a row for a refusal by the drive.
+// A program has no room for a medium. So the entry is called on tiny buffers, which end at L1 or L2, and the disc is asked what it
+// decides behind them, on lengths alone.
+use disc::Answer;
+use disc::Disc;
+use libc::STDOUT_FILENO;
+
+// A line: what was tried, how many bytes of it, and the number of the answer.
+fn print(name: &[u8], length: usize, answer: Answer) {
+    io::write_all(STDOUT_FILENO, name);
+    io::write_all(STDOUT_FILENO, b" ");
+    io::print_decimal(STDOUT_FILENO, length as u64);
+    io::write_all(STDOUT_FILENO, b": ");
+    io::print_hex(STDOUT_FILENO, answer.number() as u64, 6);
+    io::write_all(STDOUT_FILENO, b"\n");
+}
+
+// The entry's answer to a command block without data.
+fn ask(block: &[u8], disc: Disc, medium: &mut [u8], pending: &mut [u8]) -> Answer {
+    let no_data = [0u8; 0];
+    let mut reply = [0u8; 8];
+    let response = drive::command(block, &no_data, disc, medium, pending, &mut reply);
+    response.answer
+}
+
+// A command block of so many bytes, with a medium and a pending buffer of 16.
+fn ask_tiny(block: &[u8], disc: Disc) {
+    let mut medium = [0u8; 16];
+    let mut pending = [0u8; 16];
+    print(
+        b"block",
+        block.len(),
+        ask(block, disc, &mut medium, &mut pending),
+    );
+}
+
+// Blocks of 0 to 20 bytes: L1, and L2 where the block is right.
+fn ask_blocks(disc: Disc) {
+    let bytes = [0u8; 20];
+    for length in 0..=20 {
+        ask_tiny(&bytes[0..length], disc);
+    }
+}
+
+// The all-zero state: no bytes are a medium of no blocks, and a whole pending buffer is right; its capacity is not.
+fn ask_zero_state() {
+    let made = Disc::blank(0);
+    let disc = made.disc;
+    let block = [0u8; 12];
+    let mut no_medium = [0u8; 0];
+    let mut short = [0u8; 32767];
+    print(
+        b"pending",
+        short.len(),
+        ask(&block, disc, &mut no_medium, &mut short),
+    );
+    let mut whole = [0u8; 32768];
+    print(
+        b"pending",
+        whole.len(),
+        ask(&block, disc, &mut no_medium, &mut whole),
+    );
+    let mut medium = [0u8; 1];
+    print(
+        b"medium",
+        medium.len(),
+        ask(&block, disc, &mut medium, &mut whole),
+    );
+}
+
+// What the disc decides about an opcode with address 256, length 1 and, for 03h, allocation length 1.
+fn decide(disc: Disc, opcode: u8, data: usize, reply: usize) -> Answer {
+    let block = [opcode, 0, 0, 0, 1, 0, 0, 0, 1, 0, 0, 0];
+    let verdict = disc.judge(&block, data, reply);
+    verdict.answer
+}
+
+// Data and replies of wrong lengths: L4, and what the drive says where they are right.
+fn ask_lengths(disc: Disc) {
+    print(b"WRITE with data of", 2047, decide(disc, 0x2a, 2047, 0));
+    print(b"WRITE with data of", 2049, decide(disc, 0x2a, 2049, 0));
+    print(b"WRITE with data of", 2048, decide(disc, 0x2a, 2048, 0));
+    print(b"READ into", 2047, decide(disc, 0x28, 0, 2047));
+    print(b"READ into", 2048, decide(disc, 0x28, 0, 2048));
+    print(b"REQUEST SENSE into", 0, decide(disc, 0x03, 0, 0));
+    print(b"REQUEST SENSE into", 1, decide(disc, 0x03, 0, 1));
+    print(b"READ CAPACITY into", 7, decide(disc, 0x25, 0, 7));
+    print(b"READ CAPACITY into", 8, decide(disc, 0x25, 0, 8));
+    print(b"unlisted opcode with data of", 1, decide(disc, 0xff, 1, 0));
+    print(b"unlisted opcode with data of", 0, decide(disc, 0xff, 0, 0));
+}
+
+// A state that breaks a rule: sixteen sectors pending.
+fn ask_unsound(mut disc: Disc) {
+    disc.pending = 16;
+    print(b"state with pending", 16, decide(disc, 0x00, 0, 0));
+}
+
+fn main() {
+    let made = Disc::blank(300);
+    let disc = made.disc;
+    ask_blocks(disc);
+    ask_zero_state();
+    ask_lengths(disc);
+    ask_unsound(disc);
+}

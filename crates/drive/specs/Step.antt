@@ -82,13 +82,23 @@ response v n = record { answer = v .answer; disc = v .disc; length = n; recorded
 abbrev pub refused : Disc → LinkRefusal → Response
 refused d r = response (refuseLink d r) 0
 
--- the promise of the code that answers a command, but for the buffers
-pub record Answered (s : Drive) (q : Request) (r : Response) : Type 0 where
+-- its promise: the response, and medium, pending buffer and reply buffer afterwards
+pub record CarriedOut (v : Verdict) (s : Drive) (q : Request) (r : Response) (medium pending buffer : List ℕ) : Type 0 where
+  pub responds : r ≡ response v (length (carriedOut v s q .reply))
+  pub recordedMedium : medium ≡ carriedOut v s q .after .medium
+  pub keptPending : pending ≡ carriedOut v s q .after .pending
+  pub filledBuffer : buffer ≡ carriedOut v s q .buffer
+
+-- the promise of the code that answers a command: all of it is the step's
+pub record Answered (s : Drive) (q : Request) (r : Response) (medium pending buffer : List ℕ) : Type 0 where
   pub answer : r .answer ≡ step s q .answer
   pub numbered : number (r .answer) ≡ number (step s q .answer)
   pub disc : r .disc ≡ step s q .after .disc
   pub length : r .length ≡ length (step s q .reply)
   pub recorded : r .recorded ≡ step s q .recorded
-  -- it is the rise of the recorded blocks of all fragments, and for a WRITE of n at most 1 + n/16
+  pub recordedMedium : medium ≡ step s q .after .medium
+  pub keptPending : pending ≡ step s q .after .pending
+  pub filledBuffer : buffer ≡ step s q .buffer
+  -- the number of blocks recorded is the rise of the recorded blocks of all fragments, and for a WRITE of n at most 1 + n/16
   pub risen : r .recorded ≡ rise (s .disc) (r .disc)
   pub bounded : (a : Lba) (n : ℕ) → decode (q .block) ≡ Write a n → r .recorded ≤ 1 + n / 16

@@ -8,9 +8,7 @@ use disc::Disc;
 use disc::LinkRefusal;
 use disc::Verdict;
 ghost use mathlib.Core.Path.{_≡_};
-ghost use lib.ListN.{length};
-ghost use Rattle.disc.specs.Judge.{judge};
-ghost use Rattle.drive.specs.Step.{drive, request, lent, refused, response, Carried, carriedOut, step, Answered};
+ghost use Rattle.drive.specs.Step.{drive, request, lent, refused, Carried, CarriedOut, Answered};
 
 // The answer to a command: how it ended, the disc afterwards, the reply's length and the number of blocks recorded.
 pub struct Response {
@@ -52,10 +50,7 @@ fn carry_out(
     reply: &mut [u8],
 ) -> Response
     requires { ⌜ Carried verdict (drive disc (now medium) (now pending)) (request (now block) (now «data») (now reply)) ⌝ }
-    ensures { λ r. ⌜ r ≡ response verdict (length (carriedOut verdict (drive disc (now (medium .entry)) (now (pending .entry))) (request (now (block .entry)) (now («data» .entry)) (now (reply .entry))) .reply)) ⌝ }
-    ensures medium { λ _. ⌜ now (medium .exit) ≡ carriedOut verdict (drive disc (now (medium .entry)) (now (pending .entry))) (request (now (block .entry)) (now («data» .entry)) (now (reply .entry))) .after .medium ⌝ }
-    ensures pending { λ _. ⌜ now (pending .exit) ≡ carriedOut verdict (drive disc (now (medium .entry)) (now (pending .entry))) (request (now (block .entry)) (now («data» .entry)) (now (reply .entry))) .after .pending ⌝ }
-    ensures reply { λ _. ⌜ now (reply .exit) ≡ carriedOut verdict (drive disc (now (medium .entry)) (now (pending .entry))) (request (now (block .entry)) (now («data» .entry)) (now (reply .entry))) .buffer ⌝ }
+    ensures { λ r. ⌜ CarriedOut verdict (drive disc (now (medium .entry)) (now (pending .entry))) (request (now (block .entry)) (now («data» .entry)) (now (reply .entry))) r (now (medium .exit)) (now (pending .exit)) (now (reply .exit)) ⌝ }
 {
     let plan = verdict.plan;
     let sent = plan.transfer;
@@ -80,10 +75,7 @@ pub fn command(
     pending: &mut [u8],
     reply: &mut [u8],
 ) -> Response
-    ensures { λ r. ⌜ Answered (drive disc (now (medium .entry)) (now (pending .entry))) (request (now (block .entry)) (now («data» .entry)) (now (reply .entry))) r ⌝ }
-    ensures medium { λ _. ⌜ now (medium .exit) ≡ step (drive disc (now (medium .entry)) (now (pending .entry))) (request (now (block .entry)) (now («data» .entry)) (now (reply .entry))) .after .medium ⌝ }
-    ensures pending { λ _. ⌜ now (pending .exit) ≡ step (drive disc (now (medium .entry)) (now (pending .entry))) (request (now (block .entry)) (now («data» .entry)) (now (reply .entry))) .after .pending ⌝ }
-    ensures reply { λ _. ⌜ now (reply .exit) ≡ step (drive disc (now (medium .entry)) (now (pending .entry))) (request (now (block .entry)) (now («data» .entry)) (now (reply .entry))) .buffer ⌝ }
+    ensures { λ r. ⌜ Answered (drive disc (now (medium .entry)) (now (pending .entry))) (request (now (block .entry)) (now («data» .entry)) (now (reply .entry))) r (now (medium .exit)) (now (pending .exit)) (now (reply .exit)) ⌝ }
 {
     if block.len() != COMMAND_LENGTH {
         return Response::refused(disc, LinkRefusal::CommandBlockLength);

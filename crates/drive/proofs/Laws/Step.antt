@@ -18,7 +18,7 @@ use Rattle.disc.proofs.Laws.Lent.{judge-fits, judge-run}
 use Rattle.drive.specs.Types.{Disc, LinkRefusal, CommandBlockLength, MediumSize, Reply, Transfer, Nothing, Send, Gather, Fill, Verdict, Response}
 use Rattle.drive.specs.Moves.{flushedMedium, flushedPending, transferredMedium, transferredPending, movedMedium, movedPending}
 use Rattle.drive.specs.Reply.{sentBytes}
-use Rattle.drive.specs.Step.{Drive, Request, lent, verdictOn, carriedOut, step, Carried, response, Answered}
+use Rattle.drive.specs.Step.{Drive, Request, lent, verdictOn, carriedOut, step, Carried, CarriedOut, refused, Answered}
 use Rattle.drive.proofs.Laws.Bytes.{splice-nil}
 
 -- the lower layer's laws of a decision hold of the verdict: it is a link refusal or what the disc decides
@@ -92,52 +92,35 @@ judge-carried s q block h =
       transfer = f .transfer;
     }
 
--- a response to the verdict keeps the whole promise, the count's rise and bound included
-pub response-answered :
-    (s : Drive) (q : Request) (r : Response) → r ≡ response (verdictOn s q) (length (carriedOut (verdictOn s q) s q .reply))
-    → Answered s q r
+-- a verdict carried out keeps the whole promise, the count's rise and bound included
+pub verdict-answered :
+    (s : Drive) (q : Request) (v : Verdict) (r : Response) (medium pending buffer : List ℕ) → v ≡ verdictOn s q
+    → CarriedOut v s q r medium pending buffer → Answered s q r medium pending buffer
 unfolding step carriedOut
-response-answered s q r e =
-    let v = verdictOn s q in
-    let w = verdict-decided s q in
+verdict-answered s q v r medium pending buffer same out =
+    let w : Decided (s .disc) (decode (q .block)) (length (q .sectors)) (length (q .buffer)) v = rw same (verdict-decided s q) in
+    let e = out .responds in
     let count : r .recorded ≡ v .recorded = ap (λ x. x .recorded) e in
     let disc : r .disc ≡ v .disc = ap (λ x. x .disc) e in
+    let risen : r .recorded ≡ rise (s .disc) (r .disc) = count ∙ (decided-rise (s .disc) v w ∙ ap (rise (s .disc)) (sym disc)) in
     record {
-      answer = ap (λ x. x .answer) e;
-      numbered = ap (λ x. number (x .answer)) e;
-      disc = disc;
-      length = ap (λ x. x .length) e;
-      recorded = count;
-      risen = count ∙ (decided-rise (s .disc) v w ∙ ap (rise (s .disc)) (sym disc));
+      answer = ap (λ x. x .answer) e ∙ ap (λ x. x .answer) same;
+      numbered = ap (λ x. number (x .answer)) e ∙ ap (λ x. number (x .answer)) same;
+      disc = disc ∙ ap (λ x. x .disc) same;
+      length = ap (λ x. x .length) e ∙ ap (λ x. length (carriedOut x s q .reply)) same;
+      recorded = count ∙ ap (λ x. x .recorded) same;
+      recordedMedium = out .recordedMedium ∙ ap (λ x. carriedOut x s q .after .medium) same;
+      keptPending = out .keptPending ∙ ap (λ x. carriedOut x s q .after .pending) same;
+      filledBuffer = out .filledBuffer ∙ ap (λ x. carriedOut x s q .buffer) same;
+      risen = risen;
       bounded = λ a n c. rw count (decided-most (s .disc) v a n c w);
     }
 
--- the code's response and buffers are the step's
-pub record Stepped (s : Drive) (q : Request) (r : Response) (medium pending buffer : List ℕ) : Type 0 where
-  pub answered : Answered s q r
-  pub medium-is : medium ≡ step s q .after .medium
-  pub pending-is : pending ≡ step s q .after .pending
-  pub buffer-is : buffer ≡ step s q .buffer
-
-pub verdict-stepped :
-    (s : Drive) (q : Request) (v : Verdict) (r : Response) (medium pending buffer : List ℕ) → v ≡ verdictOn s q
-    → r ≡ response v (length (carriedOut v s q .reply)) → medium ≡ carriedOut v s q .after .medium
-    → pending ≡ carriedOut v s q .after .pending → buffer ≡ carriedOut v s q .buffer → Stepped s q r medium pending buffer
-unfolding step
-verdict-stepped s q v r medium pending buffer e f m p b =
-    let same : r ≡ response (verdictOn s q) (length (carriedOut (verdictOn s q) s q .reply)) = rw e at f in
-    record {
-      answered = response-answered s q r same;
-      medium-is = rw e at m;
-      pending-is = rw e at p;
-      buffer-is = rw e at b;
-    }
-
 -- a link refusal leaves every buffer as it is
-pub refused-stepped :
-    (s : Drive) (q : Request) (x : LinkRefusal) → refuseLink (s .disc) x ≡ verdictOn s q
-    → Stepped s q (response (refuseLink (s .disc) x) 0) (s .medium) (s .pending) (q .buffer)
+pub refused-answered :
+    (s : Drive) (q : Request) (x : LinkRefusal) (r : Response) → refuseLink (s .disc) x ≡ verdictOn s q → r ≡ refused (s .disc) x
+    → Answered s q r (s .medium) (s .pending) (q .buffer)
 unfolding carriedOut refuseLink sentBytes movedMedium movedPending transferredMedium transferredPending flushedMedium flushedPending
-refused-stepped s q x e =
-    verdict-stepped s q (refuseLink (s .disc) x) (response (refuseLink (s .disc) x) 0) (s .medium) (s .pending) (q .buffer) e refl refl refl
-    (sym (splice-nil (q .buffer) 0))
+refused-answered s q x r same e =
+    verdict-answered s q (refuseLink (s .disc) x) r (s .medium) (s .pending) (q .buffer) same
+    (record { responds = e; recordedMedium = refl; keptPending = refl; filledBuffer = sym (splice-nil (q .buffer) 0) })

@@ -8,30 +8,36 @@ use Rattle.drive.proofs.entry.carry_out.Lts as lts
 use Rattle.drive.proofs.reply.send.Reads as send-reads
 use Rattle.drive.proofs.transfer.carry_out.Reads as carry-out-reads
 
--- src/entry.rt:62:9
+-- src/entry.rt:57:9
 send-requires : tie.Need-send-requires
 send-requires c κs = search needs
 
--- src/entry.rt:63:5
+-- src/entry.rt:58:5
 carry-out-requires : tie.Need-carry-out-requires
 carry-out-requires c κs = search needs
 
--- src/entry.rt:45:1
+-- src/entry.rt:43:1
 same-length : tie.Need-same-length
 same-length c = search needs
 
--- src/entry.rt:45:1
+-- src/entry.rt:43:1
 same-length-2 : tie.Need-same-length-2
 same-length-2 c = search needs
 
--- src/entry.rt:45:1
+-- src/entry.rt:43:1
 same-length-3 : tie.Need-same-length-3
 same-length-3 c = search needs
 
--- src/entry.rt:45:1
+-- src/entry.rt:43:1
 returns : tie.Need-returns
 unfolding carriedOut
-returns c = (ap (response (c .before .before .before .before .before .before .before .before .before .before .before .before .before .before .before .before .before .before .before .args .verdict)) (c .before .before .before .before .before .before .before .before .before .before .send .ensures .0), (c .before .before .before .before .before .carry-out .ensures .0, (c .before .before .before .before .before .carry-out .ensures .1, c .before .before .before .before .before .before .before .before .before .before .send .ensures .1)))
+returns c =
+    record {
+      responds = ap (response (c .before .before .before .before .before .before .before .before .before .before .before .before .before .before .before .before .before .before .before .args .verdict)) (c .before .before .before .before .before .before .before .before .before .before .send .ensures .0);
+      recordedMedium = c .before .before .before .before .before .carry-out .ensures .0;
+      keptPending = c .before .before .before .before .before .carry-out .ensures .1;
+      filledBuffer = c .before .before .before .before .before .before .before .before .before .before .send .ensures .1;
+    }
 
 pub carry-out-spec : {M : Type 1} → statement M
 carry-out-spec =

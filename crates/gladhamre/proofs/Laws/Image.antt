@@ -1,0 +1,269 @@
+-- Words written and read one by one, records one by one, and that an encoded state is read back.
+use mathlib.Core.Path.{_≡_, refl, sym, ap, _∙_}
+use Prim.Native.Nat.{ℕ, zero, suc, _+_, _-_, _*_, _≤_, _<_}
+use native.Mathlib.Numerals.{add-one}
+use native.Mathlib.Nat.{not-suc-le-zero, le-of-suc-le-suc}
+use native.Mathlib.Omega.{arith}
+use mathlib.Core.Bool.{Bool, true, false, _&&_}
+use mathlib.Core.List.{List, [], _∷_, _++_, append-assoc, append-nil}
+use lib.ListN.{length, getD, set, take, drop, length-set, length-append, drop-of-length-le}
+use lib.Seq.{drop-drop, getD-take, take-all, length-take-le}
+use borrow.Author.Tests.{eq-eqb, ne-eqb, eqb-true, ltb-true, lt-ltb}
+use lib.Dec.{eqb, ltb}
+use Rattle.disc.specs.Fragment.{unusedRecord}
+use Rattle.disc.specs.Records.{limit}
+use Rattle.disc.proofs.Laws.Bool.{and-left, and-right, and-both}
+use Rattle.drive.specs.Bytes.{splice}
+use Rattle.drive.proofs.Laws.Bytes.{splice-splice, splice-end}
+use Rattle.gladhamre.specs.Types.{Kind, Reserved, Appended, Fragment, Disc}
+use Rattle.gladhamre.specs.Image.{flagWord, kindWord, kindOf, decode, word, recordOf, recordFits, recordWords, listOf, listFits, listWords, headWords, headFits, encode, isState, StateWords}
+
+-- words stored one after another, from an index on
+unfoldable pub fill : List ℕ → ℕ → List ℕ → List ℕ
+fill w i [] = w
+fill w i (x ∷ xs) = fill (set w i x) (suc i) xs
+
+take-set : (w : List ℕ) (x i : ℕ) → i < length w → take (suc i) (set w i x) ≡ take i w ++ (x ∷ [])
+take-set [] x i h = absurd (not-suc-le-zero h)
+take-set (y ∷ ys) x zero h = refl
+take-set (y ∷ ys) x (suc i) h = ap (λ (l : List ℕ). y ∷ l) (take-set ys x i (le-of-suc-le-suc h))
+
+fill-from : (xs w : List ℕ) (i : ℕ) → i + length xs ≡ length w → fill w i xs ≡ take i w ++ xs
+unfolding fill
+fill-from [] w i h = sym (append-nil (take i w) ∙ take-all i w (omega arith))
+fill-from (x ∷ xs) w i h =
+    fill-from xs (set w i x) (suc i) (simp length-set (omega arith))
+    ∙ (ap (λ (l : List ℕ). l ++ xs) (take-set w x i (omega arith)) ∙ append-assoc (take i w) (x ∷ []) xs)
+
+-- as many as there are: only they are left
+pub fill-all : (xs w : List ℕ) → length w ≡ length xs → fill w 0 xs ≡ xs
+fill-all xs w h = fill-from xs w 0 (omega arith)
+
+-- the six words of a record, as the part of the image that is lent
+pub part-record : (v : List ℕ) → recordOf (take 6 v) ≡ recordOf v
+part-record v =
+    rw (getD-take 6 v 0 0 (omega arith), getD-take 6 v 1 0 (omega arith), getD-take 6 v 2 0 (omega arith), getD-take 6 v 3 0 (omega arith), getD-take 6 v 4 0 (omega arith), getD-take 6 v 5 0 (omega arith))
+
+pub part-fits : (v : List ℕ) → recordFits (take 6 v) ≡ recordFits v
+part-fits v = rw (getD-take 6 v 0 0 (omega arith), getD-take 6 v 5 0 (omega arith))
+
+drop-sum : (v : List ℕ) (a b c : ℕ) → b + a ≡ c → drop a (drop b v) ≡ drop c v
+drop-sum v a b c h = drop-drop a b v ∙ ap (λ (n : ℕ). drop n v) h
+
+-- the record at an index begins behind the head and the records before it
+pub record-at : (w : List ℕ) (i : ℕ) → drop (7 + 6 * i) w ≡ drop (6 * i) (drop 7 w)
+record-at w i = sym (drop-sum w (6 * i) 7 (7 + 6 * i) refl)
+
+next-record : (v : List ℕ) (i : ℕ) → drop 6 (drop (6 * i) v) ≡ drop (6 * (i + 1)) v
+next-record v i = drop-sum v 6 (6 * i) (6 * (i + 1)) (omega arith)
+
+record-after : (v : List ℕ) (i : ℕ) → drop (6 * suc i) v ≡ drop (6 * i) (drop 6 v)
+record-after v i = sym (drop-sum v (6 * i) 6 (6 * suc i) (omega arith))
+
+-- one turn of the test, from index i
+pub fits-step :
+    (n i : ℕ) (v : List ℕ) → i < n
+    → listFits (n - i) (drop (6 * i) v) ≡ (recordFits (drop (6 * i) v) && listFits (n - (i + 1)) (drop (6 * (i + 1)) v))
+unfolding listFits
+fits-step n i v h =
+    let k : n - i ≡ suc (n - (i + 1)) = omega arith in
+    rw (k, next-record v i)
+
+-- records that all fit, at an index
+pub fits-at : (n i : ℕ) (v : List ℕ) → i < n → listFits n v ≡ true → recordFits (drop (6 * i) v) ≡ true
+unfolding listFits
+fits-at zero i v h t = absurd (not-suc-le-zero h)
+fits-at (suc n) zero v h t = and-left (recordFits v) (listFits n (drop 6 v)) t
+fits-at (suc n) (suc i) v h t =
+    rw (record-after v i) (fits-at n i (drop 6 v) (le-of-suc-le-suc h) (and-right (recordFits v) (listFits n (drop 6 v)) t))
+
+-- one turn of the reading
+read-suc :
+    (i : ℕ) (v : List ℕ) (z : List Fragment) → i < length z
+    → set (listOf i v ++ drop i z) i (recordOf (drop (6 * i) v)) ≡ listOf (suc i) v ++ drop (suc i) z
+unfolding listOf
+read-suc zero v [] h = absurd (not-suc-le-zero h)
+read-suc zero v (y ∷ ys) h = refl
+read-suc (suc i) v [] h = absurd (not-suc-le-zero h)
+read-suc (suc i) v (y ∷ ys) h =
+    ap (λ (l : List Fragment). recordOf v ∷ l) (rw (record-after v i) (read-suc i (drop 6 v) ys (le-of-suc-le-suc h)))
+
+pub read-more :
+    (i : ℕ) (v : List ℕ) (z : List Fragment) → i < length z
+    → set (listOf i v ++ drop i z) i (recordOf (drop (6 * i) v)) ≡ listOf (i + 1) v ++ drop (i + 1) z
+read-more i v z h = rw add-one (read-suc i v z h)
+
+-- the words of a list
+pub length-list : (fs : List Fragment) → length (listWords fs) ≡ 6 * length fs
+unfolding listWords
+length-list [] = refl
+length-list (f ∷ fs) = omega (arith, length-list fs)
+
+words-suc : (i : ℕ) (fs : List Fragment) (d : Fragment) → i < length fs → listWords (take i fs) ++ recordWords (getD fs i d) ≡ listWords (take (suc i) fs)
+unfolding listWords
+words-suc i [] d h = absurd (not-suc-le-zero h)
+words-suc zero (f ∷ fs) d h = refl
+words-suc (suc i) (f ∷ fs) d h = ap (λ (l : List ℕ). recordWords f ++ l) (words-suc i fs d (le-of-suc-le-suc h))
+
+pub words-more :
+    (i : ℕ) (fs : List Fragment) (d : Fragment) → i < length fs → listWords (take i fs) ++ recordWords (getD fs i d) ≡ listWords (take (i + 1) fs)
+words-more i fs d h = rw add-one (words-suc i fs d h)
+
+-- the same for the part that is lent
+lent-part : (w : List ℕ) (i : ℕ) → take (7 + 6 * i + 6 - (7 + 6 * i)) (drop (7 + 6 * i) w) ≡ take 6 (drop (6 * i) (drop 7 w))
+lent-part w i =
+    let k : 7 + 6 * i + 6 - (7 + 6 * i) ≡ 6 = omega arith in
+    rw (k, record-at w i)
+
+pub lent-fits : (w : List ℕ) (i : ℕ) → recordFits (take (7 + 6 * i + 6 - (7 + 6 * i)) (drop (7 + 6 * i) w)) ≡ recordFits (drop (6 * i) (drop 7 w))
+lent-fits w i = ap recordFits (lent-part w i) ∙ part-fits (drop (6 * i) (drop 7 w))
+
+pub lent-record : (w : List ℕ) (i : ℕ) → recordOf (take (7 + 6 * i + 6 - (7 + 6 * i)) (drop (7 + 6 * i) w)) ≡ recordOf (drop (6 * i) (drop 7 w))
+lent-record w i = ap recordOf (lent-part w i) ∙ part-record (drop (6 * i) (drop 7 w))
+
+-- the walk that tests the records: as far as index i all fit
+module _ (v : List ℕ) (i : ℕ) (h : i < 64) (so : listFits 64 v ≡ listFits (64 - i) (drop (6 * i) v)) where
+  pub fits-no : recordFits (drop (6 * i) v) ≡ false → false ≡ listFits 64 v
+  fits-no f = sym (so ∙ (fits-step 64 i v h ∙ rw f))
+
+  pub fits-on : recordFits (drop (6 * i) v) ≡ true → listFits 64 v ≡ listFits (64 - (i + 1)) (drop (6 * (i + 1)) v)
+  fits-on t = so ∙ (fits-step 64 i v h ∙ rw t)
+
+pub fits-all : (v : List ℕ) (i : ℕ) → 64 ≤ i → listFits 64 v ≡ listFits (64 - i) (drop (6 * i) v) → true ≡ listFits 64 v
+unfolding listFits
+fits-all v i h so = let k : 64 - i ≡ 0 = omega arith in sym (so ∙ rw k)
+
+-- one turn of the writing
+pub write-more :
+    (w words words₁ : List ℕ) (fs : List Fragment) (i : ℕ) (d : Fragment) → length w ≡ 391 → i < length fs
+    → words ≡ splice w 7 (listWords (take i fs)) → words₁ ≡ splice words (7 + 6 * i) (recordWords (getD fs i d))
+    → words₁ ≡ splice w 7 (listWords (take (i + 1) fs))
+write-more w words words₁ fs i d hw h e f =
+    let l : length (listWords (take i fs)) ≡ 6 * i = length-list (take i fs) ∙ ap (λ (n : ℕ). 6 * n) (length-take-le i fs (omega arith)) in
+    f
+    ∙ (ap (λ (m : List ℕ). splice m (7 + 6 * i) (recordWords (getD fs i d))) e
+    ∙ (splice-splice w 7 (7 + 6 * i) (listWords (take i fs)) (recordWords (getD fs i d)) (omega arith) (omega (arith, l))
+    ∙ ap (splice w 7) (words-more i fs d h)))
+
+-- all are read
+pub read-all : (v : List ℕ) (fs z : List Fragment) (i : ℕ) → length z ≡ 64 → i ≤ 64 → 64 ≤ i → fs ≡ listOf i v ++ drop i z → fs ≡ listOf 64 v
+read-all v fs z i h l m e =
+    let k : i ≡ 64 = omega arith in
+    let s : fs ≡ listOf 64 v ++ drop 64 z = rw k at e in
+    s ∙ rw (drop-of-length-le z {i = 64} (omega arith), append-nil)
+
+-- all are written
+pub write-all :
+    (w words : List ℕ) (fs : List Fragment) (i : ℕ) → length fs ≡ 64 → i ≤ 64 → 64 ≤ i → words ≡ splice w 7 (listWords (take i fs))
+    → words ≡ splice w 7 (listWords fs)
+write-all w words fs i h l m e = e ∙ ap (λ (x : List Fragment). splice w 7 (listWords x)) (take-all i fs (omega arith))
+
+-- head and records are the image
+pub write-both :
+    (w : List ℕ) (d : Disc) (words words₁ : List ℕ) → length w ≡ 391 → length (d .fragments) ≡ 64 → words ≡ splice w 0 (headWords d)
+    → words₁ ≡ splice words 7 (listWords (d .fragments)) → words₁ ≡ encode d
+unfolding encode
+write-both w d words words₁ hw hf e f =
+    let l = length-list (d .fragments) in
+    f
+    ∙ (ap (λ (m : List ℕ). splice m 7 (listWords (d .fragments))) e
+    ∙ (splice-splice w 0 7 (headWords d) (listWords (d .fragments)) (omega arith) refl
+    ∙ splice-end w 0 (headWords d ++ listWords (d .fragments)) (omega (arith, l, length-append (headWords d) (listWords (d .fragments))))))
+
+-- the test of an image, and what it gives
+pub not-state : (w : List ℕ) → (length w ≡ 391 → ⊥) → false ≡ isState w
+unfolding isState
+not-state w h = rw (ne-eqb (length w) 391 h)
+
+pub is-state : (w : List ℕ) (a b : Bool) → length w ≡ 391 → a ≡ headFits w → b ≡ listFits limit (drop 7 w) → (a && b) ≡ isState w
+unfolding isState
+is-state w a b h e f = rw (eq-eqb (length w) 391 h, e, f)
+
+pub state-words : (w : List ℕ) → isState w ≡ true → StateWords w
+unfolding isState
+state-words w t =
+    let l : eqb (length w) 391 ≡ true = and-left _ (headFits w) (and-left _ (listFits limit (drop 7 w)) t) in
+    let h : headFits w ≡ true = and-right (eqb (length w) 391) _ (and-left _ (listFits limit (drop 7 w)) t) in
+    let t₁ = ltb (word w 1) 2 in
+    let t₂ = t₁ && ltb (word w 2) 256 in
+    let t₃ = t₂ && ltb (word w 3) 256 in
+    let t₄ = t₃ && ltb (word w 4) 256 in
+    let t₅ = t₄ && ltb (word w 5) 256 in
+    let h₅ = and-left t₅ (ltb (word w 6) 256) h in
+    let h₄ = and-left t₄ (ltb (word w 5) 256) h₅ in
+    let h₃ = and-left t₃ (ltb (word w 4) 256) h₄ in
+    let h₂ = and-left t₂ (ltb (word w 3) 256) h₃ in (
+      eqb-true _ _ l,
+      ltb-true _ _ (and-left t₁ (ltb (word w 2) 256) h₂),
+      ltb-true _ _ (and-right t₁ (ltb (word w 2) 256) h₂),
+      ltb-true _ _ (and-right t₂ (ltb (word w 3) 256) h₃),
+      ltb-true _ _ (and-right t₃ (ltb (word w 4) 256) h₄),
+      ltb-true _ _ (and-right t₄ (ltb (word w 5) 256) h₅),
+      ltb-true _ _ (and-right t₅ (ltb (word w 6) 256) h),
+      and-right (eqb (length w) 391 && headFits w) _ t,
+    )
+
+-- an encoded state is read back
+kind-back : (k : Kind) → kindOf (kindWord k) ≡ k
+kind-back Reserved = refl
+kind-back Appended = refl
+
+flag-back : (b : Bool) → eqb (flagWord b) 1 ≡ b
+flag-back true = refl
+flag-back false = refl
+
+record-back : (f : Fragment) (l : List ℕ) → recordOf (recordWords f ++ l) ≡ f
+record-back f l =
+    ap (λ (k : Kind). record { session = f .session; start = f .start; length = f .length; recorded = f .recorded; zeroed = f .zeroed; kind = k }) (kind-back (f .kind))
+
+list-back : (n : ℕ) (fs : List Fragment) → length fs ≡ n → listOf n (listWords fs) ≡ fs
+unfolding listOf listWords
+list-back zero [] h = refl
+list-back zero (f ∷ fs) h = absurd (omega arith)
+list-back (suc n) [] h = absurd (omega arith)
+list-back (suc n) (f ∷ fs) h = ap (λ (g : Fragment). g ∷ listOf n (listWords fs)) (record-back f (listWords fs)) ∙ ap (λ (l : List Fragment). f ∷ l) (list-back n fs (omega arith))
+
+pub decode-encode : (d : Disc) → length (d .fragments) ≡ limit → decode (encode d) ≡ d
+unfolding decode encode
+decode-encode d h =
+    ap (λ (b : Bool). record { capacity = d .capacity; finalized = b; sense = d .sense; pending = d .pending; owner = d .owner; fragments = listOf limit (listWords (d .fragments)) }) (flag-back (d .finalized))
+    ∙ ap (λ (l : List Fragment). record { capacity = d .capacity; finalized = d .finalized; sense = d .sense; pending = d .pending; owner = d .owner; fragments = l }) (list-back limit (d .fragments) h)
+
+-- and is a state's image, where each number fits its field
+flag-below : (b : Bool) → flagWord b < 2
+flag-below true = omega arith
+flag-below false = omega arith
+
+kind-below : (k : Kind) → kindWord k < 2
+kind-below Reserved = omega arith
+kind-below Appended = omega arith
+
+pub record Bytes (d : Disc) : Type 0 where
+  pub key : d .sense .key < 256
+  pub asc : d .sense .asc < 256
+  pub ascq : d .sense .ascq < 256
+  pub pending : d .pending < 256
+  pub owner : d .owner < 256
+  pub sessions : (i : ℕ) → i < limit → getD (d .fragments) i unusedRecord .session < 256
+
+list-fits : (n : ℕ) (fs : List Fragment) → length fs ≡ n → ((i : ℕ) → i < n → getD fs i unusedRecord .session < 256) → listFits n (listWords fs) ≡ true
+unfolding listFits listWords
+list-fits zero fs h s = refl
+list-fits (suc n) [] h s = absurd (omega arith)
+list-fits (suc n) (f ∷ fs) h s =
+    and-both (and-both (lt-ltb _ _ (s 0 (omega arith))) (lt-ltb _ _ (kind-below (f .kind)))) (list-fits n fs (omega arith) (λ i k. s (suc i) (omega arith)))
+
+pub encode-state : (d : Disc) → length (d .fragments) ≡ limit → Bytes d → isState (encode d) ≡ true
+unfolding isState encode
+encode-state d h b =
+    let l : length (headWords d ++ listWords (d .fragments)) ≡ 391 = omega (arith, length-list (d .fragments), length-append (headWords d) (listWords (d .fragments))) in
+    and-both
+    (and-both (eq-eqb _ _ l)
+    (and-both
+    (and-both
+    (and-both
+    (and-both (and-both (lt-ltb _ _ (flag-below (d .finalized))) (lt-ltb _ _ (b .key))) (lt-ltb _ _ (b .asc)))
+    (lt-ltb _ _ (b .ascq)))
+    (lt-ltb _ _ (b .pending)))
+    (lt-ltb _ _ (b .owner))))
+    (list-fits limit (d .fragments) h (b .sessions))

@@ -1,0 +1,16 @@
+use borrow.Author.Tests.{eq-eqb, ne-eqb}
+use Rattle.gladhamre.proofs.image.kind_of.Statement.{statement}
+use Rattle.gladhamre.proofs.image.kind_of.Tie as tie
+use Rattle.gladhamre.proofs.image.kind_of.Reads as reads
+use Rattle.gladhamre.proofs.image.kind_of.Lts as lts
+
+-- src/image.rt:26:9
+returns : tie.Need-returns
+returns c = rw (eq-eqb _ _ (c .if1 .taken))
+
+-- src/image.rt:22:1
+returns-2 : tie.Need-returns-2
+returns-2 c = rw (ne-eqb _ _ (c .if1 .left))
+
+pub kind-of-spec : {M : Type 1} → statement M
+kind-of-spec = tie.close (tie.spec returns returns-2)

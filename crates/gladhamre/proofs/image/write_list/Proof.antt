@@ -1,0 +1,120 @@
+use Rattle.disc.specs.Fragment.{unusedRecord}
+use Rattle.disc.proofs.Laws.Records.{array-length}
+use Rattle.gladhamre.proofs.Laws.Image.{write-all, write-more}
+use lib.ListN.{take, length}
+use Rattle.drive.specs.Bytes.{splice}
+use Rattle.drive.proofs.Laws.Bytes.{splice-nil, put-splice}
+use Rattle.gladhamre.specs.Image.{listWords}
+use borrow.Author.Needs.{needs}
+use mathlib.Core.Path.{_≡_, refl, sym}
+use native.Mathlib.Omega.{arith}
+use Prim.Native.Nat.{_+_, _-_, _*_, _≤_}
+use Rattle.gladhamre.proofs.image.write_list.Statement.{statement}
+use Rattle.gladhamre.proofs.image.write_list.Tie as tie
+use Rattle.gladhamre.proofs.image.write_list.Reads as reads
+use Rattle.gladhamre.proofs.image.write_list.Lts as lts
+use Rattle.gladhamre.proofs.image.write_record.Reads as write-record-reads
+
+abbrev Inv-loop : tie.InvT-loop
+Inv-loop words₀ fragments i₀ words i =
+    (i ≤ 64) × (length fragments ≡ 64) × (length words ≡ 391) × (words ≡ splice words₀ 7 (listWords (take i fragments)))
+
+abbrev μ-loop : tie.MeasureT-loop
+μ-loop words₀ fragments i₀ words i = 64 - i
+
+-- src/image.rt:194:5
+loop-holds : tie.Need-loop-holds Inv-loop μ-loop
+unfolding listWords
+loop-holds c = (search needs, search array-length, omega arith, sym (splice-nil (c .before .args .words .now) 7))
+
+-- src/image.rt:195:27
+mul-from : tie.Need-mul-from Inv-loop μ-loop
+mul-from c = search needs
+
+-- src/image.rt:195:20
+add-from : tie.Need-add-from Inv-loop μ-loop
+add-from c = search needs
+
+-- src/image.rt:196:18
+add-to : tie.Need-add-to Inv-loop μ-loop
+add-to c = search needs
+
+-- src/image.rt:197:22
+mul-write-record : tie.Need-mul-write-record Inv-loop μ-loop
+mul-write-record c = search needs
+
+-- src/image.rt:197:22
+sub-write-record : tie.Need-sub-write-record Inv-loop μ-loop
+sub-write-record c = search needs
+
+-- src/image.rt:197:22
+part-write-record-start : tie.Need-part-write-record-start Inv-loop μ-loop
+part-write-record-start c = search needs
+
+-- src/image.rt:197:22
+part-write-record-end : tie.Need-part-write-record-end Inv-loop μ-loop
+part-write-record-end c = search needs
+
+-- src/image.rt:197:44
+mul-write-record-2 : tie.Need-mul-write-record-2 Inv-loop μ-loop
+mul-write-record-2 c = search needs
+
+-- src/image.rt:197:44
+array-copy-out-write-record : tie.Need-array-copy-out-write-record Inv-loop μ-loop
+array-copy-out-write-record c = search needs
+
+-- src/image.rt:197:9
+write-record-requires : tie.Need-write-record-requires Inv-loop μ-loop
+write-record-requires c κs = search needs
+
+-- src/image.rt:198:9
+add-i : tie.Need-add-i Inv-loop μ-loop
+add-i c = search needs
+
+-- src/image.rt:194:5
+loop-less : tie.Need-loop-less Inv-loop μ-loop
+loop-less c = search needs
+
+-- src/image.rt:194:5
+loop-again : tie.Need-loop-again Inv-loop μ-loop
+loop-again c =
+    let start = c .before .before .before .before .before .before .before .before in (
+      omega arith,
+      c .before .before .before .before .before .before .loop .inv .1,
+      omega arith,
+      write-more (start .args .words .now) (c .before .before .before .before .before .before .loop .words) _ (start .args .t2) (c .before .before .before .before .before .before .loop .i) unusedRecord (omega arith) (omega (arith, c .before .before .before .before .before .before .loop .inv .1)) (c .before .before .before .before .before .before .loop .inv .3)
+          (put-splice (c .before .before .before .before .before .before .loop .words) (7 + 6 * c .before .before .before .before .before .before .loop .i) (7 + 6 * c .before .before .before .before .before .before .loop .i + 6) (c .before .before .write-record .ensures) refl),
+    )
+
+-- src/image.rt:189:1
+same-length : tie.Need-same-length Inv-loop μ-loop
+same-length c = search needs
+
+-- src/image.rt:189:1
+returns : tie.Need-returns Inv-loop μ-loop
+returns c =
+    let start = c .before .before .before in
+    write-all (start .args .words .now) (c .before .loop .words) (start .args .t2) (c .before .loop .i) (c .before .loop .inv .1) (omega arith) (omega arith) (c .before .loop .inv .3)
+
+pub write-list-spec : {M : Type 1} → statement M
+write-list-spec =
+    tie.close
+    (tie.spec
+    Inv-loop
+    μ-loop
+    loop-holds
+    mul-from
+    add-from
+    add-to
+    mul-write-record
+    sub-write-record
+    part-write-record-start
+    part-write-record-end
+    mul-write-record-2
+    array-copy-out-write-record
+    write-record-requires
+    add-i
+    loop-less
+    loop-again
+    same-length
+    returns)

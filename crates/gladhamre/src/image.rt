@@ -1,0 +1,210 @@
+// The state image: a disc state as 391 words of 32 bits.
+use disc::Block;
+use disc::Disc;
+use disc::Fragment;
+use disc::Kind;
+use disc::Sense;
+ghost use mathlib.Core.Path.{_≡_};
+ghost use mathlib.Core.Bool.{true};
+ghost use Prim.Native.Nat.{_+_, _≤_};
+ghost use lib.ListN.{length, drop};
+ghost use Rattle.gladhamre.specs.Image.{kindOf, kindWord, flagWord, recordOf, recordWords, recordFits, listOf, listWords, listFits, headFits, headWords, decode, encode, isState, StateWords};
+ghost use Rattle.disc.specs.Records.{limit};
+ghost use Rattle.drive.specs.Bytes.{splice};
+
+// Words before the records, and words of a record.
+const HEAD: usize = 7;
+
+const RECORD: usize = 6;
+
+// Words of an image.
+pub(crate) const LENGTH: usize = HEAD + RECORD * Disc::LIMIT;
+
+// 0 for a reserved fragment, 1 for an appended one.
+fn kind_of(word: u32) -> Kind
+    ensures { λ r. ⌜ r ≡ kindOf word ⌝ }
+{
+    if word == 1 {
+        return Kind::Appended;
+    }
+    Kind::Reserved
+}
+
+fn kind_word(kind: Kind) -> u32
+    ensures { λ r. ⌜ r ≡ kindWord kind ⌝ }
+{
+    match kind {
+        Kind::Reserved => 0,
+        Kind::Appended => 1,
+    }
+}
+
+fn flag_word(flag: bool) -> u32
+    ensures { λ r. ⌜ r ≡ flagWord flag ⌝ }
+{
+    if flag {
+        return 1;
+    }
+    0
+}
+
+// The record that six words stand for.
+fn read_record(words: &[u32]) -> Fragment
+    requires { ⌜ (length (now words) ≡ 6) × (recordFits (now words) ≡ true) ⌝ }
+    ensures { λ r. ⌜ r ≡ recordOf (now (words .entry)) ⌝ }
+{
+    Fragment {
+        session: words[0] as u8,
+        start: Block(words[1]),
+        length: words[2],
+        recorded: words[3],
+        zeroed: words[4],
+        kind: kind_of(words[5]),
+    }
+}
+
+// A record as six words.
+fn write_record(words: &mut [u32], f: Fragment)
+    requires { ⌜ length (now words) ≡ 6 ⌝ }
+    ensures { λ _. ⌜ now (words .exit) ≡ recordWords f ⌝ }
+{
+    let kind = f.kind;
+    words[0] = f.session as u32;
+    words[1] = f.start.0;
+    words[2] = f.length;
+    words[3] = f.recorded;
+    words[4] = f.zeroed;
+    words[5] = kind_word(kind);
+}
+
+// Whether six words are a record's.
+fn record_fits(words: &[u32]) -> bool
+    requires { ⌜ length (now words) ≡ 6 ⌝ }
+    ensures { λ r. ⌜ r ≡ recordFits (now (words .entry)) ⌝ }
+{
+    (words[0] < 256) & (words[5] < 2)
+}
+
+// Whether the words behind the head are records'.
+fn list_fits(words: &[u32]) -> bool
+    requires { ⌜ length (now words) ≡ 391 ⌝ }
+    ensures { λ r. ⌜ r ≡ listFits limit (drop 7 (now (words .entry))) ⌝ }
+{
+    let mut i = 0;
+    while i < Disc::LIMIT {
+        let from = HEAD + RECORD * i;
+        let to = from + RECORD;
+        if !record_fits(&words[from..to]) {
+            return false;
+        }
+        i += 1;
+    }
+    true
+}
+
+// Whether the head has a flag and bytes where it must.
+fn head_fits(words: &[u32]) -> bool
+    requires { ⌜ length (now words) ≡ 391 ⌝ }
+    ensures { λ r. ⌜ r ≡ headFits (now (words .entry)) ⌝ }
+{
+    (words[1] < 2)
+        & (words[2] < 256)
+        & (words[3] < 256)
+        & (words[4] < 256)
+        & (words[5] < 256)
+        & (words[6] < 256)
+}
+
+// Whether the words are a state's.
+pub(crate) fn is_state(words: &[u32]) -> bool
+    ensures { λ r. ⌜ r ≡ isState (now (words .entry)) ⌝ }
+{
+    if words.len() != LENGTH {
+        return false;
+    }
+    head_fits(words) & list_fits(words)
+}
+
+// The records.
+fn read_list(words: &[u32]) -> [Fragment; Disc::LIMIT]
+    requires { ⌜ (length (now words) ≡ 391) × (listFits limit (drop 7 (now words)) ≡ true) ⌝ }
+    ensures { λ r. ⌜ r ≡ listOf limit (drop 7 (now (words .entry))) ⌝ }
+{
+    let unused = Fragment {
+        session: 0,
+        start: Block(0),
+        length: 0,
+        recorded: 0,
+        zeroed: 0,
+        kind: Kind::Reserved,
+    };
+    let mut fragments = [unused; Disc::LIMIT];
+    let mut i = 0;
+    while i < Disc::LIMIT {
+        let from = HEAD + RECORD * i;
+        let to = from + RECORD;
+        fragments[i] = read_record(&words[from..to]);
+        i += 1;
+    }
+    fragments
+}
+
+// The state that an image stands for.
+pub(crate) fn read(words: &[u32]) -> Disc
+    requires { ⌜ StateWords (now words) ⌝ }
+    ensures { λ r. ⌜ r ≡ decode (now (words .entry)) ⌝ }
+{
+    let sense = Sense {
+        key: words[2] as u8,
+        asc: words[3] as u8,
+        ascq: words[4] as u8,
+    };
+    let fragments = read_list(words);
+    Disc {
+        capacity: words[0],
+        finalized: words[1] == 1,
+        sense,
+        pending: words[5] as u8,
+        owner: words[6] as u8,
+        fragments,
+    }
+}
+
+// The head as seven words.
+fn write_head(words: &mut [u32], disc: Disc)
+    requires { ⌜ length (now words) ≡ 7 ⌝ }
+    ensures { λ _. ⌜ now (words .exit) ≡ headWords disc ⌝ }
+{
+    let sense = disc.sense;
+    words[0] = disc.capacity;
+    words[1] = flag_word(disc.finalized);
+    words[2] = sense.key as u32;
+    words[3] = sense.asc as u32;
+    words[4] = sense.ascq as u32;
+    words[5] = disc.pending as u32;
+    words[6] = disc.owner as u32;
+}
+
+// The records, behind the head.
+fn write_list(words: &mut [u32], fragments: [Fragment; Disc::LIMIT])
+    requires { ⌜ length (now words) ≡ 391 ⌝ }
+    ensures { λ _. ⌜ now (words .exit) ≡ splice (now (words .entry)) 7 (listWords fragments) ⌝ }
+{
+    let mut i = 0;
+    while i < Disc::LIMIT {
+        let from = HEAD + RECORD * i;
+        let to = from + RECORD;
+        write_record(&mut words[from..to], fragments[i]);
+        i += 1;
+    }
+}
+
+// A state as its image.
+pub(crate) fn write(words: &mut [u32], disc: Disc)
+    requires { ⌜ length (now words) ≡ 391 ⌝ }
+    ensures { λ _. ⌜ now (words .exit) ≡ encode disc ⌝ }
+{
+    write_head(&mut words[0..HEAD], disc);
+    let fragments = disc.fragments;
+    write_list(words, fragments);
+}

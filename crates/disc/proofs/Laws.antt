@@ -10,6 +10,7 @@ pub mod Grow
 pub mod Order
 pub mod Onward
 pub mod Blank
+pub mod Recorded
 pub mod Plan
 pub mod Lengths
 pub mod Verdict
@@ -19,6 +20,7 @@ pub mod Reserve
 pub mod Close
 pub mod Session
 pub mod Keep
+pub mod Pending
 pub mod Outcome
 pub mod Accepts
 pub mod Cut

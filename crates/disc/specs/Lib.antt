@@ -20,6 +20,7 @@ pub mod Reserve
 pub mod Close
 pub mod Reports
 pub mod Judge
+pub mod Recorded
 pub mod Lent
 pub mod Shift
 pub mod Examples

@@ -4,3 +4,4 @@ pub mod Bytes
 pub mod Moves
 pub mod Reply
 pub mod Step
+pub mod Alike

@@ -7,9 +7,9 @@ use borrow.Author.Tests.{eq-eqb, ne-eqb, eqb-true, le-ltb}
 use lib.Dec.{eqb, ltb}
 use lib.ListN.{length, set}
 use lib.Seq.{getD-set-same, set-set}
-use Rattle.disc.specs.Types.{Lba, Fragment, Disc, Verdict, Accepted, Gather, Write}
+use Rattle.disc.specs.Types.{Lba, Fragment, Disc, Verdict, Accepted, Gather, Write, Block, Flush, Skip, Plan}
 use Rattle.disc.specs.Fragment.{unusedRecord, end, firstUnrecorded, pendingIn, nextWritable}
-use Rattle.disc.specs.Address.{lba, firstSector}
+use Rattle.disc.specs.Address.{lba, firstSector, block}
 use Rattle.disc.specs.Answer.{noSense}
 use Rattle.disc.specs.Records.{used, numbered, withSense}
 use Rattle.disc.specs.Ready.{Ready}
@@ -24,7 +24,7 @@ use Rattle.disc.specs.Rules.{at}
 use Rattle.disc.proofs.Laws.Flush.{flush-none}
 use Rattle.disc.proofs.Laws.Grow.{grown-used}
 use Rattle.disc.proofs.Laws.Keep.{gather-grows, write-room}
-use Rattle.disc.specs.Flush.{flushCount}
+use Rattle.disc.specs.Flush.{flushCount, flushPlan}
 use Rattle.disc.proofs.Laws.Outcome.{outcome-ready, write-outcome}
 use Rattle.disc.proofs.Laws.Accepts.{Takes, takes-found, takes-accepted}
 
@@ -130,6 +130,18 @@ module _ (d : Disc) (number n : ℕ) (from : 1 ≤ number) where
       let own : eqb (cond (eqb held 0) 0 number) number ≡ true = rw z (eq-eqb number number refl) in
       cond-yes (eqb (cond (eqb held 0) 0 number) number) _ _ own)
 
+  gathered-plan : flushOthersPlan (withSense (gather d number n) noSense) number ≡ Skip
+  unfolding flushOthersPlan flushPlan gather
+  gathered-plan =
+      let held = (pendingIn d number + n) % 16 in
+      by-cases (eqb held 0)
+      (λ z.
+      let other : eqb (cond (eqb held 0) 0 number) number ≡ false = rw z (ne-eqb 0 number (λ q. omega arith)) in
+      cond-no (eqb (cond (eqb held 0) 0 number) number) _ _ other ∙ cond-yes (eqb held 0) _ _ z)
+      (λ z.
+      let own : eqb (cond (eqb held 0) 0 number) number ≡ true = rw z (eq-eqb number number refl) in
+      cond-yes (eqb (cond (eqb held 0) 0 number) number) _ _ own)
+
   gathered-count : flushOthersCount (withSense (gather d number n) noSense) number ≡ 0
   unfolding flushOthersCount flushCount gather
   gathered-count =
@@ -141,6 +153,15 @@ module _ (d : Disc) (number n : ℕ) (from : 1 ≤ number) where
       (λ z.
       let own : eqb (cond (eqb held 0) 0 number) number ≡ true = rw z (eq-eqb number number refl) in
       cond-yes (eqb (cond (eqb held 0) 0 number) number) _ _ own)
+
+-- the plans of two parts of a WRITE and of the whole
+pub record CutPlans (one two all : Plan) (n m : ℕ) : Type 0 where
+  pub flush : Flush
+  pub from : Block
+  pub held : ℕ
+  pub first : one ≡ plan flush (Gather from held n)
+  pub second : two ≡ plan Skip (Gather (block (from .0 + (held + n) / 16)) ((held + n) % 16) m)
+  pub whole : all ≡ plan flush (Gather from held (n + m))
 
 -- the second part of a WRITE that was cut in two takes what is left
 module _ (d : Disc) (a : Lba) (n m : ℕ) (r : Ready d) (z : n ≡ 0 → ⊥) (y : m ≡ 0 → ⊥) (t : Takes d a (n + m)) where
@@ -220,6 +241,41 @@ module _ (d : Disc) (a : Lba) (n m : ℕ) (r : Ready d) (z : n ≡ 0 → ⊥) (y
       let part : (pendingIn (gather e k n) k + m) / 16 ≡ ((p + n) % 16 + m) / 16 = ap (λ x. (x + m) / 16) held in
       let sum : (p + n + m) / 16 ≡ (p + (n + m)) / 16 = ap (λ x. x / 16) (omega arith) in
       omega (arith, div-cut (p + n) m)
+
+  -- the plans of the parts and of the whole: the second part gathers where the first left off and flushes nothing
+  pub cut-plans : CutPlans (write d a n .plan) (write (write d a n .disc) (lba (a .0 + n)) m .plan) (write d a (n + m) .plan) n m
+  unfolding between first-takes second-takes accept accepted
+  cut-plans =
+      let k = t .number in
+      let w = t .here in
+      let e = flushOthers d k in
+      let p = pendingIn d k in
+      let slot : k ≤ length (e .fragments) =
+      omega (arith, others-length d k, sound-rules d (r .sound) .array, place d a k r w .slot) in
+      let held : pendingIn (gather e k n) k ≡ (p + n) % 16 =
+      gathered-pending e k n (w .from) slot ∙ ap (λ x. (x + n) % 16) (others-pending d k r (w .from)) in
+      let same : numbered (gather e k n) k ≡ grownRecord ((p + n) / 16) (numbered d k) =
+      gathered-record e k n (w .from) slot
+      ∙ (ap (λ x. grownRecord ((x + n) / 16) (numbered e k)) (others-pending d k r (w .from))
+      ∙ ap (λ x. grownRecord ((p + n) / 16) x) (others-numbered d k r (w .from))) in
+      let here : firstUnrecorded (numbered (gather e k n) k) ≡ block (firstUnrecorded (numbered d k) .0 + (p + n) / 16) =
+      ap firstUnrecorded same ∙ ap block (omega arith) in
+      let one = ap (λ (v : Verdict). v .plan) (write-done d a n r z first-takes) in
+      let two = ap (λ (v : Verdict). v .plan) (write-done between (lba (a .0 + n)) m between-ready y second-takes) in
+      let whole = ap (λ (v : Verdict). v .plan) (write-done d a (n + m) r sum-some t) in
+      let second : plan (flushOthersPlan between k) (Gather (firstUnrecorded (numbered between k)) (pendingIn between k) m)
+      ≡ plan Skip (Gather (block (firstUnrecorded (numbered d k) .0 + (p + n) / 16)) ((p + n) % 16) m) =
+      ap (λ x. plan x (Gather (firstUnrecorded (numbered between k)) (pendingIn between k) m)) (gathered-plan e k n (w .from))
+      ∙ (ap (λ x. plan Skip (Gather x (pendingIn between k) m)) here
+      ∙ ap (λ x. plan Skip (Gather (block (firstUnrecorded (numbered d k) .0 + (p + n) / 16)) x m)) held) in
+      record {
+        flush = flushOthersPlan d k;
+        from = firstUnrecorded (numbered d k);
+        held = p;
+        first = one;
+        second = ap (λ x. write x (lba (a .0 + n)) m .plan) between-is ∙ (two ∙ second);
+        whole = whole;
+      }
 
   -- a WRITE that is accepted whole is accepted in two parts, with the same disc afterwards and counts that add up
   pub cut-accepted :

@@ -1,14 +1,14 @@
 -- What the decision about a command does to the disc.
 use Prim.Native.Nat.{ℕ, _+_, _-_, _/_, _≤_, min}
 use mathlib.Core.Path.{_≡_, ap, refl}
-use mathlib.Core.Bool.{true, not}
+use mathlib.Core.Bool.{true, not, _||_}
 use mathlib.Core.List.{List, _++_}
 use native.Mathlib.Omega.{arith}
 use borrow.Author.Tests.{not-false, ltb-false}
 use native.Mathlib.Nat.{le-refl}
 use lib.ListN.{length, replicate, length-append}
 use lib.Dec.{eqb, ltb}
-use Rattle.disc.specs.Types.{Lba, Disc, Verdict, Found, Number, Nowhere, Command, TestUnitReady, RequestSense, ReadCapacity, Read, Write, SynchronizeCache, ReserveTrack, CloseTrackSession, ReadDiscInformation, ReadTrackInformation, Unlisted, InvalidOperationCode, InvalidFieldInCommand, AddressOutOfRange, BlankCheck, DriveRefusal, LinkRefusal, Accepted, Link, Drive, CommandBlockLength, MediumSize, UnsoundState, TransferLength, WriteProtected, InvalidAddressForWrite, IncompleteTrackInSession, EmptyTrack, NoMoreReservations, EndOfUserArea}
+use Rattle.disc.specs.Types.{Lba, Disc, Verdict, Found, Number, Nowhere, Command, TestUnitReady, RequestSense, ReadCapacity, Read, Write, SynchronizeCache, ReserveTrack, CloseTrackSession, ReadDiscInformation, ReadTrackInformation, Unlisted, InvalidOperationCode, InvalidFieldInCommand, AddressOutOfRange, BlankCheck, DriveRefusal, LinkRefusal, Accepted, Link, Drive, CommandBlockLength, MediumSize, UnsoundState, TransferLength, WriteProtected, InvalidAddressForWrite, IncompleteTrackInSession, EmptyTrack, NoMoreReservations, EndOfUserArea, Send}
 use Rattle.disc.specs.Address.{lba, sectorsIn}
 use Rattle.disc.specs.Answer.{number, allowedSense, noSense, refusalSense, isRefusalSense}
 use Rattle.disc.specs.Command.{decode}
@@ -17,17 +17,21 @@ use Rattle.disc.specs.Sound.{sound, allowedState}
 use Rattle.disc.specs.Blank.{inRange}
 use Rattle.disc.specs.Ready.{Ready}
 use Rattle.disc.specs.Lengths.{lengthsFit, replyRoom, capacityLength}
-use Rattle.disc.specs.Verdict.{refuseLink, noReply, noPlan, refuse, accepted, accept, report, rise}
+use Rattle.disc.specs.Verdict.{refuseLink, noPlan, refuse, accepted, accept, report, rise}
 use Rattle.disc.specs.Read.{allReadable, read}
 use Rattle.disc.specs.Reports.{bytes32, senseBytes, requestSense, readCapacity, discInformation, readDiscInformation, trackInformation, trackReport, trackFound, trackNumbered, readTrackInformation}
 use Rattle.disc.specs.Judge.{testUnitReady, perform, judgeCommand, judge, Judged}
-use Rattle.disc.proofs.Laws.Bool.{and-left, cond-cases, and-both}
+use mathlib.Core.Logic.{⊎-elim}
+use Rattle.disc.specs.Recorded.{recordsBlock, flushes, transfers}
+use Rattle.disc.proofs.Laws.Pending.{Pending, pending-same}
+use Rattle.disc.proofs.Laws.Bool.{and-left, cond-cases, and-both, same-test, or-left, or-right, or-cases, contradiction}
 use Rattle.disc.proofs.Laws.Rules.{sound-rules}
 use Rattle.disc.proofs.Laws.Onward.{Onward, same-onward, onward-sum}
-use Rattle.disc.proofs.Laws.Plan.{Placed, placed-none, placed-send}
-use Rattle.disc.proofs.Laws.Read.{readable-onward}
+use Rattle.disc.proofs.Laws.Recorded.{Records, nothing-records}
+use Rattle.disc.proofs.Laws.Plan.{Placed, placed-none, placed-fresh, Sending, moved-sends}
+use Rattle.disc.proofs.Laws.Read.{readable-onward, readable-held, held-readable}
 use Rattle.disc.proofs.Laws.Accepts.{write-most}
-use Rattle.disc.proofs.Laws.Outcome.{Outcome, refused, same-outcome, unchanged-outcome, no-room, outcome-rise, synchronize-outcome, write-outcome, reserve-outcome, close-outcome, outcome-ready, outcome-answer, outcome-refused, outcome-accepted, outcome-capacity, outcome-onward, outcome-placed, done}
+use Rattle.disc.proofs.Laws.Outcome.{Outcome, refused, same-outcome, sent-outcome, unchanged-outcome, outcome-rise, synchronize-outcome, write-outcome, reserve-outcome, close-outcome, outcome-ready, outcome-answer, outcome-refused, outcome-accepted, outcome-capacity, outcome-onward, outcome-placed, done, outcome-pending}
 
 -- a state that L3 lets through, with a capacity in range, is ready for every command
 pub allowed-ready : (d : Disc) → inRange (d .capacity) ≡ true → allowedState d ≡ true → Ready d
@@ -46,14 +50,14 @@ read-outcome d a n r =
     (λ e.
     cond-cases (Outcome d c) (ltb (sectorsIn (d .capacity)) (a .0 + n)) _ _ (λ h. refused AddressOutOfRange)
     (λ h.
-    cond-cases (Outcome d c) (allReadable d a n) _ _ (λ t. same-outcome d c noReply _ (placed-send d a n (ltb-false _ _ h) t) (no-room c) r)
+    cond-cases (Outcome d c) (allReadable d a n) _ _ (λ t. sent-outcome d a n (ltb-false _ _ h) t r)
     (λ t. refused BlankCheck)))
 
 report-outcome :
     (d : Disc) (c : Command) (bytes : List ℕ) (n : ℕ) → min (length bytes) n ≤ replyRoom c → Ready d
     → Outcome d c (accept d d (report bytes n) noPlan)
 report-outcome d c bytes n m r =
-    same-outcome d c (report bytes n) noPlan (placed-none d c)
+    same-outcome d c (report bytes n)
     (record { fits = m; whole = omega (arith, length-append bytes (replicate (36 - length bytes) 0)) }) r
 
 sense-outcome : (d : Disc) (n : ℕ) → Ready d → Outcome d (RequestSense n) (requestSense d n)
@@ -146,7 +150,7 @@ refusal-allowed EndOfUserArea = refl
 
 outcome-sense : (d : Disc) (c : Command) (v : Verdict) → Outcome d c v → allowedSense (v .disc .sense) ≡ true
 unfolding accept accepted refuse allowedSense
-outcome-sense d c v (done after q p s k o l m) = refl
+outcome-sense d c v (done after q p s k o l g m) = refl
 outcome-sense d c v (refused q) = refusal-allowed q
 
 -- what the drive makes of a command whose state the link let through
@@ -189,9 +193,9 @@ module _ {c : Command} {n m : ℕ} (d : Disc) where
   decided-capacity v (onLink x) = refl
   decided-capacity v (byDrive r a l) = outcome-capacity d c _ (allowed-outcome d c r a)
 
-  pub decided-onward : (v : Verdict) → Decided d c n m v → Onward d (v .disc)
+  pub decided-onward : (v : Verdict) → Decided d c n m v → Onward d (v .disc) (Records (v .plan))
   unfolding refuseLink
-  decided-onward v (onLink x) = same-onward d
+  decided-onward v (onLink x) = nothing-records d d (same-onward d)
   decided-onward v (byDrive r a l) = outcome-onward d c _ (allowed-outcome d c r a)
 
   -- the number of blocks recorded is the rise of the sum of W, which never falls
@@ -204,7 +208,7 @@ module _ {c : Command} {n m : ℕ} (d : Disc) where
   unfolding refuseLink
   decided-sum v (onLink x) = omega arith
   decided-sum v (byDrive r a l) =
-      onward-sum d (perform d c .disc) (sound-rules d (allowed-ready d r a .sound)) (outcome-onward d c _ (allowed-outcome d c r a))
+      onward-sum d (perform d c .disc) _ (sound-rules d (allowed-ready d r a .sound)) (outcome-onward d c _ (allowed-outcome d c r a))
 
   -- of a WRITE of k sectors it is 1 + k/16 at most
   pub decided-most : (v : Verdict) (a : Lba) (k : ℕ) → c ≡ Write a k → Decided d c n m v → v .recorded ≤ 1 + k / 16
@@ -218,8 +222,39 @@ module _ {c : Command} {n m : ℕ} (d : Disc) where
   decided-placed v (onLink x) = placed-none d c
   decided-placed v (byDrive r a l) = outcome-placed d c _ (allowed-outcome d c r a)
 
+  -- exactly the blocks that were recorded and those of its plan are recorded then
+  pub decided-recorded :
+      (v : Verdict) (a : Lba) → Decided d c n m v → readable (v .disc) a ≡ (readable d a || recordsBlock (v .plan) (a .0 / 16))
+  decided-recorded v a w =
+      let o = decided-onward v w in
+      let k = a .0 / 16 in
+      same-test
+      (λ t.
+      ⊎-elim (λ h. or-left (recordsBlock (v .plan) k) (held-readable d a h)) (λ h. or-right (readable d a) h)
+      (o .was k (readable-held (v .disc) a t)))
+      (λ t.
+      or-cases (readable d a) (recordsBlock (v .plan) k) (λ h. readable-onward d (v .disc) _ a o h)
+      (λ h. held-readable (v .disc) a (o .adds k h)) t)
+
+  -- and those of its plan were not recorded before
+  pub decided-fresh : (v : Verdict) (a : Lba) → Decided d c n m v → recordsBlock (v .plan) (a .0 / 16) ≡ true → readable d a ≡ true → ⊥
+  unfolding refuseLink recordsBlock flushes transfers
+  decided-fresh v a (onLink x) t r = contradiction t refl
+  decided-fresh v a (byDrive r s l) t k =
+      placed-fresh d c (perform d c .plan) a (sound-rules d (allowed-ready d r s .sound)) (outcome-placed d c _ (allowed-outcome d c r s)) t k
+
+  -- only a READ sends, sectors that are all recorded
+  pub decided-sends : (v : Verdict) (a : Lba) (k : ℕ) → Decided d c n m v → v .plan .transfer ≡ Send a k → Sending d c a k
+  decided-sends v a k w e = moved-sends d c a k (rw e at (decided-placed v w .moved))
+
+  -- the sectors that are pending then
+  pub decided-pending : (v : Verdict) → Decided d c n m v → Pending d (v .plan) (v .disc)
+  unfolding refuseLink
+  decided-pending v (onLink x) = pending-same d d refl (λ z. refl)
+  decided-pending v (byDrive r a l) = outcome-pending d c _ (allowed-outcome d c r a)
+
   pub decided-readable : (v : Verdict) (a : Lba) → Decided d c n m v → readable d a ≡ true → readable (v .disc) a ≡ true
-  decided-readable v a w t = readable-onward d (v .disc) a (decided-onward v w) t
+  decided-readable v a w t = readable-onward d (v .disc) _ a (decided-onward v w) t
 
 -- blocks with the same fields are decided alike, whatever stands in the bytes that no field reads
 pub judge-decodes :

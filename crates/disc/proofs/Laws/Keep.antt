@@ -28,7 +28,7 @@ use Rattle.disc.proofs.Laws.Reserve.{blank-recorded}
 use Rattle.disc.proofs.Laws.Flush.{owner, flush-used, flush-none, flush-records}
 use Rattle.disc.proofs.Laws.Write.{others-numbered, others-pending, others-used, others-alone, place}
 use Rattle.disc.proofs.Laws.Session.{kept-blank, kept-tail, kept-same, tail-written}
-use Rattle.disc.proofs.Laws.Onward.{Onward, same-onward, onward-on, grown-onward, replace-onward, drop-onward, extend-onward}
+use Rattle.disc.proofs.Laws.Onward.{Onward, same-onward, onward-before, replace-onward, drop-onward, extend-onward, NoBlock}
 use Rattle.disc.proofs.Laws.Order.{Ordered, sound-ordered, open-sound, Replaces, replace-last, drop-last, Extends, extend-sound, extended-last, last-used, drop-used}
 
 -- a tail from a block below the capacity is one, and reaches it
@@ -111,15 +111,15 @@ module _
   split-sound f =
       rw (ap (λ j. withRecord reservedDisc (j + 1) rest) reserved-used) at (extend-sound reservedDisc reserved-ordered rest reserved-extends f)
 
-  pub split-onward : Onward d (splitTail d b)
+  pub split-onward : Onward d (splitTail d b) NoBlock
   unfolding splitTail
   split-onward =
-      onward-on d reservedDisc _
-      (replace-onward d reserved s reserved-size refl (omega (arith, blank-recorded d t)))
+      onward-before d reservedDisc _ NoBlock
+      (replace-onward d reserved s reserved-size refl (blank-recorded d t))
       (rw (ap (λ j. withRecord reservedDisc (j + 1) rest) reserved-used) at (extend-onward reservedDisc reserved-ordered rest reserved-extends))
 
 -- CLOSE 001 of a reserved fragment
-fill-grows : (d : Disc) (n : ℕ) → Sound d → 1 ≤ n → n ≤ used d → Grown d (withRecord d n (filledRecord (numbered d n)))
+pub fill-grows : (d : Disc) (n : ℕ) → Sound d → 1 ≤ n → n ≤ used d → Grown d (withRecord d n (filledRecord (numbered d n)))
 fill-grows d n s from to =
     let f = numbered d n in
     let w = s .recorded (n - 1) (omega arith) in
@@ -134,10 +134,6 @@ fill-sound d n s p from to =
     (s .none)
     (λ q. absurd (q p))
     (λ q. p)
-
-pub fill-onward : (d : Disc) (n : ℕ) → Sound d → 1 ≤ n → n ≤ used d → Onward d (withRecord d n (filledRecord (numbered d n)))
-fill-onward d n s from to =
-    grown-onward d (withRecord d n (filledRecord (numbered d n))) s (fill-grows d n s from to)
 
 -- a complete fragment is no tail
 complete-tailless : (f : Fragment) → complete f ≡ true → isTail f ≡ false
@@ -224,16 +220,16 @@ module _ (d : Disc) (s : Sound d) (p : d .pending ≡ 0) (w : lastRecord d .reco
       (let past = ltb-false (nextFragmentStart (end closedTail) .0) (d .capacity) y in
       omega (arith, ap (λ h. end h .0) (ap (λ j. numbered shortened j) shortened-used))))))))
 
-  shortened-onward : Onward d shortened
-  shortened-onward = replace-onward d (shortenedRecord (lastRecord d)) s w refl (omega arith)
+  shortened-onward : Onward d shortened NoBlock
+  shortened-onward = replace-onward d (shortenedRecord (lastRecord d)) s w refl refl
 
-  pub shorten-onward : Onward d (appendTail shortened (used d))
+  pub shorten-onward : Onward d (appendTail shortened (used d)) NoBlock
   unfolding appendTail
   shorten-onward =
       by-cases roomForTail
       (λ t.
       rw t
-      (onward-on d shortened _ shortened-onward
+      (onward-before d shortened _ NoBlock shortened-onward
       (rw (ap (λ j. withRecord shortened (j + 1) newTail) shortened-used) at (extend-onward shortened shortened-ordered newTail (room-extends t)))))
       (λ t. rw t shortened-onward)
 
@@ -329,13 +325,13 @@ module _ (d : Disc) (s : Sound d) (p : d .pending ≡ 0) (e : hasIncompleteReser
       (λ t. rw (kept-tail d b t) (closed-replaced (tail-written d p t b)))
       (λ t. rw (kept-same d t) (closed-same t)))
 
-pub close-tail-onward : (d : Disc) → Sound d → d .pending ≡ 0 → Onward d (closeTail d)
+pub close-tail-onward : (d : Disc) → Sound d → d .pending ≡ 0 → Onward d (closeTail d) NoBlock
 close-tail-onward d s p =
     by-cases (hasBlankTail d)
     (λ b. rw (kept-blank d b) (drop-onward d s (blank-recorded d b)))
     (λ b.
     by-cases (hasTail d)
-    (λ t. rw (kept-tail d b t) (replace-onward d (shortenedRecord (lastRecord d)) s (tail-written d p t b) refl (omega arith)))
+    (λ t. rw (kept-tail d b t) (replace-onward d (shortenedRecord (lastRecord d)) s (tail-written d p t b) refl refl))
     (λ t. rw (kept-same d t) (same-onward d)))
 
 -- CLOSE 010: a tail of the next session
@@ -360,7 +356,7 @@ module _ (k : Disc) (c : Closed k) (free : used k < limit) (start : nextSessionS
   unfolding openSession
   open-session-sound f = extend-sound k (c .ordered) sessionTail session-extends f
 
-  pub open-session-onward : Onward k (openSession k)
+  pub open-session-onward : Onward k (openSession k) NoBlock
   unfolding openSession
   open-session-onward = extend-onward k (c .ordered) sessionTail session-extends
 

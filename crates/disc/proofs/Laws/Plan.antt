@@ -3,7 +3,7 @@ use Prim.Native.Nat.{ℕ, _+_, _*_, _-_, _/_, _≤_, _<_}
 use mathlib.Core.Path.{_≡_, refl}
 use mathlib.Core.Bool.{true}
 use native.Mathlib.Omega.{arith}
-use borrow.Author.Tests.{eqb-false}
+use borrow.Author.Tests.{eqb-false, eqb-true}
 use lib.Dec.{eqb}
 use Rattle.disc.specs.Types.{Block, Lba, Disc, Flush, Skip, Record, Transfer, Nothing, Send, Gather, Fill, Plan, Command, Read, Write}
 use Rattle.disc.specs.Address.{firstSector, sectorsIn}
@@ -15,7 +15,9 @@ use Rattle.disc.specs.Verdict.{noPlan, plan}
 use Rattle.disc.specs.Read.{allReadable}
 use Rattle.disc.specs.Flush.{flush, flushPlan}
 use Rattle.disc.specs.Write.{flushOthersPlan, Writable}
-use Rattle.disc.proofs.Laws.Bool.{cond-cases}
+use Rattle.disc.specs.Recorded.{among, flushes, transfers, recordsBlock}
+use Rattle.disc.proofs.Laws.Recorded.{among-from, among-below}
+use Rattle.disc.proofs.Laws.Bool.{cond-cases, contradiction, or-cases}
 use Rattle.disc.proofs.Laws.Numbers.{order-cases}
 use Rattle.disc.proofs.Laws.Rules.{sound-rules}
 use Rattle.disc.proofs.Laws.Sound.{starts-rise, pending-in-few}
@@ -129,3 +131,36 @@ placed-fill d c n r from to =
             to = omega (arith, g .start (n - 1), g .size (n - 1), s .recorded (n - 1) here);
           });
     }
+
+-- what a plan that sends has behind it
+pub record Sending (d : Disc) (c : Command) (a : Lba) (n : ℕ) : Type 0 where
+  pub command : c ≡ Read a n
+  pub within : a .0 + n ≤ sectorsIn (d .capacity)
+  pub readable-all : allReadable d a n ≡ true
+
+pub moved-sends : (d : Disc) (c : Command) (a : Lba) (n : ℕ) → Moved d c (Send a n) → Sending d c a n
+moved-sends d c a n (sends x y q h t) = record { command = q; within = h; readable-all = t }
+
+-- no block that a plan records has a readable sector
+flush-fresh : (d : Disc) (f : Flush) (a : Lba) → Sound d → Flushed d f → flushes f (a .0 / 16) ≡ true → readable d a ≡ true → ⊥
+unfolding flushes
+flush-fresh d f a s skips t r = contradiction t refl
+flush-fresh d f a s (records b n some few u) t r =
+    let e = eqb-true (a .0 / 16) (b .0) t in unrecorded-blank d s (b .0) 1 u a (omega (arith, e)) (omega (arith, e)) r
+
+among-fresh : (d : Disc) (b n : ℕ) (a : Lba) → Sound d → Unrecorded d b n → among b n (a .0 / 16) ≡ true → readable d a ≡ true → ⊥
+among-fresh d b n a s u t r =
+    unrecorded-blank d s b n u a (omega (arith, among-from b n (a .0 / 16) t)) (omega (arith, among-below b n (a .0 / 16) t)) r
+
+transfer-fresh : (d : Disc) (c : Command) (t : Transfer) (a : Lba) → Sound d → Moved d c t → transfers t (a .0 / 16) ≡ true → readable d a ≡ true → ⊥
+unfolding transfers
+transfer-fresh d c t a s nothing k r = contradiction k refl
+transfer-fresh d c t a s (sends x n q h l) k r = contradiction k refl
+transfer-fresh d c t a s (gathers x b held n q few u) k r = among-fresh d (b .0) ((held + n) / 16) a s u k r
+transfer-fresh d c t a s (fills b n u) k r = among-fresh d (b .0) n a s u k r
+
+pub placed-fresh : (d : Disc) (c : Command) (p : Plan) (a : Lba) → Sound d → Placed d c p → recordsBlock p (a .0 / 16) ≡ true → readable d a ≡ true → ⊥
+unfolding recordsBlock
+placed-fresh d c p a s w t r =
+    or-cases (flushes (p .flush) (a .0 / 16)) (transfers (p .transfer) (a .0 / 16)) (λ h. flush-fresh d (p .flush) a s (w .flushed) h r)
+    (λ h. transfer-fresh d c (p .transfer) a s (w .moved) h r) t

@@ -1,5 +1,5 @@
 -- A run of readable sectors lies in the recorded blocks of one fragment.
-use Prim.Native.Nat.{ℕ, zero, suc, _+_, _-_, _≤_, _<_}
+use Prim.Native.Nat.{ℕ, zero, suc, _+_, _-_, _/_, _≤_, _<_}
 use mathlib.Core.Path.{_≡_, refl}
 use mathlib.Core.Bool.{true, not}
 use native.Mathlib.Omega.{arith}
@@ -17,7 +17,7 @@ use Rattle.disc.proofs.Laws.Bool.{and-left, and-right, and-both, by-cas
 use Rattle.disc.proofs.Laws.Numbers.{order-cases}
 use Rattle.disc.proofs.Laws.Records.{listed-at, some-cases, at-some}
 use Rattle.disc.proofs.Laws.Sound.{starts-rise}
-use Rattle.disc.proofs.Laws.Onward.{Onward}
+use Rattle.disc.proofs.Laws.Onward.{Held, Onward}
 
 -- a sector is readable where a record in use holds it in its recorded blocks
 module _ (d : Disc) (a : Lba) where
@@ -45,9 +45,22 @@ module _ (a : Lba) (f : Fragment) where
       firstSector (f .start) .0 ≤ a .0 → a .0 < firstSector (firstUnrecorded f) .0 → holdsRecorded a f ≡ true
   recorded-between h k = and-both (le-leb _ _ h) (lt-ltb _ _ k)
 
+-- a sector is readable where its block is recorded
+pub readable-held : (d : Disc) (a : Lba) → readable d a ≡ true → Held d (a .0 / 16)
+readable-held d a t =
+    readable-cases d a
+    (λ i l h.
+    record { index = i; listed = l; from = omega (arith, recorded-from a (at d i) h); below = omega (arith, recorded-below a (at d i) h) })
+    t
+
+pub held-readable : (d : Disc) (a : Lba) → Held d (a .0 / 16) → readable d a ≡ true
+held-readable d a h =
+    at-readable d a (h .index) (h .listed)
+    (recorded-between a (at d (h .index)) (omega (arith, h .from)) (omega (arith, h .below)))
+
 -- a readable sector stays so while the list goes onward
-pub readable-onward : (d e : Disc) (a : Lba) → Onward d e → readable d a ≡ true → readable e a ≡ true
-readable-onward d e a o =
+pub readable-onward : (d e : Disc) (B : ℕ → Type 0) (a : Lba) → Onward d e B → readable d a ≡ true → readable e a ≡ true
+readable-onward d e B a o =
     readable-cases d a
     (λ i l t.
     let from = recorded-from a (at d i) t in

@@ -6,3 +6,4 @@ pub mod Gather
 pub mod Kept
 pub mod Reply
 pub mod Step
+pub mod Alike

@@ -2,7 +2,7 @@
 use Prim.Native.Nat.{ℕ, _+_, _*_, _/_, _≤_}
 use mathlib.Core.Bool.{Bool, cond, not, _&&_}
 use mathlib.Core.Path.{_≡_}
-use mathlib.Core.List.{List}
+use mathlib.Core.List.{List, []}
 use lib.ListN.{length}
 use lib.Dec.{eqb}
 use Rattle.drive.specs.Types.{Lba, Disc, Answer, LinkRefusal, Verdict, Write, CommandBlockLength, MediumSize, Response}
@@ -67,6 +67,11 @@ carriedOut v s q =
 
 unfoldable pub step : Drive → Request → Result
 step s q = carriedOut (verdictOn s q) s q
+
+-- the result that has moved no byte: no reply, no block recorded, medium, pending buffer and reply buffer as they were
+abbrev pub untouched : Drive → Request → Answer → Disc → Result
+untouched s q a d =
+    record { answer = a; reply = []; recorded = 0; buffer = q .buffer; after = drive d (s .medium) (s .pending) }
 
 -- what the code that carries a verdict out asks: what is sent is the recorded run, and what the plan asks of the lent buffers is there
 pub record Carried (v : Verdict) (s : Drive) (q : Request) : Type 0 where

@@ -1,0 +1,313 @@
+-- One step: refusals change nothing but the sense, recorded bytes stay, and stale bytes decide nothing.
+use mathlib.Core.Path.{_≡_, refl, sym, ap, _∙_, subst}
+use mathlib.Core.Bool.{true, false}
+use mathlib.Core.Logic.{_⊎_, inl, inr, ⊎-elim}
+use Prim.Native.Nat.{ℕ, _+_, _-_, _*_, _/_, _≤_, _<_}
+use native.Mathlib.Omega.{arith}
+use mathlib.Core.List.{List}
+use lib.ListN.{length, getD, take}
+use borrow.Author.Tests.{eqb-true, eqb-false}
+use lib.Dec.{eqb}
+use Rattle.disc.specs.Address.{lba}
+use Rattle.disc.specs.Answer.{refusalSense}
+use Rattle.disc.specs.Command.{decode}
+use Rattle.disc.specs.Judge.{judge}
+use Rattle.disc.specs.Lent.{FlushFits, TransferFits, Fits}
+use Rattle.disc.specs.Recorded.{flushes, transfers, recordsBlock, flushedCount}
+use Rattle.disc.specs.Records.{readable, withSense}
+use Rattle.disc.specs.Verdict.{refuse, refuseLink}
+use Rattle.disc.proofs.Laws.Bool.{by-cases, or-cases}
+use Rattle.disc.proofs.Laws.Judge.{Decided, judge-decided, decided-link, decided-refused, decided-recorded, decided-fresh, decided-sends, decided-pending}
+use Rattle.disc.proofs.Laws.Lent.{judge-fits}
+use Rattle.disc.proofs.Laws.Pending.{Pending}
+use Rattle.disc.proofs.Laws.Read.{all-readable-at}
+use Rattle.drive.specs.Types.{Lba, Block, Disc, LinkRefusal, DriveRefusal, Link, Drive as byDrive, CommandBlockLength, MediumSize, Record, Reply, Transfer, Nothing, Send, Gather, Fill, Verdict}
+use Rattle.drive.specs.Moves.{flushedMedium, flushedPending, transferredMedium, transferredPending, movedMedium, movedPending}
+use Rattle.drive.specs.Reply.{sentBytes}
+use Rattle.drive.specs.Step.{Drive, drive, Request, request, Result, lent, verdictOn, carriedOut, step, untouched}
+use Rattle.drive.specs.Alike.{recordedByte, Alike}
+use Rattle.drive.proofs.Laws.Bytes.{splice-nil}
+use Rattle.drive.proofs.Laws.Agree.{Agree, agree-run}
+use Rattle.drive.proofs.Laws.Kept.{length-flushed-medium, length-flushed-pending, length-moved-medium, length-moved-pending, moved-kept, flushed-agree, transferred-agree, flushed-sectors, transferred-sectors}
+use Rattle.drive.proofs.Laws.Step.{verdict-decided, verdict-block, verdict-lent, verdict-judge, lent-medium, lent-pending}
+
+-- a verdict that moves nothing leaves every buffer as it is
+link-carried : (s : Drive) (q : Request) (x : LinkRefusal) → carriedOut (refuseLink (s .disc) x) s q ≡ untouched s q (Link x) (s .disc)
+unfolding carriedOut refuseLink sentBytes movedMedium movedPending transferredMedium transferredPending flushedMedium flushedPending
+link-carried s q x = ap (λ (b : List ℕ). record { answer = Link x; reply = _; recorded = 0; buffer = b; after = s }) (splice-nil (q .buffer) 0)
+
+refuse-carried :
+    (s : Drive) (q : Request) (x : DriveRefusal)
+    → carriedOut (refuse (s .disc) x) s q ≡ untouched s q (byDrive x) (withSense (s .disc) (refusalSense x))
+unfolding carriedOut refuse sentBytes movedMedium movedPending transferredMedium transferredPending flushedMedium flushedPending
+refuse-carried s q x =
+    ap (λ (b : List ℕ). record { answer = byDrive x; reply = _; recorded = 0; buffer = b; after = drive (withSense (s .disc) (refusalSense x)) (s .medium) (s .pending) })
+    (splice-nil (q .buffer) 0)
+
+-- demand 1: a link refusal changes nothing at all, a drive refusal the sense alone
+pub step-link : (s : Drive) (q : Request) (x : LinkRefusal) → step s q .answer ≡ Link x → step s q ≡ untouched s q (Link x) (s .disc)
+unfolding step carriedOut
+step-link s q x e =
+    ap (λ v. carriedOut v s q) (decided-link (s .disc) (verdictOn s q) x (verdict-decided s q) e) ∙ link-carried s q x
+
+pub step-refused :
+    (s : Drive) (q : Request) (x : DriveRefusal) → step s q .answer ≡ byDrive x
+    → step s q ≡ untouched s q (byDrive x) (withSense (s .disc) (refusalSense x))
+unfolding step carriedOut
+step-refused s q x e =
+    ap (λ v. carriedOut v s q) (decided-refused (s .disc) (verdictOn s q) x (verdict-decided s q) e) ∙ refuse-carried s q x
+
+-- the link's tests of what is lent, as cases: a refusal, or the disc decides
+pub verdict-cases :
+    {P : Type 0} (s : Drive) (q : Request) → ((x : LinkRefusal) → verdictOn s q ≡ refuseLink (s .disc) x → P)
+    → (length (q .block) ≡ 12 → lent (s .disc) (length (s .medium)) (length (s .pending)) ≡ true
+    → verdictOn s q ≡ judge (s .disc) (q .block) (length (q .sectors)) (length (q .buffer)) → P) → P
+verdict-cases s q link judged =
+    by-cases (eqb (length (q .block)) 12)
+    (λ b.
+    let block = eqb-true (length (q .block)) 12 b in
+    by-cases (lent (s .disc) (length (s .medium)) (length (s .pending)))
+    (λ l. judged block l (sym (verdict-judge s q block l)))
+    (λ l. link MediumSize (sym (verdict-lent s q block l))))
+    (λ b. link CommandBlockLength (sym (verdict-block s q (eqb-false (length (q .block)) 12 b))))
+
+-- what the disc has decided, with all that is known of it
+pub record Judgement (s : Drive) (q : Request) (v : Verdict) : Type 0 where
+  pub fits : Fits (length (s .medium)) (length (q .sectors)) (length (q .buffer)) v
+  pub block : length (s .pending) ≡ 32768
+  pub decided : Decided (s .disc) (decode (q .block)) (length (q .sectors)) (length (q .buffer)) v
+
+pub judgement :
+    (s : Drive) (q : Request) → lent (s .disc) (length (s .medium)) (length (s .pending)) ≡ true
+    → Judgement s q (judge (s .disc) (q .block) (length (q .sectors)) (length (q .buffer)))
+judgement s q l =
+    let n = length (q .sectors) in
+    let m = length (q .buffer) in
+    let d = s .disc in
+    record {
+      fits = judge-fits d (q .block) (length (s .medium)) n m (lent-medium d (length (s .medium)) (length (s .pending)) l);
+      block = lent-pending d (length (s .medium)) (length (s .pending)) l;
+      decided = judge-decided d (q .block) n m;
+    }
+
+carried-outside :
+    (s : Drive) (q : Request) (i : ℕ) (v : Verdict) → Judgement s q v → recordsBlock (v .plan) (i / 32768) ≡ false
+    → getD (carriedOut v s q .after .medium) i 0 ≡ getD (s .medium) i 0
+unfolding carriedOut
+carried-outside s q i v j none =
+    moved-kept (v .plan) (s .medium) (s .pending) (q .sectors) (j .block) (j .fits .flush) (j .fits .transfer) i none
+
+-- a step records in the blocks of its plan and nowhere else
+pub step-outside :
+    (s : Drive) (q : Request) (i : ℕ) → recordsBlock (verdictOn s q .plan) (i / 32768) ≡ false
+    → getD (step s q .after .medium) i 0 ≡ getD (s .medium) i 0
+unfolding step
+step-outside s q i none =
+    verdict-cases s q (λ x e. ap (λ (r : Result). getD (r .after .medium) i 0) (ap (λ v. carriedOut v s q) e ∙ link-carried s q x))
+    (λ b l e.
+    let v = judge (s .disc) (q .block) (length (q .sectors)) (length (q .buffer)) in
+    let j = judgement s q l in
+    ap (λ (v : Verdict). getD (carriedOut v s q .after .medium) i 0) e
+    ∙ carried-outside s q i v j (rw e at none))
+
+-- demand 2: what was recorded stays, byte for byte
+pub step-kept :
+    (s : Drive) (q : Request) (i : ℕ) → recordedByte (s .disc) i ≡ true → getD (step s q .after .medium) i 0 ≡ getD (s .medium) i 0
+step-kept s q i t =
+    let k : i / 2048 / 16 ≡ i / 32768 = omega arith in
+    step-outside s q i
+    (by-cases (recordsBlock (verdictOn s q .plan) (i / 32768))
+    (λ r.
+    absurd (decided-fresh (s .disc) (verdictOn s q) (lba (i / 2048)) (verdict-decided s q) (rw (ap (recordsBlock (verdictOn s q .plan)) k) r) t))
+    (λ r. r))
+
+-- recorded is what was recorded and the blocks of the plan, as a byte of the medium has it
+byte-recorded :
+    (s : Drive) (q : Request) (v : Verdict) (i : ℕ) → Judgement s q v → recordedByte (v .disc) i ≡ true
+    → (recordedByte (s .disc) i ≡ true) ⊎ (recordsBlock (v .plan) (i / 32768) ≡ true)
+byte-recorded s q v i j t =
+    let a = lba (i / 2048) in
+    let k : i / 2048 / 16 ≡ i / 32768 = omega arith in
+    or-cases (readable (s .disc) a) (recordsBlock (v .plan) (i / 2048 / 16)) (λ h. inl h) (λ h. inr (rw k at h))
+    (sym (decided-recorded (s .disc) v a (j .decided)) ∙ t)
+
+-- the bytes that are sent are recorded ones
+sent-alike :
+    (t : Transfer) (r : Reply) (m n : List ℕ) → length m ≡ length n
+    → ((a : Lba) (k : ℕ) → t ≡ Send a k
+    → (2048 * (a .0 + k) ≤ length m) × ((i : ℕ) → 2048 * a .0 ≤ i → i < 2048 * a .0 + 2048 * k → getD m i 0 ≡ getD n i 0))
+    → sentBytes t r m ≡ sentBytes t r n
+unfolding sentBytes
+sent-alike Nothing r m n l h = refl
+sent-alike (Send a k) r m n l h = let w = h a k refl in agree-run m n (2048 * a .0) (2048 * k) (omega (arith, w .0)) l (w .1)
+sent-alike (Gather b p k) r m n l h = refl
+sent-alike (Fill b k) r m n l h = refl
+
+-- two results that no controller can tell apart, on drives that stay alike
+pub record AlikeResults (r t : Result) : Type 0 where
+  pub answer : r .answer ≡ t .answer
+  pub reply : r .reply ≡ t .reply
+  pub recorded : r .recorded ≡ t .recorded
+  pub after : Alike (r .after) (t .after)
+
+module _
+    (d : Disc) (m n p q b x r u : List ℕ) (v : Verdict) (j : Judgement (drive d m p) (request b x r) v) (hm : length m ≡ length n)
+    (hp : length p ≡ length q) (same : (i : ℕ) → recordedByte d i ≡ true → getD m i 0 ≡ getD n i 0)
+    (held : take (2048 * d .pending) p ≡ take (2048 * d .pending) q)
+  where
+    other-block : length q ≡ 32768
+    other-block = sym hp ∙ j .block
+
+    pending : Pending d (v .plan) (v .disc)
+    pending = decided-pending d v (j .decided)
+
+    flush-sectors : (c : Block) (l : ℕ) → v .plan .flush ≡ Record c l → take (2048 * l) p ≡ take (2048 * l) q
+    flush-sectors c l e = rw (pending .flushed c l e .0) held
+
+    reply-alike : sentBytes (v .plan .transfer) (v .reply) m ≡ sentBytes (v .plan .transfer) (v .reply) n
+    reply-alike =
+        sent-alike (v .plan .transfer) (v .reply) m n hm
+        (λ a l e.
+        let w = decided-sends d v a l (j .decided) e in
+        let fits : 2048 * (a .0 + l) ≤ length m = rw e at (j .fits .transfer) in (
+          fits,
+          λ i from below.
+              same i
+              (let at : a .0 + (i / 2048 - a .0) ≡ i / 2048 = omega arith in
+              rw at at (all-readable-at d a l (w .readable-all) (i / 2048 - a .0) (omega arith))),
+        ))
+
+    -- the media after the flush, and then after the transfer
+    flushed-alike :
+        Agree (λ i. (recordedByte d i ≡ true) ⊎ (flushes (v .plan .flush) (i / 32768) ≡ true)) (flushedMedium (v .plan .flush) m p)
+        (flushedMedium (v .plan .flush) n q)
+    flushed-alike =
+        flushed-agree (λ i. recordedByte d i ≡ true) m n p q (j .block) other-block hm same (v .plan .flush) (j .fits .flush) flush-sectors
+
+    flushed-held :
+        take (2048 * flushedCount (v .plan .flush) (d .pending)) (flushedPending (v .plan .flush) p)
+        ≡ take (2048 * flushedCount (v .plan .flush) (d .pending)) (flushedPending (v .plan .flush) q)
+    flushed-held = flushed-sectors (v .plan .flush) (d .pending) p q held
+
+    flushed-length : length (flushedMedium (v .plan .flush) m p) ≡ length m
+    flushed-length = length-flushed-medium (v .plan .flush) m p (j .block) (j .fits .flush)
+
+    other-flush : FlushFits (length n) (v .plan .flush)
+    other-flush = subst (λ (l : ℕ). FlushFits l (v .plan .flush)) hm (j .fits .flush)
+
+    other-transfer : TransferFits (length n) (length x) (v .plan .transfer)
+    other-transfer = subst (λ (l : ℕ). TransferFits l (length x) (v .plan .transfer)) hm (j .fits .transfer)
+
+    medium-alike : (i : ℕ) → recordedByte (v .disc) i ≡ true → getD (movedMedium (v .plan) m p x) i 0 ≡ getD (movedMedium (v .plan) n q x) i 0
+    unfolding movedMedium recordsBlock
+    medium-alike i t =
+        let f = v .plan .flush in
+        let g = v .plan .transfer in
+        transferred-agree (λ i. (recordedByte d i ≡ true) ⊎ (flushes f (i / 32768) ≡ true)) (flushedMedium f m p) (flushedMedium f n q)
+        (flushedPending f p) (flushedPending f q) (length-flushed-pending f p (j .block)) (length-flushed-pending f q other-block)
+        (flushed-length ∙ (hm ∙ sym (length-flushed-medium f n q other-block other-flush))) flushed-alike g x
+        (subst (λ (l : ℕ). TransferFits l (length x) g) (sym flushed-length) (j .fits .transfer))
+        (λ c h l e. rw (pending .gathered c h l e .0) flushed-held)
+        i
+        (⊎-elim (λ h. inl (inl h))
+        (λ h. or-cases (flushes f (i / 32768)) (transfers g (i / 32768)) (λ w. inl (inr w)) (λ w. inr w) h)
+        (byte-recorded (drive d m p) (request b x r) v i j t))
+
+    sectors-alike : take (2048 * v .disc .pending) (movedPending (v .plan) p x) ≡ take (2048 * v .disc .pending) (movedPending (v .plan) q x)
+    unfolding movedPending
+    sectors-alike =
+        let f = v .plan .flush in
+        rw (pending .count)
+        (transferred-sectors (v .plan .transfer) (flushedCount f (d .pending)) (flushedPending f p) (flushedPending f q) x
+        (λ c h l e. pending .gathered c h l e .0) flushed-held)
+
+    pub carried-alike : AlikeResults (carriedOut v (drive d m p) (request b x r)) (carriedOut v (drive d n q) (request b x u))
+    unfolding carriedOut
+    carried-alike =
+        record {
+          answer = refl;
+          reply = reply-alike;
+          recorded = refl;
+          after =
+              record {
+                disc = refl;
+                mediumLength =
+                    length-moved-medium (v .plan) m p x (j .block) (j .fits .flush) (j .fits .transfer)
+                    ∙ (hm ∙ sym (length-moved-medium (v .plan) n q x other-block other-flush other-transfer));
+                pendingLength =
+                    length-moved-pending (v .plan) m p x (j .block) (j .fits .flush) (j .fits .transfer)
+                    ∙ sym (length-moved-pending (v .plan) n q x other-block other-flush other-transfer);
+                recorded = medium-alike;
+                pending = sectors-alike;
+              };
+        }
+
+module _
+    (d : Disc) (m n p q b x r u : List ℕ) (hm : length m ≡ length n) (hp : length p ≡ length q) (hr : length r ≡ length u)
+    (same : (i : ℕ) → recordedByte d i ≡ true → getD m i 0 ≡ getD n i 0) (held : take (2048 * d .pending) p ≡ take (2048 * d .pending) q)
+  where
+    verdict-alike : verdictOn (drive d m p) (request b x r) ≡ verdictOn (drive d n q) (request b x u)
+    unfolding verdictOn
+    verdict-alike = rw (hm, hp, hr)
+
+    untouched-alike :
+        (y : LinkRefusal) → AlikeResults (untouched (drive d m p) (request b x r) (Link y) d) (untouched (drive d n q) (request b x u) (Link y) d)
+    untouched-alike y =
+        record {
+          answer = refl;
+          reply = refl;
+          recorded = refl;
+          after = record { disc = refl; mediumLength = hm; pendingLength = hp; recorded = same; pending = held };
+        }
+
+    step-alike-plain : AlikeResults (step (drive d m p) (request b x r)) (step (drive d n q) (request b x u))
+    unfolding step
+    step-alike-plain =
+        let s = drive d m p in
+        let t = drive d n q in
+        let k = request b x r in
+        let l = request b x u in
+        verdict-cases s k
+        (λ y e.
+        rw (sym verdict-alike, ap (λ v. carriedOut v s k) e ∙ link-carried s k y, ap (λ v. carriedOut v t l) e ∙ link-carried t l y)
+        (untouched-alike y))
+        (λ block w e.
+        rw (sym verdict-alike, e) (carried-alike d m n p q b x r u (judge d b (length x) (length r)) (judgement s k w) hm hp same held))
+
+-- stale bytes decide nothing: alike drives, the same command and data and reply buffers of the same length
+pub step-alike :
+    (s t : Drive) (q u : Request) → Alike s t → q .block ≡ u .block → q .sectors ≡ u .sectors → length (q .buffer) ≡ length (u .buffer)
+    → AlikeResults (step s q) (step t u)
+step-alike s t q u a block sectors buffer =
+    let other : drive (s .disc) (t .medium) (t .pending) ≡ t = ap (λ (d : Disc). drive d (t .medium) (t .pending)) (a .disc) in
+    let given : request (q .block) (q .sectors) (u .buffer) ≡ u =
+    ap (λ (b : List ℕ). request b (q .sectors) (u .buffer)) block ∙ ap (λ (x : List ℕ). request (u .block) x (u .buffer)) sectors in
+    subst (λ (z : Drive). AlikeResults (step s q) (step z u)) other
+    (subst (λ (z : Request). AlikeResults (step s q) (step (drive (s .disc) (t .medium) (t .pending)) z)) given
+    (step-alike-plain (s .disc) (s .medium) (t .medium) (s .pending) (t .pending) (q .block) (q .sectors) (q .buffer) (u .buffer)
+    (a .mediumLength) (a .pendingLength) buffer (a .recorded)
+    (a .pending ∙ ap (λ (d : Disc). take (2048 * d .pending) (t .pending)) (sym (a .disc)))))
+
+-- alike is an equivalence
+pub alike-same : (s : Drive) → Alike s s
+alike-same s = record { disc = refl; mediumLength = refl; pendingLength = refl; recorded = λ i t. refl; pending = refl }
+
+pub alike-back : (s t : Drive) → Alike s t → Alike t s
+alike-back s t a =
+    record {
+      disc = sym (a .disc);
+      mediumLength = sym (a .mediumLength);
+      pendingLength = sym (a .pendingLength);
+      recorded = λ i h. sym (a .recorded i (rw (a .disc) h));
+      pending = sym (a .pending);
+    }
+
+pub alike-on : (s t u : Drive) → Alike s t → Alike t u → Alike s u
+alike-on s t u a b =
+    record {
+      disc = a .disc ∙ b .disc;
+      mediumLength = a .mediumLength ∙ b .mediumLength;
+      pendingLength = a .pendingLength ∙ b .pendingLength;
+      recorded = λ i h. a .recorded i h ∙ b .recorded i (ap (λ (d : Disc). recordedByte d i) (sym (a .disc)) ∙ h);
+      pending = a .pending ∙ b .pending;
+    }

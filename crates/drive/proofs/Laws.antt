@@ -7,3 +7,4 @@ pub mod Kept
 pub mod Reply
 pub mod Step
 pub mod Alike
+pub mod Cut

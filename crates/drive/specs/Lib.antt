@@ -5,3 +5,4 @@ pub mod Moves
 pub mod Reply
 pub mod Step
 pub mod Alike
+pub mod Writes

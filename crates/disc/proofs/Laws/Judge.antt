@@ -1,10 +1,10 @@
 -- What the decision about a command does to the disc.
-use Prim.Native.Nat.{ℕ, _+_, _-_, _/_, _≤_, min}
+use Prim.Native.Nat.{ℕ, _+_, _-_, _/_, _≤_, min, _*_}
 use mathlib.Core.Path.{_≡_, ap, refl}
 use mathlib.Core.Bool.{true, not, _||_}
 use mathlib.Core.List.{List, _++_}
 use native.Mathlib.Omega.{arith}
-use borrow.Author.Tests.{not-false, ltb-false}
+use borrow.Author.Tests.{not-false, ltb-false, eq-eqb, le-leb}
 use native.Mathlib.Nat.{le-refl}
 use lib.ListN.{length, replicate, length-append}
 use lib.Dec.{eqb, ltb}
@@ -16,13 +16,14 @@ use Rattle.disc.specs.Records.{lastReadable, records, used, isListed, ha
 use Rattle.disc.specs.Sound.{sound, allowedState}
 use Rattle.disc.specs.Blank.{inRange}
 use Rattle.disc.specs.Ready.{Ready}
-use Rattle.disc.specs.Lengths.{lengthsFit, replyRoom, capacityLength}
+use Rattle.disc.specs.Lengths.{lengthsFit, replyRoom, capacityLength, dataLength}
 use Rattle.disc.specs.Verdict.{refuseLink, noPlan, refuse, accepted, accept, report, rise}
 use Rattle.disc.specs.Read.{allReadable, read}
 use Rattle.disc.specs.Reports.{bytes32, senseBytes, requestSense, readCapacity, discInformation, readDiscInformation, trackInformation, trackReport, trackFound, trackNumbered, readTrackInformation}
 use Rattle.disc.specs.Judge.{testUnitReady, perform, judgeCommand, judge, Judged}
 use mathlib.Core.Logic.{⊎-elim}
 use Rattle.disc.specs.Recorded.{recordsBlock, flushes, transfers}
+use Rattle.disc.specs.Write.{write}
 use Rattle.disc.proofs.Laws.Pending.{Pending, pending-same}
 use Rattle.disc.proofs.Laws.Bool.{and-left, cond-cases, and-both, same-test, or-left, or-right, or-cases, contradiction}
 use Rattle.disc.proofs.Laws.Rules.{sound-rules}
@@ -175,6 +176,12 @@ module _ {c : Command} {n m : ℕ} (d : Disc) where
   decided-accepted v (onLink x) e = absurd (let z : _≡_ {A = ℕ} 0 1 = cc in omega arith)
   decided-accepted v (byDrive r a l) e = outcome-accepted d c _ (allowed-outcome d c r a) e
 
+  -- an accepted command got past the link
+  pub decided-served : (v : Verdict) → Decided d c n m v → v .answer ≡ Accepted → (inRange (d .capacity) ≡ true) × (allowedState d ≡ true)
+  unfolding refuseLink
+  decided-served v (onLink x) e = absurd (let z : _≡_ {A = ℕ} 0 1 = cc in omega arith)
+  decided-served v (byDrive r a l) e = (r, a)
+
   -- every decision keeps a disc ready, its capacity, and every sector that was readable
   pub decided-ready : (v : Verdict) → Ready d → Decided d c n m v → Ready (v .disc)
   unfolding refuseLink
@@ -255,6 +262,20 @@ module _ {c : Command} {n m : ℕ} (d : Disc) where
 
   pub decided-readable : (v : Verdict) (a : Lba) → Decided d c n m v → readable d a ≡ true → readable (v .disc) a ≡ true
   decided-readable v a w t = readable-onward d (v .disc) _ a (decided-onward v w) t
+
+-- a command that the link lets through is performed
+pub judge-performs :
+    (d : Disc) (b : List ℕ) (n m : ℕ) (c : Command) → length b ≡ 12 → decode b ≡ c → inRange (d .capacity) ≡ true → allowedState d ≡ true
+    → lengthsFit c n m ≡ true → judge d b n m ≡ perform d c
+unfolding judge judgeCommand
+judge-performs d b n m c l e r a f = rw (eq-eqb (length b) 12 l, e, r, a, f)
+
+pub judge-writes :
+    (d : Disc) (b : List ℕ) (n m : ℕ) (a : Lba) (k : ℕ) → length b ≡ 12 → decode b ≡ Write a k → inRange (d .capacity) ≡ true
+    → allowedState d ≡ true → n ≡ 2048 * k → judge d b n m ≡ write d a k
+unfolding perform lengthsFit dataLength replyRoom
+judge-writes d b n m a k l e r s f =
+    judge-performs d b n m (Write a k) l e r s (and-both (eq-eqb n (2048 * k) f) (le-leb 0 m (omega arith)))
 
 -- blocks with the same fields are decided alike, whatever stands in the bytes that no field reads
 pub judge-decodes :

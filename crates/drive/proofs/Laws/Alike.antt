@@ -121,6 +121,31 @@ step-kept s q i t =
     absurd (decided-fresh (s .disc) (verdictOn s q) (lba (i / 2048)) (verdict-decided s q) (rw (ap (recordsBlock (verdictOn s q .plan)) k) r) t))
     (λ r. r))
 
+-- lengths stay
+carried-lengths :
+    (s : Drive) (q : Request) (v : Verdict) → Judgement s q v
+    → (length (carriedOut v s q .after .medium) ≡ length (s .medium)) × (length (carriedOut v s q .after .pending) ≡ length (s .pending))
+unfolding carriedOut
+carried-lengths s q v j = (
+  length-moved-medium (v .plan) (s .medium) (s .pending) (q .sectors) (j .block) (j .fits .flush) (j .fits .transfer),
+  length-moved-pending (v .plan) (s .medium) (s .pending) (q .sectors) (j .block) (j .fits .flush) (j .fits .transfer) ∙ sym (j .block),
+)
+
+pub step-lengths :
+    (s : Drive) (q : Request)
+    → (length (step s q .after .medium) ≡ length (s .medium)) × (length (step s q .after .pending) ≡ length (s .pending))
+unfolding step
+step-lengths s q =
+    verdict-cases s q
+    (λ x e.
+    let r = ap (λ v. carriedOut v s q) e ∙ link-carried s q x in
+    (ap (λ (r : Result). length (r .after .medium)) r, ap (λ (r : Result). length (r .after .pending)) r))
+    (λ b l e.
+    let w = carried-lengths s q (judge (s .disc) (q .block) (length (q .sectors)) (length (q .buffer))) (judgement s q l) in (
+      ap (λ (v : Verdict). length (carriedOut v s q .after .medium)) e ∙ w .0,
+      ap (λ (v : Verdict). length (carriedOut v s q .after .pending)) e ∙ w .1,
+    ))
+
 -- recorded is what was recorded and the blocks of the plan, as a byte of the medium has it
 byte-recorded :
     (s : Drive) (q : Request) (v : Verdict) (i : ℕ) → Judgement s q v → recordedByte (v .disc) i ≡ true

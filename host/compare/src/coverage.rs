@@ -1,0 +1,175 @@
+//! What a comparison has reached.
+
+use crate::blocks::{self, Block};
+use crate::situations::{Event, SITUATIONS};
+use gladhamre::State;
+use std::collections::BTreeMap;
+use std::fmt;
+
+/// Counts over the commands compared.
+#[derive(Clone, Debug, Default)]
+pub struct Coverage {
+    pub commands: u64,
+    /// How often each command got each answer.
+    pub answers: BTreeMap<(&'static str, u32), u64>,
+    /// How often each of the situations came.
+    situations: [u64; SITUATIONS.len()],
+    pub blocks_recorded: u64,
+    pub most_records: usize,
+    pub most_sessions: u32,
+    pub most_incomplete: usize,
+    /// Commands that left a finalized disc.
+    pub finalized: u64,
+    /// Commands that left a disc with no incomplete fragment that is not finalized.
+    pub full: u64,
+    /// How often a command left so many sectors pending.
+    pub pending_counts: [u64; 16],
+    pub images_injected: u64,
+}
+
+impl Coverage {
+    /// Counts a command whose block does not have twelve bytes.
+    pub fn note_cut_block(&mut self, number: u32) {
+        self.commands += 1;
+        *self.answers.entry(("not 12 bytes", number)).or_default() += 1;
+    }
+
+    /// Counts a command.
+    pub fn note(&mut self, event: &Event) {
+        self.commands += 1;
+        let number = event.answer.number;
+        *self.answers.entry((command_name(event.block), number)).or_default() += 1;
+        if !(1..=4).contains(&number) {
+            self.blocks_recorded += event.answer.recorded;
+            self.note_state(event.after);
+            for (count, (_, is_met)) in self.situations.iter_mut().zip(SITUATIONS) {
+                *count += u64::from(is_met(event));
+            }
+        }
+    }
+
+    fn note_state(&mut self, state: &State) {
+        let mut records = 0;
+        let mut incomplete = 0;
+        for record in state.records() {
+            records += 1;
+            incomplete += usize::from(record.recorded < record.length);
+            self.most_sessions = self.most_sessions.max(record.session);
+        }
+        let finalized = state.finalized() == 1;
+        self.most_records = self.most_records.max(records);
+        self.most_incomplete = self.most_incomplete.max(incomplete);
+        self.finalized += u64::from(finalized);
+        self.full += u64::from(incomplete == 0 && !finalized);
+        if let Some(count) = self.pending_counts.get_mut(state.pending_count() as usize) {
+            *count += 1;
+        }
+    }
+
+    /// How often an answer came, whatever the command.
+    pub fn answered(&self, number: u32) -> u64 {
+        let of_number = |(&(_, given), &count)| if given == number { count } else { 0 };
+        self.answers.iter().map(of_number).sum()
+    }
+
+    /// Adds the counts of another comparison.
+    pub fn add(&mut self, other: &Coverage) {
+        self.commands += other.commands;
+        for (&key, &count) in &other.answers {
+            *self.answers.entry(key).or_default() += count;
+        }
+        add_counts(&mut self.situations, &other.situations);
+        self.blocks_recorded += other.blocks_recorded;
+        self.most_records = self.most_records.max(other.most_records);
+        self.most_sessions = self.most_sessions.max(other.most_sessions);
+        self.most_incomplete = self.most_incomplete.max(other.most_incomplete);
+        self.finalized += other.finalized;
+        self.full += other.full;
+        add_counts(&mut self.pending_counts, &other.pending_counts);
+        self.images_injected += other.images_injected;
+    }
+
+    /// How often each situation came.
+    pub fn situations(&self) -> impl Iterator<Item = (u64, &'static str)> + '_ {
+        let named = self.situations.iter().zip(SITUATIONS);
+        named.map(|(&count, (name, _))| (count, name))
+    }
+
+    fn answers_of(&self, command: &str) -> String {
+        let of_command = self.answers.iter().filter(|((name, _), _)| *name == command);
+        let counts: Vec<String> = of_command
+            .map(|((_, number), count)| format!("{} {count}", answer_name(*number)))
+            .collect();
+        counts.join(", ")
+    }
+}
+
+fn add_counts(sums: &mut [u64], counts: &[u64]) {
+    for (sum, count) in sums.iter_mut().zip(counts) {
+        *sum += count;
+    }
+}
+
+impl fmt::Display for Coverage {
+    fn fmt(&self, out: &mut fmt::Formatter) -> fmt::Result {
+        writeln!(out, "answers of each command:")?;
+        let mut names: Vec<&str> = self.answers.keys().map(|(name, _)| *name).collect();
+        names.dedup();
+        for name in names {
+            writeln!(out, "  {name}: {}", self.answers_of(name))?;
+        }
+        writeln!(out, "situations:")?;
+        for (count, name) in self.situations() {
+            writeln!(out, "{count:>12} {name}")?;
+        }
+        writeln!(
+            out,
+            "deepest states: {} records, {} of them incomplete, {} sessions",
+            self.most_records, self.most_incomplete, self.most_sessions
+        )?;
+        writeln!(out, "commands that left 0 to 15 sectors pending: {:?}", self.pending_counts)?;
+        writeln!(
+            out,
+            "commands on a finalized disc: {}, on a full one: {}",
+            self.finalized, self.full
+        )?;
+        writeln!(
+            out,
+            "images injected: {}, blocks recorded: {}",
+            self.images_injected, self.blocks_recorded
+        )?;
+        write!(out, "commands compared: {}", self.commands)
+    }
+}
+
+/// A command as document 01 lists it.
+fn command_name(block: &Block) -> &'static str {
+    match (block[0], block[1] & 0b11, block[2] & 0b111) {
+        (blocks::TEST_UNIT_READY, _, _) => "00h",
+        (blocks::REQUEST_SENSE, _, _) => "03h",
+        (blocks::READ_CAPACITY, _, _) => "25h",
+        (blocks::READ, _, _) => "28h READ",
+        (blocks::WRITE, _, _) => "2Ah WRITE",
+        (blocks::SYNCHRONIZE_CACHE, _, _) => "35h",
+        (blocks::READ_DISC_INFORMATION, _, _) => "51h",
+        (blocks::READ_FRAGMENT_INFORMATION, 0, _) => "52h address",
+        (blocks::READ_FRAGMENT_INFORMATION, 1, _) => "52h number",
+        (blocks::READ_FRAGMENT_INFORMATION, _, _) => "52h other",
+        (blocks::RESERVE, _, _) => "53h RESERVE",
+        (blocks::CLOSE, _, blocks::FRAGMENT) => "5Bh CLOSE 001",
+        (blocks::CLOSE, _, blocks::SESSION) => "5Bh CLOSE 010",
+        (blocks::CLOSE, _, blocks::FINALIZE) => "5Bh CLOSE 110",
+        (blocks::CLOSE, _, _) => "5Bh CLOSE other",
+        _ => "unlisted",
+    }
+}
+
+/// An answer's number as document 01 writes it.
+pub fn answer_name(number: u32) -> String {
+    let [_, key, code, qualifier] = number.to_be_bytes();
+    match number {
+        0 => "accepted".into(),
+        1..=4 => format!("L{number}"),
+        _ => format!("{key:X}/{code:02X}/{qualifier:02X}"),
+    }
+}

@@ -1,0 +1,250 @@
+//! Demand 3 on one drive alone: a sequence of commands from a blank disc, and the same sequence
+//! again with WRITEs cut into parts and other stale bytes.
+
+use crate::bench::Bench;
+use crate::blocks;
+use crate::history::{Ledger, Writes};
+use crate::outline::{Outline, Place};
+use crate::pool::OFFSETS;
+use crate::rounds::theme;
+use crate::{Drive, Generator, Random, Request};
+use gladhamre::{Answer, SECTOR_BYTES};
+
+/// What a check has gone through.
+#[derive(Clone, Copy, Debug, Default)]
+pub struct Tally {
+    pub commands: u64,
+    pub writes_cut: u64,
+    pub parts: u64,
+    /// WRITEs tried whole and in parts from the same state, and how many of them were accepted.
+    pub tried: u64,
+    pub tried_accepted: u64,
+}
+
+/// A command of the first run with its answer.
+struct Turn {
+    request: Request,
+    answer: Answer,
+    reply: Vec<u8>,
+}
+
+/// Checks one random sequence on a disc of that many blocks.
+pub fn check(drive: &dyn Drive, capacity: u32, seed: u64, tally: &mut Tally) -> Result<(), String> {
+    let mut random = Random::new(seed);
+    let start = random.draw();
+    let disturbed = random.once_in(2);
+    let mut first = Bench::blank(drive, capacity, &mut Random::new(start))?;
+    let turns = first_run(&mut first, &mut random, disturbed, tally)?;
+    let mut second = Bench::blank(drive, capacity, &mut random)?;
+    second_run(&mut second, &turns, &mut random, true, tally)?;
+    first.same_disc(&second)?;
+    if !disturbed {
+        let mut third = Bench::blank(drive, capacity, &mut Random::new(start))?;
+        second_run(&mut third, &turns, &mut random, false, tally)?;
+        first.same_disc(&third)?;
+        first.same_bytes(&third)?;
+    }
+    Ok(())
+}
+
+/// Draws and sends the commands. No recorded block may change, and each holds what the history
+/// says; now and then a WRITE is tried whole and in parts.
+fn first_run(
+    bench: &mut Bench,
+    random: &mut Random,
+    disturbed: bool,
+    tally: &mut Tally,
+) -> Result<Vec<Turn>, String> {
+    let mut generator = Generator::new(random.draw());
+    generator.buffers_right = true;
+    let mut ledger = Ledger::new(bench.state.capacity());
+    let mut writes = Writes::new(bench.state.capacity());
+    let mut turns = Vec::new();
+    for (mood, commands) in theme(random) {
+        generator.mood = mood;
+        for _ in 0..commands {
+            if disturbed && random.once_in(3) {
+                bench.change_stale(random);
+            }
+            let request = generator.request(&bench.state, bench.medium.len());
+            let before = bench.state.clone();
+            let (answer, reply) = bench.command(&request);
+            writes.note(&request, &answer, &before);
+            turns.push(Turn { request, answer, reply });
+            ledger.note(bench)?;
+            if random.once_in(40) {
+                try_cut(bench, random, tally)?;
+            }
+        }
+        ledger.check(bench)?;
+        writes.check(bench)?;
+    }
+    tally.commands += turns.len() as u64;
+    Ok(turns)
+}
+
+/// Sends the same commands again, some accepted WRITEs in parts.
+fn second_run(
+    bench: &mut Bench,
+    turns: &[Turn],
+    random: &mut Random,
+    disturbed: bool,
+    tally: &mut Tally,
+) -> Result<(), String> {
+    for (number, turn) in turns.iter().enumerate() {
+        if disturbed && random.once_in(3) {
+            bench.change_stale(random);
+        }
+        let parts = cut(turn, random);
+        let outcome = if parts.is_empty() {
+            repeat(bench, turn)
+        } else {
+            tally.writes_cut += 1;
+            tally.parts += parts.len() as u64;
+            send_parts(bench, turn, &parts, random, disturbed)
+        };
+        outcome.map_err(|what| {
+            format!("command {number}, block {:02X?}: {what}", turn.request.block)
+        })?;
+    }
+    Ok(())
+}
+
+/// A command that is not cut answers alike.
+fn repeat(bench: &mut Bench, turn: &Turn) -> Result<(), String> {
+    let (answer, reply) = bench.command(&turn.request);
+    if answer != turn.answer {
+        return Err(format!("{:X?} became {answer:X?}", turn.answer));
+    }
+    if reply != turn.reply {
+        return Err("other reply bytes".into());
+    }
+    Ok(())
+}
+
+/// The parts are accepted and record as many blocks together.
+fn send_parts(
+    bench: &mut Bench,
+    turn: &Turn,
+    parts: &[Request],
+    random: &mut Random,
+    disturbed: bool,
+) -> Result<(), String> {
+    let mut recorded = 0;
+    for part in parts {
+        if disturbed && random.once_in(3) {
+            bench.change_stale(random);
+        }
+        let (answer, _) = bench.command(part);
+        if answer.number != 0 {
+            return Err(format!("a part is refused by {:X}", answer.number));
+        }
+        recorded += answer.recorded;
+    }
+    if recorded != turn.answer.recorded {
+        return Err(format!("{} blocks became {recorded}", turn.answer.recorded));
+    }
+    Ok(())
+}
+
+/// The parts of an accepted WRITE, none if it stays whole.
+fn cut(turn: &Turn, random: &mut Random) -> Vec<Request> {
+    let is_write = turn.request.block[..].first() == Some(&blocks::WRITE);
+    let long_enough = turn.request.data_length >= 2 * SECTOR_BYTES;
+    if turn.answer.number != 0 || !is_write || !long_enough || random.once_in(4) {
+        return Vec::new();
+    }
+    parts(&turn.request, random)
+}
+
+/// Cuts a WRITE of two sectors or more.
+fn parts(whole: &Request, random: &mut Random) -> Vec<Request> {
+    let (address, sectors) = whole.twelve().map_or((0, 0), |block| blocks::run(&block));
+    let mut parts = Vec::new();
+    let mut done = 0;
+    for length in part_lengths(sectors, random) {
+        let mut block = [0; 12];
+        random.fill(&mut block);
+        block[0] = blocks::WRITE;
+        blocks::set_run(&mut block, address + u32::from(done), length);
+        let mut part = Request::fitting(block, 0);
+        part.medium_length = whole.medium_length;
+        part.data_offset = whole.data_offset + usize::from(done) * SECTOR_BYTES;
+        part.reply_length = random.below(100) as usize;
+        parts.push(part);
+        done += length;
+    }
+    parts
+}
+
+/// Lengths of at least 1 that add up: single sectors, or a few parts.
+fn part_lengths(sectors: u16, random: &mut Random) -> Vec<u16> {
+    if sectors <= 100 && random.once_in(4) {
+        return vec![1; sectors.into()];
+    }
+    let mut left = sectors;
+    let mut lengths = Vec::new();
+    for _ in 0..random.between(1, 5) {
+        if left > 1 {
+            let length = random.between(1, u64::from(left) - 1) as u16;
+            lengths.push(length);
+            left -= length;
+        }
+    }
+    lengths.push(left);
+    lengths
+}
+
+/// From the same state, a WRITE is accepted exactly when all its parts are.
+fn try_cut(bench: &Bench, random: &mut Random, tally: &mut Tally) -> Result<(), String> {
+    let request = some_write(bench, random);
+    let mut whole = bench.clone();
+    let mut cut = bench.clone();
+    whole.change_stale(random);
+    let accepted = whole.command(&request).0.number == 0;
+    let all_accepted = parts(&request, random).iter().all(|part| {
+        cut.change_stale(random);
+        cut.command(part).0.number == 0
+    });
+    tally.tried += 1;
+    tally.tried_accepted += u64::from(accepted);
+    if accepted != all_accepted {
+        return Err(format!(
+            "block {:02X?}: whole accepted {accepted}, in parts {all_accepted}",
+            request.block
+        ));
+    }
+    if accepted {
+        whole.same_disc(&cut)?;
+    }
+    Ok(())
+}
+
+/// A WRITE of 2 to 65,535 sectors, mostly at a next writable address.
+fn some_write(bench: &Bench, random: &mut Random) -> Request {
+    let outline = Outline::new(&bench.state);
+    let open: Vec<&Place> = outline.places.iter().filter(|place| place.is_incomplete()).collect();
+    let (next, room) = match open.is_empty() {
+        true => (0, 0),
+        false => {
+            let place = random.pick(&open);
+            (place.next, place.room)
+        }
+    };
+    let sectors = match random.below(8) {
+        0 => 65_535,
+        1 => random.between(2, 65_535),
+        2 => room + 1,
+        3 | 4 => room,
+        _ => random.between(2, 40),
+    };
+    let address = match random.below(8) {
+        0 => random.draw() >> 33,
+        1 => next + 1,
+        _ => next,
+    };
+    let block = blocks::write(address as u32, sectors.clamp(2, 65_535) as u16);
+    let mut request = Request::fitting(block, bench.state.capacity());
+    request.data_offset = random.below(OFFSETS as u64) as usize;
+    request
+}

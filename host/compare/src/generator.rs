@@ -1,0 +1,335 @@
+//! Requests drawn at random, with an eye on the state: boundaries of fragments, lengths that just
+//! fit or just do not, and now and then junk.
+
+use crate::blocks::{self, Block};
+use crate::mood::{Kind, Mood, KINDS};
+use crate::outline::{Outline, Place};
+use crate::pool::OFFSETS;
+use crate::{Random, Request};
+use gladhamre::State;
+
+/// Draws requests.
+pub struct Generator {
+    pub random: Random,
+    pub mood: Mood,
+    /// State, medium and pending buffer always have the right lengths.
+    pub buffers_right: bool,
+    /// WRITEs longer than this, in sectors, are rare where they fit.
+    pub long_write: u64,
+}
+
+impl Generator {
+    pub fn new(seed: u64) -> Generator {
+        Generator {
+            random: Random::new(seed),
+            mood: Mood::Writing,
+            buffers_right: false,
+            long_write: 600,
+        }
+    }
+
+    /// A request for a drive in that state, its medium in a buffer of so many bytes.
+    pub fn request(&mut self, state: &State, allocated: usize) -> Request {
+        let outline = Outline::new(state);
+        let mut block = [0; 12];
+        self.random.fill(&mut block);
+        let kind = self.kind(&outline);
+        self.set_fields(kind, &outline, &mut block);
+        let mut request = Request::fitting(block, state.capacity());
+        request.medium_length = request.medium_length.min(allocated);
+        request.data_offset = self.random.below(OFFSETS as u64) as usize;
+        request.reply_length += self.extra_room();
+        if self.random.once_in(self.mood.spoils_once_in()) {
+            self.spoil(&mut request, allocated);
+        }
+        request
+    }
+
+    /// What the mood says, or what the disc is at the edge of.
+    fn kind(&mut self, outline: &Outline) -> Kind {
+        let edge = outline.edge().filter(|edge| match edge {
+            Kind::Finalize => self.random.once_in(30),
+            _ => self.random.once_in(3),
+        });
+        edge.unwrap_or_else(|| KINDS[self.random.weighted(&self.mood.weights())])
+    }
+
+    /// Sets the bytes that document 01 names; all others stay random.
+    fn set_fields(&mut self, kind: Kind, outline: &Outline, block: &mut Block) {
+        match kind {
+            Kind::TestUnitReady => block[0] = blocks::TEST_UNIT_READY,
+            Kind::RequestSense => {
+                block[0] = blocks::REQUEST_SENSE;
+                block[4] = self.allocation(18) as u8;
+            }
+            Kind::ReadCapacity => block[0] = blocks::READ_CAPACITY,
+            Kind::Read => self.set_read(outline, block),
+            Kind::Write => self.set_write(outline, block),
+            Kind::SynchronizeCache => block[0] = blocks::SYNCHRONIZE_CACHE,
+            Kind::Reserve => self.set_reserve(outline, block),
+            Kind::CloseFragment => self.set_close_fragment(outline, block),
+            Kind::CloseSession => set_function(block, blocks::SESSION),
+            Kind::Finalize => set_function(block, blocks::FINALIZE),
+            Kind::CloseOther => {
+                let function = self.random.pick(&[0b000, 0b011, 0b100, 0b101, 0b111]);
+                set_function(block, function);
+            }
+            Kind::DiscInformation => self.set_disc_information(block),
+            Kind::FragmentInformation => self.set_fragment_information(outline, block),
+            Kind::Junk => self.set_junk(block),
+        }
+    }
+
+    fn set_read(&mut self, outline: &Outline, block: &mut Block) {
+        block[0] = blocks::READ;
+        let readable = self.place(outline, |place| place.recorded_end > place.first);
+        let (from, sectors) = match readable {
+            Some(place) if !self.random.once_in(3) => self.read_near(&place),
+            _ => self.read_anywhere(outline),
+        };
+        let sectors = if self.random.once_in(30) { 0 } else { sectors };
+        blocks::set_run(block, from as u32, sectors as u16);
+    }
+
+    /// A run that begins in the recorded part, and often ends next to its end.
+    fn read_near(&mut self, place: &Place) -> (u64, u64) {
+        let recorded = place.recorded_end - place.first;
+        let offset = match self.random.below(4) {
+            0 => 0,
+            1 => recorded - 1,
+            _ => self.random.below(recorded),
+        };
+        let left = recorded - offset;
+        let longest = left.min(if self.random.once_in(50) { 65_534 } else { 100 });
+        let sectors = match self.random.below(5) {
+            0 => 1,
+            1 => longest,
+            2 => longest + 1,
+            3 => self.random.between(1, longest),
+            _ => self.random.between(1, 40),
+        };
+        (place.first + offset, sectors)
+    }
+
+    fn read_anywhere(&mut self, outline: &Outline) -> (u64, u64) {
+        let sectors = match self.random.below(1_500) {
+            0 => 65_535,
+            drawn if drawn < 500 => 1,
+            _ => self.random.between(1, 40),
+        };
+        let from = match self.random.below(6) {
+            0 => outline.sectors.saturating_sub(sectors),
+            1 => (outline.sectors + 1).saturating_sub(sectors),
+            _ => self.boundary(outline),
+        };
+        (from, sectors)
+    }
+
+    fn set_write(&mut self, outline: &Outline, block: &mut Block) {
+        block[0] = blocks::WRITE;
+        let wanted = self.write_target(outline);
+        let (to, sectors) = match wanted {
+            Some(place) if !self.random.once_in(8) => {
+                (place.next, self.write_length(outline, &place))
+            }
+            Some(place) => (self.near_miss(&place), self.random.between(0, 40)),
+            None => (self.boundary(outline), self.random.between(0, 40)),
+        };
+        blocks::set_run(block, to as u32, sectors.min(65_535) as u16);
+    }
+
+    /// Some incomplete fragment: reserved ones first where the tail should stay blank.
+    fn write_target(&mut self, outline: &Outline) -> Option<Place> {
+        let preferred = match self.mood {
+            Mood::Reserving | Mood::Completing => {
+                self.place(outline, |place| place.is_incomplete() && place.reserved)
+            }
+            Mood::Filling => self.place(outline, Place::is_tail),
+            _ => None,
+        };
+        preferred.or_else(|| self.place(outline, Place::is_incomplete))
+    }
+
+    /// A length around what the block or the fragment still takes.
+    fn write_length(&mut self, outline: &Outline, place: &Place) -> u64 {
+        let to_block_end = 16 - place.pending.min(15);
+        let completes = self.mood == Mood::Completing && place.room <= self.long_write;
+        if completes && !self.random.once_in(5) {
+            return place.room;
+        }
+        match self.mood {
+            Mood::Closing if self.random.once_in(8) => {
+                return self.length_to_session_edge(outline, place)
+            }
+            Mood::Fragmenting if !self.random.once_in(6) => return self.random.between(1, 20),
+            _ => {}
+        }
+        match self.random.below(40) {
+            0 => 0,
+            1..=3 => to_block_end,
+            4..=5 => to_block_end + 1,
+            6 => to_block_end - 1,
+            7..=9 => self.whole_room(place),
+            10..=12 => place.room + 1,
+            13 => place.room + self.random.between(1, 20),
+            14 if self.random.once_in(20) => 65_535,
+            15 => self.length_to_session_edge(outline, place),
+            16..=18 => self.random.between(1, place.room.min(self.long_write)),
+            19..=28 => self.random.between(1, 3),
+            _ => self.random.between(1, 48),
+        }
+    }
+
+    /// All the room that is left or a little less, unless that is very long: then rarely.
+    fn whole_room(&mut self, place: &Place) -> u64 {
+        let rare = place.room > self.long_write && self.mood != Mood::Filling;
+        if rare && !self.random.once_in(20) {
+            return self.random.between(1, 32);
+        }
+        place.room.saturating_sub(self.random.pick(&[0, 0, 1, 15, 16, 17, 31]))
+    }
+
+    /// So long that the last session that fits, or the first that does not, can follow.
+    fn length_to_session_edge(&mut self, outline: &Outline, place: &Place) -> u64 {
+        let edge = outline.sectors.saturating_sub(16 * 128 + self.random.pick(&[0, 1, 16, 17]));
+        let distance = edge.saturating_sub(place.next);
+        if distance > 4 * self.long_write && !self.random.once_in(20) {
+            return 1;
+        }
+        distance
+    }
+
+    /// An address beside the next writable one, or one that would be right without the pending
+    /// sectors or after a flush.
+    fn near_miss(&mut self, place: &Place) -> u64 {
+        match self.random.below(6) {
+            0 => place.next + 1,
+            1 => place.next.saturating_sub(1),
+            2 => place.recorded_end,
+            3 => place.recorded_end + 16,
+            4 => place.end,
+            _ => place.first,
+        }
+    }
+
+    fn set_reserve(&mut self, outline: &Outline, block: &mut Block) {
+        block[0] = blocks::RESERVE;
+        let room = outline.places.last().map_or(0, |place| place.room);
+        let most = room.saturating_sub(32);
+        let size = match self.random.below(if self.mood == Mood::Reserving { 120 } else { 16 }) {
+            0 => 0,
+            1 if self.random.once_in(4) => most,
+            2 => most + 1,
+            3 if self.random.once_in(4) => most.saturating_sub(self.random.below(64)),
+            4 => u64::from(u32::MAX) - self.random.below(20),
+            5 => self.random.draw() >> 32,
+            6 => self.random.between(1, most.max(1)),
+            _ => self.random.between(1, 48),
+        };
+        blocks::set_size(block, size as u32);
+    }
+
+    /// The last fragment more often than others.
+    fn set_close_fragment(&mut self, outline: &Outline, block: &mut Block) {
+        set_function(block, blocks::FRAGMENT);
+        let count = outline.places.len() as u64;
+        let number = match self.random.below(20) {
+            _ if self.mood == Mood::Fragmenting && self.random.once_in(2) => count,
+            0 => 0,
+            1 => count + 1,
+            2 => 0xFF,
+            3 => 0x100 + self.random.between(1, count),
+            4..=9 => count,
+            _ => self.random.between(1, count),
+        };
+        blocks::set_number(block, number as u16);
+    }
+
+    fn set_disc_information(&mut self, block: &mut Block) {
+        block[0] = blocks::READ_DISC_INFORMATION;
+        block[1] &= 0b1111_1000;
+        if self.random.once_in(8) {
+            block[1] |= self.random.between(1, 7) as u8;
+        }
+        let allocation = self.allocation(34);
+        blocks::set_allocation(block, allocation);
+    }
+
+    fn set_fragment_information(&mut self, outline: &Outline, block: &mut Block) {
+        block[0] = blocks::READ_FRAGMENT_INFORMATION;
+        let by = self.random.weighted(&[10, 10, 1, 1]) as u8;
+        block[1] = block[1] & 0b1111_1100 | by;
+        let count = outline.places.len() as u64;
+        let value = match self.random.below(10) {
+            _ if by != 1 => self.boundary(outline),
+            0 => 0,
+            1 => count + 1,
+            2 => 0xFF,
+            3 => self.random.draw() << 8 | 0xFF,
+            4 => self.random.draw() << 8 | count,
+            _ => self.random.between(1, count),
+        };
+        blocks::set_value(block, value as u32);
+        let allocation = self.allocation(36);
+        blocks::set_allocation(block, allocation);
+    }
+
+    /// Any bytes; where a listed opcode is put there, the transfer is short.
+    fn set_junk(&mut self, block: &mut Block) {
+        if self.random.once_in(4) {
+            block[0] = self.random.pick(&blocks::OPCODES);
+            block[7] = 0;
+        }
+    }
+
+    /// An allocation length around the length of the reply.
+    fn allocation(&mut self, whole: u16) -> u16 {
+        match self.random.below(6) {
+            0 => self.random.below(u64::from(whole) + 4) as u16,
+            1 => whole - 1,
+            2 => whole + 1,
+            3 => self.random.draw() as u16,
+            _ => whole,
+        }
+    }
+
+    /// An address at or beside a boundary of the disc or of a fragment.
+    fn boundary(&mut self, outline: &Outline) -> u64 {
+        let place = self.place(outline, |_| true);
+        let of_place = |boundary: fn(&Place) -> u64| place.as_ref().map_or(0, boundary);
+        let base = match self.random.below(8) {
+            0 => 0,
+            1 => outline.sectors,
+            2 => of_place(|place| place.first),
+            3 => of_place(|place| place.end),
+            4 => of_place(|place| place.recorded_end),
+            5 => of_place(|place| place.next),
+            6 => self.random.below(outline.sectors),
+            _ if self.random.once_in(4) => self.random.draw() >> 32,
+            _ => of_place(|place| place.end + 15),
+        };
+        let step = self.random.pick(&[-17, -16, -1, 0, 0, 0, 0, 1, 15, 16]);
+        base.saturating_add_signed(step)
+    }
+
+    /// Any fragment of the wanted sort.
+    fn place(&mut self, outline: &Outline, wanted: impl Fn(&Place) -> bool) -> Option<Place> {
+        let count = outline.places.iter().filter(|place| wanted(place)).count();
+        let drawn = self.random.below(count as u64) as usize;
+        outline.places.iter().filter(|place| wanted(place)).nth(drawn).copied()
+    }
+
+    /// More room in the reply buffer than the reply needs.
+    fn extra_room(&mut self) -> usize {
+        match self.random.below(4) {
+            0 => 0,
+            1 => 1,
+            _ => self.random.below(80) as usize,
+        }
+    }
+}
+
+fn set_function(block: &mut Block, function: u8) {
+    block[0] = blocks::CLOSE;
+    block[2] = block[2] & 0b1111_1000 | function;
+}

@@ -1,0 +1,72 @@
+//! Lengths that are wrong: of block, data, reply buffer, medium, pending buffer or state image.
+
+use crate::{Generator, Request};
+use gladhamre::{BLOCK_BYTES, SECTOR_BYTES};
+
+impl Generator {
+    /// Makes one length wrong, or several.
+    pub(crate) fn spoil(&mut self, request: &mut Request, allocated: usize) {
+        loop {
+            match self.random.below(if self.buffers_right { 3 } else { 6 }) {
+                0 => self.spoil_block(&mut request.block),
+                1 => request.data_length = self.wrong_data_length(request.data_length),
+                2 => request.reply_length = self.shorter(request.reply_length),
+                3 => {
+                    request.medium_length =
+                        self.wrong_medium_length(request.medium_length, allocated)
+                }
+                4 => request.pending_length = self.wrong_pending_length(),
+                _ => request.state_words = self.random.pick(&[0, 1, 6, 7, 389, 390, 392, 397, 400]),
+            }
+            if !self.random.once_in(4) {
+                return;
+            }
+        }
+    }
+
+    fn spoil_block(&mut self, block: &mut Vec<u8>) {
+        let length = self.random.below(21) as usize;
+        block.resize(length, self.random.draw() as u8);
+    }
+
+    fn wrong_data_length(&mut self, right: usize) -> usize {
+        match self.random.below(6) {
+            0 => right + 1,
+            1 => right.saturating_sub(1),
+            2 => right + SECTOR_BYTES,
+            3 => right.saturating_sub(SECTOR_BYTES),
+            4 => 0,
+            _ => self.random.below(70_000) as usize,
+        }
+    }
+
+    fn shorter(&mut self, length: usize) -> usize {
+        match self.random.below(3) {
+            0 => length.saturating_sub(1),
+            1 => 0,
+            _ => self.random.below(length as u64) as usize,
+        }
+    }
+
+    fn wrong_medium_length(&mut self, right: usize, allocated: usize) -> usize {
+        let length = match self.random.below(6) {
+            0 => right + 1,
+            1 => right.saturating_sub(1),
+            2 => right + BLOCK_BYTES,
+            3 => right.saturating_sub(BLOCK_BYTES),
+            4 => 0,
+            _ => self.random.below(right as u64) as usize,
+        };
+        length.min(allocated)
+    }
+
+    fn wrong_pending_length(&mut self) -> usize {
+        match self.random.below(5) {
+            0 => BLOCK_BYTES + 1,
+            1 => BLOCK_BYTES - 1,
+            2 => BLOCK_BYTES + SECTOR_BYTES,
+            3 => 0,
+            _ => self.random.below(BLOCK_BYTES as u64) as usize,
+        }
+    }
+}

@@ -1,0 +1,141 @@
+//! Sound states that are made directly, reachable or not.
+
+use crate::Random;
+use gladhamre::{Record, State, RECORD_LIMIT, STATE_WORDS};
+use plain::Sense;
+
+pub(crate) const RESERVED: u32 = 0;
+pub(crate) const APPENDED: u32 = 1;
+
+/// How a list ends.
+#[derive(Clone, Copy, PartialEq, Eq)]
+enum Ending {
+    /// With a tail.
+    Tail,
+    /// Without one: 64 records.
+    ListFull,
+    /// Without one: the last record ends at C - 1 or C.
+    DiscFull,
+    Finalized,
+}
+
+/// A sound state of that capacity.
+pub fn sound(random: &mut Random, capacity: u32) -> State {
+    let endings =
+        [Ending::Tail, Ending::Tail, Ending::ListFull, Ending::DiscFull, Ending::Finalized];
+    let ending = random.pick(&endings);
+    with_ending(random, capacity, ending)
+}
+
+fn with_ending(random: &mut Random, capacity: u32, ending: Ending) -> State {
+    let mut records = layout(random, capacity, ending);
+    let last_session = records.last().map_or(0, |last| last.session);
+    let last = records.len() - 1;
+    for (index, record) in records.iter_mut().enumerate() {
+        let is_tail = ending == Ending::Tail && index == last;
+        let may_be_open = ending != Ending::Finalized && record.session == last_session;
+        fill_in(random, record, is_tail, may_be_open);
+    }
+    let mut state = State::from_words([0; STATE_WORDS]);
+    for (index, record) in records.iter().enumerate() {
+        state.set_record(index, *record);
+    }
+    let sense = random.pick(&Sense::LISTED);
+    let (count, fragment) = pending(random, &records);
+    let words = state.words_mut();
+    words[0] = capacity;
+    words[1] = u32::from(ending == Ending::Finalized);
+    words[2..5].copy_from_slice(&[sense.key, sense.code, sense.qualifier].map(u32::from));
+    words[5..7].copy_from_slice(&[count, fragment]);
+    state
+}
+
+/// Records with session, start and length: first the least that they take, then what is to spare.
+fn layout(random: &mut Random, capacity: u32, ending: Ending) -> Vec<Record> {
+    let count = record_count(random, ending);
+    let mut spare = capacity - (2 * count - 1);
+    let most_jumps = (count - 1).min(spare / 127);
+    let most_jumps = random.pick(&[0, 1, 2, most_jumps]).min(most_jumps);
+    let mut jumps = random.between(0, most_jumps.into()) as u32;
+    spare -= 127 * jumps;
+    let mut records: Vec<Record> = Vec::new();
+    for index in 0..count {
+        let extra = spare_length(random, spare, index + 1 == count, ending);
+        spare -= extra;
+        let places_left = count - index;
+        let jump = index > 0 && random.below(places_left.into()) < jumps.into();
+        jumps -= u32::from(jump);
+        records.push(follower(records.last(), 1 + extra, jump));
+    }
+    records
+}
+
+fn record_count(random: &mut Random, ending: Ending) -> u32 {
+    let limit = RECORD_LIMIT as u64;
+    let count = match random.below(6) {
+        _ if ending == Ending::ListFull => limit,
+        0 => 1,
+        1 => random.between(2, 3),
+        2 => random.between(limit - 2, limit),
+        3 => random.between(1, limit),
+        _ => random.between(1, 10),
+    };
+    count as u32
+}
+
+/// How much longer than one block a record is.
+fn spare_length(random: &mut Random, spare: u32, is_last: bool, ending: Ending) -> u32 {
+    match ending {
+        Ending::Tail if is_last => spare,
+        Ending::DiscFull if is_last => spare - spare.min(random.below(2) as u32),
+        _ if random.once_in(2) => 0,
+        _ => random.below(u64::from(spare) / 4 + 1) as u32,
+    }
+}
+
+pub(crate) fn follower(forerunner: Option<&Record>, length: u32, jump: bool) -> Record {
+    let (session, start) = match forerunner {
+        None => (1, 0),
+        Some(before) if jump => (before.session + 1, before.start + before.length + 128),
+        Some(before) => (before.session, before.start + before.length + 1),
+    };
+    Record { session, start, length, ..Record::default() }
+}
+
+/// Kind, recorded blocks and zero-filled sectors. A tail often ends where a last session just fits.
+fn fill_in(random: &mut Random, record: &mut Record, is_tail: bool, may_be_open: bool) {
+    record.kind = random.pick(&[RESERVED, APPENDED]);
+    record.recorded = record.length;
+    if is_tail {
+        record.kind = APPENDED;
+    }
+    let open = record.kind == RESERVED && may_be_open && !random.once_in(3);
+    if is_tail || open {
+        let session_edge = record.length.checked_sub(random.between(127, 130) as u32);
+        record.recorded = match random.below(4) {
+            0 => 0,
+            1 => record.length - 1,
+            2 if is_tail => session_edge.unwrap_or(0),
+            _ => random.below(record.length.into()) as u32,
+        };
+    }
+    let most = 16 * record.recorded;
+    record.zero_filled = match random.below(3) {
+        0 => 0,
+        1 => most,
+        _ => random.between(0, most.into()) as u32,
+    };
+}
+
+/// A pending count and its fragment's number.
+fn pending(random: &mut Random, records: &[Record]) -> (u32, u32) {
+    let open: Vec<u32> = (1..)
+        .zip(records)
+        .filter(|(_, record)| record.recorded < record.length)
+        .map(|(number, _)| number)
+        .collect();
+    if open.is_empty() || random.once_in(3) {
+        return (0, 0);
+    }
+    (random.between(1, 15) as u32, random.pick(&open))
+}

@@ -1,0 +1,38 @@
+//! Demand 3, on the linked drive alone: recorded sectors never change, and it makes no difference
+//! how WRITEs are cut or what stale bytes hold.
+
+use compare::demand3::{check, Tally};
+use compare::{rounds_wanted, seed, Drive, Linked, Plain};
+
+fn check_sequences(drive: &dyn Drive, capacity: u32, count: u64) {
+    let mut tally = Tally::default();
+    for number in 0..count * rounds_wanted() {
+        let seed = seed() + number;
+        if let Err(what) = check(drive, capacity, seed, &mut tally) {
+            panic!("{}, {capacity} blocks, seed {seed}: {what}", drive.name());
+        }
+    }
+    println!("{} on {capacity} blocks: {tally:?}", drive.name());
+    assert!(tally.tried_accepted > 0 && tally.tried_accepted < tally.tried);
+    assert!(tally.writes_cut > 0 && tally.parts > 2 * tally.writes_cut);
+}
+
+#[test]
+fn on_256_blocks() {
+    check_sequences(&Linked, 256, 60);
+}
+
+#[test]
+fn on_300_blocks() {
+    check_sequences(&Linked, 300, 60);
+}
+
+#[test]
+fn on_1000_blocks() {
+    check_sequences(&Linked, 1_000, 8);
+}
+
+#[test]
+fn of_the_plain_drive() {
+    check_sequences(&Plain::default(), 256, 20);
+}

@@ -1,0 +1,69 @@
+//! The comparison can fail: the same rounds as in the gate find each deliberate mistake of the
+//! ordinary drive.
+
+use compare::demand3::{self, Tally};
+use compare::rounds::{everything, sequences, Effort};
+use compare::{seed, Coverage, Difference, Drive, Linked, Pair, Plain};
+use plain::Fault;
+
+const EFFORT: Effort =
+    Effort { sequences: 40, injected_blocks: 300, sound: 1_500, unsound: 1, junk: 200 };
+
+/// For sequences alone.
+const CAPACITY: u32 = 300;
+const SEQUENCES: u64 = 1_000;
+
+fn is_found(fault: Fault, found: Result<Coverage, Difference>) {
+    match found {
+        Ok(coverage) => panic!("{fault:?} is not found by {} commands", coverage.commands),
+        Err(difference) => println!("{difference}\n"),
+    }
+}
+
+fn rounds_find_every_fault(right: &dyn Drive) {
+    for fault in Fault::all() {
+        let faulty = Plain { fault: Some(fault) };
+        is_found(fault, everything(right, &faulty, seed(), EFFORT));
+    }
+}
+
+#[test]
+fn against_the_linked_drive() {
+    rounds_find_every_fault(&Linked);
+}
+
+#[test]
+fn against_the_plain_drive() {
+    rounds_find_every_fault(&Plain::default());
+}
+
+/// Sequences from a blank disc find every mistake of commands, without any state injected.
+#[test]
+fn by_sequences_alone() {
+    for fault in Fault::OF_COMMANDS {
+        let faulty = Plain { fault: Some(fault) };
+        let mut pair = Pair::new(&Linked, &faulty, CAPACITY);
+        let found = sequences(&mut pair, CAPACITY, seed(), SEQUENCES);
+        is_found(fault, found.map(|()| pair.coverage));
+    }
+}
+
+/// The check of demand 3 finds the mistakes that break it.
+#[test]
+fn of_whole_sequences() {
+    let broken = [
+        Fault::WriteInPart,
+        Fault::PendingBytesKept,
+        Fault::FlushKeepsStaleBytes,
+        Fault::ZeroFilledForgotten,
+    ];
+    for fault in broken {
+        let faulty = Plain { fault: Some(fault) };
+        let mut tally = Tally::default();
+        let found = (0..30).find_map(|seed| demand3::check(&faulty, 256, seed, &mut tally).err());
+        match found {
+            Some(what) => println!("{fault:?} is found: {what}"),
+            None => panic!("{fault:?} is not found: {tally:?}"),
+        }
+    }
+}

@@ -1,0 +1,79 @@
+//! A command block's fields, and the lengths of data and reply buffer that go with them (L4).
+
+use crate::reply;
+use crate::units::sector_bytes;
+use crate::{Address, Refusal};
+
+/// A decoded command block. Bytes that document 01 does not name are gone.
+#[derive(Clone, Copy, Debug, PartialEq, Eq)]
+pub enum Command {
+    TestUnitReady,
+    RequestSense { allocation: usize },
+    ReadCapacity,
+    Read { from: Address, sectors: u64 },
+    Write { to: Address, sectors: u64 },
+    SynchronizeCache,
+    Reserve { sectors: u64 },
+    Close { function: u8, number: u64 },
+    ReadDiscInformation { kind: u8, allocation: usize },
+    ReadFragmentInformation { by: u8, value: u64, allocation: usize },
+    Unlisted,
+}
+
+impl Command {
+    pub fn decode(block: &[u8; 12]) -> Command {
+        let two = |at: usize| u64::from(u16::from_be_bytes([block[at], block[at + 1]]));
+        let four = |at: usize| (two(at) << 16) | two(at + 2);
+        match block[0] {
+            0x00 => Command::TestUnitReady,
+            0x03 => Command::RequestSense { allocation: block[4].into() },
+            0x25 => Command::ReadCapacity,
+            0x28 => Command::Read { from: Address(four(2)), sectors: two(7) },
+            0x2A => Command::Write { to: Address(four(2)), sectors: two(7) },
+            0x35 => Command::SynchronizeCache,
+            0x53 => Command::Reserve { sectors: four(5) },
+            0x5B => Command::Close { function: block[2] & 0b111, number: two(4) },
+            0x51 => {
+                Command::ReadDiscInformation { kind: block[1] & 0b111, allocation: two(7) as usize }
+            }
+            0x52 => Command::ReadFragmentInformation {
+                by: block[1] & 0b11,
+                value: four(2),
+                allocation: two(7) as usize,
+            },
+            _ => Command::Unlisted,
+        }
+    }
+
+    /// L4: the data must be exactly what the command takes, and the reply buffer hold what it can
+    /// send, whatever the drive will say.
+    pub fn check_transfer(self, data: usize, reply: usize) -> Result<(), Refusal> {
+        if data == self.data_wanted() && reply >= self.reply_room_wanted() {
+            Ok(())
+        } else {
+            Err(Refusal::TransferLength)
+        }
+    }
+
+    fn data_wanted(self) -> usize {
+        match self {
+            Command::Write { sectors, .. } => sector_bytes(sectors),
+            _ => 0,
+        }
+    }
+
+    fn reply_room_wanted(self) -> usize {
+        match self {
+            Command::Read { sectors, .. } => sector_bytes(sectors),
+            Command::ReadCapacity => reply::CAPACITY_BYTES,
+            Command::RequestSense { allocation } => allocation.min(reply::SENSE_BYTES),
+            Command::ReadDiscInformation { allocation, .. } => {
+                allocation.min(reply::DISC_INFORMATION_BYTES)
+            }
+            Command::ReadFragmentInformation { allocation, .. } => {
+                allocation.min(reply::FRAGMENT_INFORMATION_BYTES)
+            }
+            _ => 0,
+        }
+    }
+}

@@ -1,0 +1,118 @@
+//! Deliberate mistakes, one at a time. Each is tested at one place of the drive.
+
+use crate::Rule;
+
+/// A mistake of the drive.
+#[derive(Clone, Copy, Debug, PartialEq, Eq)]
+pub enum Fault {
+    /// A refused command flushes the pending sectors.
+    FlushOnRefusal,
+    /// 35h goes on with zeros to the fragment's end.
+    FlushFillsFragment,
+    /// A WRITE that passes the fragment's end is taken as far as it fits.
+    WriteInPart,
+    /// A dividing block is readable.
+    DividingBlockServed,
+    /// A WRITE leaves the pending bytes past the count.
+    PendingBytesKept,
+    /// The reply buffer is zeroed past the reply.
+    ReplyBufferTouched,
+    /// 28h: 8/00/00 comes before 5/21/00.
+    ReadRefusalsSwapped,
+    /// 53h: 5/24/00 comes before 7/27/00.
+    ReserveRefusalsSwapped,
+    /// 010: 5/63/00 comes before 5/72/05.
+    CloseRefusalsSwapped,
+    /// 53h takes a T + b + 1 equal to C.
+    ReserveLimitTooHigh,
+    /// 53h rounds its size down.
+    ReserveRoundsDown,
+    /// 51h: the first fragment of the disc instead of that of the last session.
+    FirstFragmentOfDiscReported,
+    /// A block flushed by a WRITE to another fragment is not counted.
+    FlushedBlockUncounted,
+    /// An accepted command leaves the sense.
+    SenseKept,
+    /// A new session starts at e + 127.
+    SessionStartsEarly,
+    /// 010 takes an e + 129 above C by 1.
+    SessionLimitTooHigh,
+    /// L4 comes after the drive's refusals.
+    TransferTestedLate,
+    /// A state that breaks this rule alone is taken.
+    RuleUntested(Rule),
+    /// A flush forgets the zero-filled sectors.
+    ZeroFilledForgotten,
+    /// 52h reports the next writable address without the pending sectors.
+    NextWritableIgnoresPending,
+    /// 52h: a complete reserved fragment is not reported as reserved.
+    ReservedFlagLost,
+    /// 52h looks at the number's low byte alone to find FFh.
+    TailNumberCut,
+    /// A fragment with nothing but pending sectors counts as blank.
+    PendingTailIsBlank,
+    /// A WRITE of length 0 flushes.
+    EmptyWriteFlushes,
+    /// A flush with none pending clears the pending buffer.
+    EmptyFlushClears,
+    /// A WRITE to another fragment than the pending one leaves out the flush's zeros.
+    FlushKeepsStaleBytes,
+    /// 010 and 110 judge reserved fragments by what is recorded before the flush.
+    ReservedJudgedBeforeFlush,
+    /// 001 on a blank reserved fragment is accepted.
+    BlankReservedClosed,
+    /// 001 zero-fills one block too many, the dividing one.
+    CloseFillsDividingBlock,
+    /// 53h is refused at 63 records.
+    RecordLimitTooLow,
+    /// 110 refuses every session that is only a blank tail, not session 1 alone.
+    EmptySessionRefused,
+    /// 110 leaves the disc unfinalized.
+    FinalizeForgotten,
+    /// A flush changes the last byte of the medium, wherever its own block is.
+    StrayWrite,
+}
+
+impl Fault {
+    /// Every mistake, with every rule that can be left untested.
+    pub fn all() -> Vec<Fault> {
+        let rules = Rule::ALL.map(Fault::RuleUntested);
+        Self::OF_COMMANDS.into_iter().chain(rules).collect()
+    }
+
+    /// The mistakes that commands on sound states can show.
+    pub const OF_COMMANDS: [Fault; 32] = [
+        Fault::FlushOnRefusal,
+        Fault::FlushFillsFragment,
+        Fault::WriteInPart,
+        Fault::DividingBlockServed,
+        Fault::PendingBytesKept,
+        Fault::ReplyBufferTouched,
+        Fault::ReadRefusalsSwapped,
+        Fault::ReserveRefusalsSwapped,
+        Fault::CloseRefusalsSwapped,
+        Fault::ReserveLimitTooHigh,
+        Fault::ReserveRoundsDown,
+        Fault::FirstFragmentOfDiscReported,
+        Fault::FlushedBlockUncounted,
+        Fault::SenseKept,
+        Fault::SessionStartsEarly,
+        Fault::SessionLimitTooHigh,
+        Fault::TransferTestedLate,
+        Fault::ZeroFilledForgotten,
+        Fault::NextWritableIgnoresPending,
+        Fault::ReservedFlagLost,
+        Fault::TailNumberCut,
+        Fault::PendingTailIsBlank,
+        Fault::EmptyWriteFlushes,
+        Fault::EmptyFlushClears,
+        Fault::FlushKeepsStaleBytes,
+        Fault::ReservedJudgedBeforeFlush,
+        Fault::BlankReservedClosed,
+        Fault::CloseFillsDividingBlock,
+        Fault::RecordLimitTooLow,
+        Fault::EmptySessionRefused,
+        Fault::FinalizeForgotten,
+        Fault::StrayWrite,
+    ];
+}

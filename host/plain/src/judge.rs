@@ -1,0 +1,258 @@
+//! The drive's refusals, in the order of document 01's table. Nothing changes here: a command is
+//! either refused by its sense or becomes a step.
+
+use crate::command::Command;
+use crate::disc::Disc;
+use crate::reply::{self, Report};
+use crate::{Address, Block, Fault, Kind, Sense, BLOCK_SECTORS, FRAGMENT_LIMIT};
+
+/// Closure and Intro between two sessions, 64 blocks each.
+pub(crate) const SESSION_GAP: u64 = 128;
+
+/// What an accepted command does.
+#[derive(Clone, Copy, Debug)]
+pub(crate) enum Step {
+    Nothing,
+    Send(Report),
+    Read { from: Address, sectors: u64 },
+    Write { index: usize, sectors: u64 },
+    Flush,
+    Reserve { index: usize, blocks: u64 },
+    CloseFragment { index: usize },
+    CloseSession,
+    Finalize,
+}
+
+impl Step {
+    fn send(reply: &[u8], allocation: usize) -> Step {
+        Step::Send(Report::cut(reply, allocation))
+    }
+}
+
+impl Disc {
+    pub(crate) fn judge(&self, command: Command) -> Result<Step, Sense> {
+        match command {
+            Command::TestUnitReady => Ok(Step::Nothing),
+            Command::RequestSense { allocation } => {
+                Ok(Step::send(&reply::sense(self.sense), allocation))
+            }
+            Command::ReadCapacity => Ok(Step::send(&reply::capacity(self), reply::CAPACITY_BYTES)),
+            Command::Read { from, sectors } => self.judge_read(from, sectors),
+            Command::Write { to, sectors } => self.judge_write(to, sectors),
+            Command::SynchronizeCache => Ok(Step::Flush),
+            Command::Reserve { sectors } => self.judge_reserve(sectors),
+            Command::Close { function, number } => self.judge_close(function, number),
+            Command::ReadDiscInformation { kind, allocation } => {
+                self.judge_disc_information(kind, allocation)
+            }
+            Command::ReadFragmentInformation { by, value, allocation } => {
+                self.judge_fragment_information(by, value, allocation)
+            }
+            Command::Unlisted => Err(Sense::INVALID_OPCODE),
+        }
+    }
+
+    /// 28h: length 0 is accepted wherever it points; 5/21/00 past the disc, then 8/00/00 where a
+    /// sector is not readable.
+    fn judge_read(&self, from: Address, sectors: u64) -> Result<Step, Sense> {
+        if sectors == 0 {
+            return Ok(Step::Nothing);
+        }
+        let passes_end = from + sectors > self.end().first_sector();
+        if passes_end && !self.slips(Fault::ReadRefusalsSwapped) {
+            return Err(Sense::ADDRESS_OUT_OF_RANGE);
+        }
+        if !self.is_readable(from, sectors) {
+            return Err(Sense::BLANK_CHECK);
+        }
+        Ok(Step::Read { from, sectors })
+    }
+
+    /// Recorded parts never touch each other, so a readable run lies in one of them.
+    fn is_readable(&self, from: Address, sectors: u64) -> bool {
+        self.fragments.iter().any(|fragment| fragment.has_recorded(from, sectors))
+            || (self.slips(Fault::DividingBlockServed) && self.is_dividing(from, sectors))
+    }
+
+    /// Whether the run lies in the block between two fragments of a session.
+    fn is_dividing(&self, from: Address, sectors: u64) -> bool {
+        self.fragments.windows(2).any(|pair| {
+            pair[1].session == pair[0].session
+                && pair[0].end().first_sector() <= from
+                && from + sectors <= pair[1].start.first_sector()
+        })
+    }
+
+    /// 2Ah: length 0 is accepted wherever it points, also on a finalized disc; then 7/27/00;
+    /// 5/21/02 where no next writable address is met, as they stand before any flush; 5/63/00
+    /// past the fragment's end.
+    fn judge_write(&self, to: Address, sectors: u64) -> Result<Step, Sense> {
+        if sectors == 0 {
+            let flushes = self.slips(Fault::EmptyWriteFlushes);
+            return Ok(if flushes { Step::Flush } else { Step::Nothing });
+        }
+        if self.finalized {
+            return Err(Sense::WRITE_PROTECTED);
+        }
+        let index = (0..self.fragments.len())
+            .find(|&index| self.next_writable(index) == Some(to))
+            .ok_or(Sense::INVALID_ADDRESS_FOR_WRITE)?;
+        let room = self.fragments[index].end().first_sector() - to;
+        if sectors > room && !self.slips(Fault::WriteInPart) {
+            return Err(Sense::END_OF_USER_AREA);
+        }
+        let sectors = sectors.min(room);
+        Ok(Step::Write { index, sectors })
+    }
+
+    /// 53h: 7/27/00 on a finalized disc; 5/24/00 for size 0; 5/72/05 without a blank tail or with
+    /// 64 records; 5/63/00 where the new tail would start at the end of the disc or later.
+    fn judge_reserve(&self, sectors: u64) -> Result<Step, Sense> {
+        if self.finalized && !(sectors == 0 && self.slips(Fault::ReserveRefusalsSwapped)) {
+            return Err(Sense::WRITE_PROTECTED);
+        }
+        if sectors == 0 {
+            return Err(Sense::INVALID_FIELD);
+        }
+        let limit = FRAGMENT_LIMIT - usize::from(self.slips(Fault::RecordLimitTooLow));
+        let index = self
+            .blank_tail()
+            .filter(|_| self.fragments.len() < limit)
+            .ok_or(Sense::NO_MORE_FRAGMENTS)?;
+        let mut blocks = sectors.div_ceil(BLOCK_SECTORS);
+        if self.slips(Fault::ReserveRoundsDown) {
+            blocks = sectors / BLOCK_SECTORS;
+        }
+        let new_tail = self.fragments[index].start + blocks + 1;
+        let slack = u64::from(self.slips(Fault::ReserveLimitTooHigh));
+        if new_tail >= self.end() + slack {
+            return Err(Sense::END_OF_USER_AREA);
+        }
+        Ok(Step::Reserve { index, blocks })
+    }
+
+    fn judge_close(&self, function: u8, number: u64) -> Result<Step, Sense> {
+        match function {
+            0b001 => self.judge_close_fragment(number),
+            0b010 => self.judge_close_session(),
+            0b110 => self.judge_finalize(),
+            _ => Err(Sense::INVALID_FIELD),
+        }
+    }
+
+    /// 001: 5/24/00 for an unlisted number, 5/72/04 for a blank fragment.
+    fn judge_close_fragment(&self, number: u64) -> Result<Step, Sense> {
+        let index = self.index_of(number).ok_or(Sense::INVALID_FIELD)?;
+        let tolerated =
+            self.slips(Fault::BlankReservedClosed) && self.fragments[index].kind == Kind::Reserved;
+        if self.is_blank(index) && !tolerated {
+            return Err(Sense::EMPTY_FRAGMENT);
+        }
+        Ok(Step::CloseFragment { index })
+    }
+
+    /// 010: nothing to do on a finalized disc or in a session that is only a blank tail. Judged as
+    /// after the flush: 5/72/03 with an incomplete reserved fragment, 5/72/05 where 64 records are
+    /// kept, 5/63/00 where the next session would not have a block.
+    fn judge_close_session(&self) -> Result<Step, Sense> {
+        if self.finalized || self.last_session_is_empty() {
+            return Ok(Step::Nothing);
+        }
+        if self.has_incomplete_reserved() {
+            return Err(Sense::INCOMPLETE_FRAGMENT_IN_SESSION);
+        }
+        let (kept, end) = self.kept_after_flush();
+        let list_full = kept == FRAGMENT_LIMIT;
+        let slack = u64::from(self.slips(Fault::SessionLimitTooHigh));
+        let disc_full = end + SESSION_GAP + 1 > self.end() + slack;
+        if list_full && !(disc_full && self.slips(Fault::CloseRefusalsSwapped)) {
+            return Err(Sense::NO_MORE_FRAGMENTS);
+        }
+        if disc_full {
+            return Err(Sense::END_OF_USER_AREA);
+        }
+        Ok(Step::CloseSession)
+    }
+
+    /// 110: nothing to do on a finalized disc; 5/72/03 as for 010; 5/72/04 where session 1 is only
+    /// a blank tail.
+    fn judge_finalize(&self) -> Result<Step, Sense> {
+        if self.finalized {
+            return Ok(Step::Nothing);
+        }
+        if self.has_incomplete_reserved() {
+            return Err(Sense::INCOMPLETE_FRAGMENT_IN_SESSION);
+        }
+        let in_first = self.sessions() == 1 || self.slips(Fault::EmptySessionRefused);
+        if self.last_session_is_empty() && in_first {
+            return Err(Sense::EMPTY_FRAGMENT);
+        }
+        Ok(Step::Finalize)
+    }
+
+    /// Whether a reserved fragment is still incomplete once the pending sectors are flushed.
+    fn has_incomplete_reserved(&self) -> bool {
+        let before_flush = self.slips(Fault::ReservedJudgedBeforeFlush);
+        self.fragments.iter().enumerate().any(|(index, fragment)| {
+            let recorded = match before_flush {
+                true => fragment.recorded,
+                false => self.recorded_after_flush(index),
+            };
+            fragment.kind == Kind::Reserved && recorded < fragment.length
+        })
+    }
+
+    /// How many fragments a session's close keeps and where the last of them ends, both after the
+    /// flush: a blank tail goes, a written one is cut.
+    fn kept_after_flush(&self) -> (usize, Block) {
+        let count = self.fragments.len();
+        match self.tail() {
+            Some(tail) if self.is_blank(tail) => (tail, self.fragments[tail - 1].end()),
+            Some(tail) => {
+                let end = self.fragments[tail].start + self.recorded_after_flush(tail);
+                (count, end)
+            }
+            None => (count, self.fragments[count - 1].end()),
+        }
+    }
+
+    /// 51h: 5/24/00 for another type than 0.
+    fn judge_disc_information(&self, kind: u8, allocation: usize) -> Result<Step, Sense> {
+        if kind != 0 {
+            return Err(Sense::INVALID_FIELD);
+        }
+        Ok(Step::send(&reply::disc_information(self), allocation))
+    }
+
+    /// 52h: 5/24/00 for types 2 and 3, an unlisted number, or FFh without a tail; 5/21/00 for an
+    /// address in no fragment.
+    fn judge_fragment_information(
+        &self,
+        by: u8,
+        value: u64,
+        allocation: usize,
+    ) -> Result<Step, Sense> {
+        let found = match by {
+            0 => self.fragment_at(Address(value)).ok_or(Sense::ADDRESS_OUT_OF_RANGE),
+            1 => self.fragment_named(value).ok_or(Sense::INVALID_FIELD),
+            _ => Err(Sense::INVALID_FIELD),
+        };
+        found.map(|index| Step::send(&reply::fragment_information(self, index), allocation))
+    }
+
+    /// The fragment over whose blocks, recorded or not, the address lies.
+    fn fragment_at(&self, address: Address) -> Option<usize> {
+        let block = address.block();
+        self.fragments.iter().position(|fragment| (fragment.start..fragment.end()).contains(&block))
+    }
+
+    /// The fragment of that number; FFh is the tail.
+    fn fragment_named(&self, number: u64) -> Option<usize> {
+        let is_tail = number == 0xFF || (number & 0xFF == 0xFF && self.slips(Fault::TailNumberCut));
+        if is_tail {
+            self.tail()
+        } else {
+            self.index_of(number)
+        }
+    }
+}

@@ -1,0 +1,2 @@
+-- The theorems of specs/.
+pub mod Laws

@@ -1,0 +1,5 @@
+-- Whole sequences of commands. A reader starts at Demand, the statement.
+pub mod Types
+pub mod Sequence
+pub mod Cut
+pub mod Demand

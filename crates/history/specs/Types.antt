@@ -1,0 +1,5 @@
+-- The types of the layers below by their short names.
+pub use Rattle.disc.specs.declared.address.Lba.{Lba}
+pub use Rattle.disc.specs.declared.state.Disc.{Disc}
+pub use Rattle.disc.specs.declared.answer.Answer.{Answer}
+pub use Rattle.disc.specs.declared.answer.Answer.the-variants.{Accepted}

@@ -112,9 +112,9 @@ impl Generator {
     }
 
     fn read_anywhere(&mut self, outline: &Outline) -> (u64, u64) {
-        let sectors = match self.random.below(1_500) {
+        let sectors = match self.random.below(3_000) {
             0 => 65_535,
-            drawn if drawn < 500 => 1,
+            1..=1_000 => 1,
             _ => self.random.between(1, 40),
         };
         let from = match self.random.below(6) {
@@ -274,10 +274,12 @@ impl Generator {
         blocks::set_allocation(block, allocation);
     }
 
-    /// Any bytes; where a listed opcode is put there, the transfer is short.
+    /// Any bytes, a listed opcode now and then. A READ is kept short: its reply buffer is filled.
     fn set_junk(&mut self, block: &mut Block) {
         if self.random.once_in(4) {
             block[0] = self.random.pick(&blocks::OPCODES);
+        }
+        if block[0] == blocks::READ {
             block[7] = 0;
         }
     }

@@ -4,6 +4,8 @@
 //! [`Generator`] makes requests that suit the state reached, [`states`] makes states that no
 //! sequence reaches, and [`rounds`] strings them together. All of it is drawn from a seed.
 
+#![forbid(unsafe_code)]
+
 mod bench;
 pub mod blocks;
 mod coverage;

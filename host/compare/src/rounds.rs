@@ -29,11 +29,11 @@ pub struct Effort {
 impl Effort {
     /// One round, as much as the gate compares.
     pub const ROUND: Effort = Effort {
-        sequences: 1_500,
+        sequences: 2_000,
         injected_blocks: 1_000,
-        sound: 40_000,
-        unsound: 500,
-        junk: 24_000,
+        sound: 60_000,
+        unsound: 1_000,
+        junk: 40_000,
     };
 }
 
@@ -65,21 +65,22 @@ pub fn sequences(pair: &mut Pair, capacity: u32, seed: u64, count: u64) -> Resul
     pair.randomize(&mut generator.random);
     for number in 0..count {
         sequence(pair, &mut generator, capacity).map_err(|difference| {
-            Difference(format!("seed {seed}, capacity {capacity}, sequence {number}: {difference}"))
+            within(&format!("capacity {capacity}, sequence"), seed, number, &difference)
         })?;
     }
     Ok(())
 }
 
-/// A few sequences on the largest disc, with WRITEs and READs of any length. Its medium stays
-/// untouched where nothing is written.
+/// Sequences and sound states on the largest disc, with WRITEs and READs of any length. Its medium
+/// stays untouched where nothing is written.
 pub fn largest_disc(pair: &mut Pair, seed: u64) -> Result<(), Difference> {
     let mut generator = Generator::new(seed);
     generator.long_write = 65_535;
-    for _ in 0..3 {
-        sequence(pair, &mut generator, CAPACITY_LIMIT)?;
+    for number in 0..12 {
+        sequence(pair, &mut generator, CAPACITY_LIMIT)
+            .map_err(|difference| within("sequence", seed, number, &difference))?;
     }
-    Ok(())
+    sound_states(pair, seed, 100)
 }
 
 fn sequence(pair: &mut Pair, generator: &mut Generator, capacity: u32) -> Result<(), Difference> {

@@ -22,6 +22,8 @@
 //! assert_eq!(state.pending_count(), 4);
 //! ```
 
+#![deny(unsafe_code)]
+
 pub mod raw;
 mod state;
 

@@ -116,11 +116,17 @@ pub(crate) struct Words<'a> {
 impl<'a> Words<'a> {
     pub fn read(image: &'a [u32; IMAGE_WORDS]) -> Words<'a> {
         let (header, records) = image.split_at(HEADER_WORDS);
-        let records = records.chunks_exact(RECORD_WORDS);
         let is_used = |words: &&[u32]| words.iter().any(|&word| word != 0);
-        let leading = records.clone().take_while(is_used).count();
-        let used: Vec<Record> = records.filter(is_used).map(Record::new).collect();
-        Words { header, used_come_first: leading == used.len(), used }
+        let leading = records.chunks_exact(RECORD_WORDS).take_while(is_used).count();
+        let (leading, rest) = records.split_at(leading * RECORD_WORDS);
+        let used_come_first = rest.iter().fold(0, |bits, word| bits | word) == 0;
+        let strays = if used_come_first { &[] } else { rest };
+        let used = leading
+            .chunks_exact(RECORD_WORDS)
+            .chain(strays.chunks_exact(RECORD_WORDS).filter(is_used))
+            .map(Record::new)
+            .collect();
+        Words { header, used, used_come_first }
     }
 
     pub fn capacity(&self) -> u64 {

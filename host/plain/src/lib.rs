@@ -7,6 +7,8 @@
 //! A [`Disc`] is always sound; [`command`] serves a state that comes as an image of 32-bit words,
 //! junk included. [`Fault`] switches on one mistake at a time, to show that a comparison finds it.
 
+#![forbid(unsafe_code)]
+
 mod answer;
 mod buffers;
 mod command;

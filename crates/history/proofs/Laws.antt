@@ -1,1 +1,4 @@
 -- One file a topic.
+pub mod Runs
+pub mod Parts
+pub mod Demand

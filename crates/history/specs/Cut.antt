@@ -4,7 +4,7 @@ use mathlib.Core.Path.{_≡_}
 use mathlib.Core.List.{List, [], _∷_, _++_}
 use lib.ListN.{length}
 use Rattle.disc.specs.Address.{lba}
-use Rattle.drive.specs.Step.{Drive, Request, Result}
+use Rattle.drive.specs.Step.{Drive, Request}
 use Rattle.drive.specs.Writes.{WriteOf}
 use Rattle.history.specs.Types.{Lba, Accepted}
 use Rattle.history.specs.Sequence.{Turn, result, final, told, AllAccepted, blocksOf, requests}

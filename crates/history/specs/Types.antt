@@ -3,3 +3,5 @@ pub use Rattle.disc.specs.declared.address.Lba.{Lba}
 pub use Rattle.disc.specs.declared.state.Disc.{Disc}
 pub use Rattle.disc.specs.declared.answer.Answer.{Answer}
 pub use Rattle.disc.specs.declared.answer.Answer.the-variants.{Accepted}
+pub use Rattle.disc.specs.declared.command.Command.the-variants.{Write}
+pub use Rattle.disc.specs.declared.verdict.Verdict.{Verdict}

@@ -2,3 +2,4 @@
 pub mod Runs
 pub mod Parts
 pub mod Demand
+pub mod Examples

@@ -3,3 +3,4 @@ pub mod Types
 pub mod Sequence
 pub mod Cut
 pub mod Demand
+pub mod Examples

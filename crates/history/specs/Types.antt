@@ -3,5 +3,6 @@ pub use Rattle.disc.specs.declared.address.Lba.{Lba}
 pub use Rattle.disc.specs.declared.state.Disc.{Disc}
 pub use Rattle.disc.specs.declared.answer.Answer.{Answer}
 pub use Rattle.disc.specs.declared.answer.Answer.the-variants.{Accepted}
+pub use Rattle.disc.specs.declared.command.Command.{Command}
 pub use Rattle.disc.specs.declared.command.Command.the-variants.{Write}
 pub use Rattle.disc.specs.declared.verdict.Verdict.{Verdict}

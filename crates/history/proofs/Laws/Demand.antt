@@ -40,7 +40,7 @@ blank-pending : (c : ℕ) → blank c .pending ≡ 0
 unfolding blank
 blank-pending c = refl
 
-start-alike : (c : ℕ) (s e : Drive) → Start c s → Start c e → Alike s e
+pub start-alike : (c : ℕ) (s e : Drive) → Start c s → Start c e → Alike s e
 start-alike c s e a b =
     let none : (x : Drive) → Start c x → pendingSectors x ≡ [] =
     λ x p. ap (λ (d : Disc). take (2048 * d .pending) (x .pending)) (p .disc) ∙ ap (λ (n : ℕ). take (2048 * n) (x .pending)) (blank-pending c) in

@@ -1,0 +1,111 @@
+-- What the vocabulary means: a cut that is one, cuts that are none, stale changes that are some and one that is none.
+use Prim.Native.Nat.{ℕ, _+_, _*_, _≤_}
+use mathlib.Core.Path.{_≡_, refl, sym, ap, _∙_}
+use mathlib.Core.Bool.{true}
+use mathlib.Core.List.{List, [], _∷_, _++_}
+use native.Mathlib.Omega.{arith}
+use lib.ListN.{length, getD, length-replicate, length-append}
+use Rattle.disc.specs.Address.{lba}
+use Rattle.disc.specs.Command.{decode}
+use Rattle.drive.specs.Step.{Drive, Request}
+use Rattle.drive.specs.Writes.{WriteOf}
+use Rattle.drive.specs.Alike.{recordedByte, Alike}
+use Rattle.drive.proofs.Laws.Alike.{alike-same}
+use Rattle.history.specs.Types.{Lba, Write, Command}
+use Rattle.history.specs.Sequence.{Start, Turn, found, result, Admissible, Undisturbed}
+use Rattle.history.specs.Cut.{Parts, none, part, CutOf}
+use Rattle.history.specs.Examples.{wholeWrite, firstPart, secondPart, partBehindGap, partOverFirst, emptyPart, sector, asLeft, steady}
+use Rattle.history.proofs.Laws.Demand.{start-alike}
+
+-- the requests are WRITEs with their data
+first-write : WriteOf firstPart (lba 0) 1
+unfolding decode
+first-write = record { block = refl; command = refl; sectors = length-replicate {A = ℕ} 2048 7 }
+
+second-write : WriteOf secondPart (lba 1) 1
+unfolding decode
+second-write = record { block = refl; command = refl; sectors = length-replicate {A = ℕ} 2048 9 }
+
+whole-write : WriteOf wholeWrite (lba 0) 2
+unfolding decode
+whole-write =
+    record {
+      block = refl;
+      command = refl;
+      sectors = length-append (sector 7) (sector 9 ++ []) ∙ omega (arith, length-replicate {A = ℕ} 2048 7, length-append (sector 9) [], length-replicate {A = ℕ} 2048 9);
+    }
+
+-- a cut that is one
+pub cut-in-two : CutOf wholeWrite (firstPart ∷ secondPart ∷ [])
+cut-in-two =
+    record {
+      address = lba 0;
+      count = 2;
+      whole = whole-write;
+      several = omega arith;
+      parts = part (lba 0) 1 1 firstPart _ _ (omega arith) first-write (part (lba 1) 1 0 secondPart [] [] (omega arith) second-write (none (lba 2)));
+    }
+
+-- no part has 0 sectors, and each begins where the last ended: no gap, no overlap
+write-count : {a b : Lba} {n m : ℕ} → Write a n ≡ Write b m → n ≡ m
+write-count e = cc
+
+write-address : {a b : Lba} {n m : ℕ} → Write a n ≡ Write b m → a ≡ b
+write-address e = cc
+
+parts-empty : (a b : Lba) (n : ℕ) (x : List ℕ) (q : Request) (qs : List Request) → WriteOf q a 0 → Parts b n x (q ∷ qs) → ⊥
+parts-empty a b n x q qs w (part c k m u rest us h v p) = let e = write-count (sym (w .command) ∙ v .command) in omega (arith, e, h)
+
+pub empty-part-is-none : (q : Request) (qs : List Request) → CutOf q (emptyPart ∷ qs) → ⊥
+unfolding decode
+empty-part-is-none q qs c =
+    parts-empty (lba 0) (c .address) (c .count) (q .sectors) emptyPart qs (record { block = refl; command = refl; sectors = refl }) (c .parts)
+
+parts-joined :
+    (a b c : Lba) (n m k : ℕ) (x : List ℕ) (one two : Request) (qs : List Request) → WriteOf one a n → WriteOf two b m
+    → Parts c k x (one ∷ two ∷ qs) → b .0 ≡ a .0 + n
+parts-joined a b c n m k x one two qs w v (part d i j u rest us h y (part f g l r rest₁ rs h₁ y₁ p)) =
+    let start = write-address (sym (w .command) ∙ y .command) in
+    let count = write-count (sym (w .command) ∙ y .command) in
+    let next = write-address (sym (v .command) ∙ y₁ .command) in
+    omega (arith, ap (λ (z : Lba). z .0) start, count, ap (λ (z : Lba). z .0) next)
+
+pub gap-is-none : (q : Request) (qs : List Request) → CutOf q (firstPart ∷ partBehindGap ∷ qs) → ⊥
+unfolding decode
+gap-is-none q qs c =
+    let w : WriteOf partBehindGap (lba 2) 1 = record { block = refl; command = refl; sectors = length-replicate {A = ℕ} 2048 9 } in
+    let e = parts-joined (lba 0) (lba 2) (c .address) 1 1 (c .count) (q .sectors) firstPart partBehindGap qs first-write w (c .parts) in
+    omega arith
+
+pub overlap-is-none : (q : Request) (qs : List Request) → CutOf q (firstPart ∷ partOverFirst ∷ qs) → ⊥
+unfolding decode
+overlap-is-none q qs c =
+    let w : WriteOf partOverFirst (lba 0) 1 = record { block = refl; command = refl; sectors = length-replicate {A = ℕ} 2048 9 } in
+    let e = parts-joined (lba 0) (lba 0) (c .address) 1 1 (c .count) (q .sectors) firstPart partOverFirst qs first-write w (c .parts) in
+    omega arith
+
+-- one part alone is no cut
+pub single-is-none : (q u : Request) → CutOf q (u ∷ []) → ⊥
+single-is-none q u c = let h = c .several in omega arith
+
+-- on a blank disc every change of bytes is a stale one; a change of a recorded byte never is
+pub blank-stale :
+    (c : ℕ) (s : Drive) (t : Turn) → Start c s → length (t .medium) ≡ 32768 * c → length (t .pending) ≡ 32768 → Alike s (found t s)
+blank-stale c s t start m p =
+    start-alike c s (found t s) start (record { range = start .range; disc = start .disc; medium = m; pending = p })
+
+pub recorded-not-stale :
+    (s : Drive) (t : Turn) (i : ℕ) → recordedByte (s .disc) i ≡ true → (getD (s .medium) i 0 ≡ getD (t .medium) i 0 → ⊥) → Alike s (found t s)
+    → ⊥
+recorded-not-stale s t i r other a = other (a .recorded i r)
+
+-- whatever requests are given, they are an admissible and an undisturbed sequence
+pub steady-admissible : (qs : List Request) (s : Drive) → Admissible (steady qs s) s
+unfolding steady Admissible
+steady-admissible [] s = tt
+steady-admissible (q ∷ qs) s = (alike-same s, steady-admissible qs (result (asLeft q s) s .after))
+
+pub steady-undisturbed : (qs : List Request) (s : Drive) → Undisturbed (steady qs s) s
+unfolding steady Undisturbed
+steady-undisturbed [] s = tt
+steady-undisturbed (q ∷ qs) s = (refl, steady-undisturbed qs (result (asLeft q s) s .after))

@@ -1,0 +1,43 @@
+-- Small requests and turns for the examples: what the vocabulary means.
+use Prim.Native.Nat.{ℕ}
+use mathlib.Core.List.{List, [], _∷_, _++_}
+use lib.ListN.{replicate}
+use Rattle.drive.specs.Step.{Drive, Request, request}
+use Rattle.history.specs.Sequence.{Turn, result}
+
+-- the block of a WRITE at a small address and of a small length
+abbrev pub writeBlock : ℕ → ℕ → List ℕ
+writeBlock a n = 0x2A ∷ 0 ∷ 0 ∷ 0 ∷ 0 ∷ a ∷ 0 ∷ 0 ∷ n ∷ 0 ∷ 0 ∷ 0 ∷ []
+
+-- a sector whose bytes are all the same
+abbrev pub sector : ℕ → List ℕ
+sector x = replicate 2048 x
+
+-- WRITE 0 of 2, and its two parts: WRITE 0 of 1 and WRITE 1 of 1
+abbrev pub wholeWrite : Request
+wholeWrite = request (writeBlock 0 2) (sector 7 ++ (sector 9 ++ [])) []
+
+abbrev pub firstPart : Request
+firstPart = request (writeBlock 0 1) (sector 7) []
+
+abbrev pub secondPart : Request
+secondPart = request (writeBlock 1 1) (sector 9) []
+
+-- the same sectors with a gap before them, and over the first
+abbrev pub partBehindGap : Request
+partBehindGap = request (writeBlock 2 1) (sector 9) []
+
+abbrev pub partOverFirst : Request
+partOverFirst = request (writeBlock 0 1) (sector 9) []
+
+-- a WRITE of no sector
+abbrev pub emptyPart : Request
+emptyPart = request (writeBlock 0 0) [] []
+
+-- requests given as they are, with no byte changed from outside
+abbrev pub asLeft : Request → Drive → Turn
+asLeft q s = record { medium = s .medium; pending = s .pending; request = q }
+
+unfoldable pub steady : List Request → Drive → List Turn
+steady [] s = []
+steady (q ∷ qs) s = asLeft q s ∷ steady qs (result (asLeft q s) s .after)

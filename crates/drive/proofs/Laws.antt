@@ -8,3 +8,4 @@ pub mod Reply
 pub mod Step
 pub mod Alike
 pub mod Cut
+pub mod Reads

@@ -8,13 +8,13 @@ use native.Mathlib.Omega.{arith}
 use borrow.Author.Tests.{eq-eqb, ne-eqb, le-ltb, ltb-false}
 use lib.Dec.{eqb, ltb}
 use lib.ListN.{length, getD}
-use Rattle.disc.specs.Types.{Lba, Fragment, Disc, Found, Number, Nowhere, Verdict, Accepted, Drive, WriteProtected, EndOfUserArea, AddressOutOfRange, BlankCheck}
+use Rattle.disc.specs.Types.{Lba, Fragment, Disc, Found, Number, Nowhere, Verdict, Accepted, Drive, WriteProtected, EndOfUserArea, AddressOutOfRange, BlankCheck, Send, Skip}
 use Rattle.disc.specs.Address.{firstSector, lba, sectorsIn}
 use Rattle.disc.specs.Fragment.{unusedRecord, end, complete, nextWritable, pendingIn}
 use Rattle.disc.specs.Records.{records, used, numbered, find, writableAt, readable}
 use Rattle.disc.specs.Rules.{at}
 use Rattle.disc.specs.Ready.{Ready}
-use Rattle.disc.specs.Verdict.{accepted, accept, refuse}
+use Rattle.disc.specs.Verdict.{accepted, accept, refuse, noReply, noPlan, plan}
 use Rattle.disc.specs.Read.{allReadable, read}
 use Rattle.disc.specs.Write.{flushOthersCount, Writable, writeTo, writeFound, write}
 use Rattle.disc.proofs.Laws.Bool.{and-both, by-cases, cond-yes, cond-no, cond-cases, contradiction}
@@ -104,14 +104,19 @@ write-takes d a n z e =
     (sym (ap (λ (v : Verdict). v .answer) (cond-no (eqb n 0) _ _ (ne-eqb _ _ z) ∙ cond-no (d .finalized) _ _ f)) ∙ e))
 
 -- a READ of 1 up within the disc is accepted exactly when every sector touched is readable
+pub read-done :
+    (d : Disc) (a : Lba) (n : ℕ) → (n ≡ 0 → ⊥) → a .0 + n ≤ sectorsIn (d .capacity)
+    → ((k : ℕ) → k < n → readable d (lba (a .0 + k)) ≡ true) → read d a n ≡ accept d d noReply (plan Skip (Send a n))
+unfolding read
+read-done d a n z h r =
+    cond-no (eqb n 0) _ _ (ne-eqb _ _ z)
+    ∙ (cond-no (ltb (sectorsIn (d .capacity)) (a .0 + n)) _ _ (le-ltb _ _ h) ∙ cond-yes (allReadable d a n) _ _ (at-all-readable d a n r))
+
 pub read-accepted :
     (d : Disc) (a : Lba) (n : ℕ) → (n ≡ 0 → ⊥) → a .0 + n ≤ sectorsIn (d .capacity)
     → ((k : ℕ) → k < n → readable d (lba (a .0 + k)) ≡ true) → read d a n .answer ≡ Accepted
 unfolding read accept accepted
-read-accepted d a n z h r =
-    ap (λ (v : Verdict). v .answer)
-    (cond-no (eqb n 0) _ _ (ne-eqb _ _ z)
-    ∙ (cond-no (ltb (sectorsIn (d .capacity)) (a .0 + n)) _ _ (le-ltb _ _ h) ∙ cond-yes (allReadable d a n) _ _ (at-all-readable d a n r)))
+read-accepted d a n z h r = ap (λ (v : Verdict). v .answer) (read-done d a n z h r)
 
 pub accepted-read :
     (d : Disc) (a : Lba) (n : ℕ) → (n ≡ 0 → ⊥) → read d a n .answer ≡ Accepted
@@ -161,3 +166,14 @@ write-most d a n r =
     (λ e.
     cond-cases (λ (v : Verdict). v .recorded ≤ 1 + n / 16) (d .finalized) _ _ (λ f. omega arith)
     (λ f. found-most d a n r (writableAt d a) refl))
+
+-- an accepted READ sends its sectors, and a READ of 0 none
+pub read-sends : (d : Disc) (a : Lba) (n : ℕ) → read d a n .answer ≡ Accepted → (n ≡ 0 → ⊥) → read d a n .plan .transfer ≡ Send a n
+unfolding accept accepted
+read-sends d a n e z =
+    let h = accepted-read d a n z e in
+    ap (λ (v : Verdict). v .plan .transfer) (read-done d a n z (h .0) (h .1))
+
+pub read-none : (d : Disc) (a : Lba) → read d a 0 ≡ accept d d noReply noPlan
+unfolding read
+read-none d a = refl

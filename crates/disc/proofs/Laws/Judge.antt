@@ -182,6 +182,12 @@ module _ {c : Command} {n m : ℕ} (d : Disc) where
   decided-served v (onLink x) e = absurd (let z : _≡_ {A = ℕ} 0 1 = cc in omega arith)
   decided-served v (byDrive r a l) e = (r, a)
 
+  -- and was performed
+  pub decided-performed : (v : Verdict) → Decided d c n m v → v .answer ≡ Accepted → v ≡ perform d c
+  unfolding refuseLink
+  decided-performed v (onLink x) e = absurd (let z : _≡_ {A = ℕ} 0 1 = cc in omega arith)
+  decided-performed v (byDrive r a l) e = refl
+
   -- every decision keeps a disc ready, its capacity, and every sector that was readable
   pub decided-ready : (v : Verdict) → Ready d → Decided d c n m v → Ready (v .disc)
   unfolding refuseLink
@@ -276,6 +282,16 @@ pub judge-writes :
 unfolding perform lengthsFit dataLength replyRoom
 judge-writes d b n m a k l e r s f =
     judge-performs d b n m (Write a k) l e r s (and-both (eq-eqb n (2048 * k) f) (le-leb 0 m (omega arith)))
+
+pub judge-reads :
+    (d : Disc) (b : List ℕ) (m : ℕ) (a : Lba) (k : ℕ) → length b ≡ 12 → decode b ≡ Read a k → inRange (d .capacity) ≡ true
+    → allowedState d ≡ true → 2048 * k ≤ m → judge d b 0 m ≡ read d a k
+unfolding perform lengthsFit dataLength replyRoom
+judge-reads d b m a k l e r s f = judge-performs d b 0 m (Read a k) l e r s (and-both refl (le-leb (2048 * k) m f))
+
+pub perform-read : (d : Disc) (a : Lba) (k : ℕ) → perform d (Read a k) ≡ read d a k
+unfolding perform
+perform-read d a k = refl
 
 -- blocks with the same fields are decided alike, whatever stands in the bytes that no field reads
 pub judge-decodes :

@@ -3,3 +3,4 @@ pub mod Runs
 pub mod Parts
 pub mod Demand
 pub mod Examples
+pub mod Witness

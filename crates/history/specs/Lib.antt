@@ -4,3 +4,4 @@ pub mod Sequence
 pub mod Cut
 pub mod Demand
 pub mod Examples
+pub mod Witness

@@ -6,3 +6,4 @@ pub use Rattle.disc.specs.declared.answer.Answer.the-variants.{Accepted}
 pub use Rattle.disc.specs.declared.command.Command.{Command}
 pub use Rattle.disc.specs.declared.command.Command.the-variants.{Write}
 pub use Rattle.disc.specs.declared.verdict.Verdict.{Verdict}
+pub use Rattle.disc.specs.declared.answer.LinkRefusal.the-variants.{CommandBlockLength}

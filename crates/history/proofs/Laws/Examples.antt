@@ -1,5 +1,5 @@
 -- What the vocabulary means: a cut that is one, cuts that are none, stale changes that are some and one that is none.
-use Prim.Native.Nat.{ℕ, _+_, _*_, _≤_}
+use Prim.Native.Nat.{ℕ, _+_, _*_}
 use mathlib.Core.Path.{_≡_, refl, sym, ap, _∙_}
 use mathlib.Core.Bool.{true}
 use mathlib.Core.List.{List, [], _∷_, _++_}
@@ -11,7 +11,7 @@ use Rattle.drive.specs.Step.{Drive, Request}
 use Rattle.drive.specs.Writes.{WriteOf}
 use Rattle.drive.specs.Alike.{recordedByte, Alike}
 use Rattle.drive.proofs.Laws.Alike.{alike-same}
-use Rattle.history.specs.Types.{Lba, Write, Command}
+use Rattle.history.specs.Types.{Lba, Write}
 use Rattle.history.specs.Sequence.{Start, Turn, found, result, Admissible, Undisturbed}
 use Rattle.history.specs.Cut.{Parts, none, part, CutOf}
 use Rattle.history.specs.Examples.{wholeWrite, firstPart, secondPart, partBehindGap, partOverFirst, emptyPart, sector, asLeft, steady}

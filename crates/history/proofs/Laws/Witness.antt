@@ -1,0 +1,226 @@
+-- The example sequence meets every condition of demand 3.
+use Prim.Native.Nat.{ℕ}
+use mathlib.Core.Path.{_≡_, refl, sym, ap, _∙_, subst}
+use mathlib.Core.Bool.{true}
+use mathlib.Core.List.{List, [], _∷_, _++_, map}
+use native.Mathlib.Omega.{arith}
+use borrow.Author.Tests.{eqb-true, eqb-false, ne-eqb}
+use lib.Dec.{eqb}
+use lib.ListN.{length, replicate, length-replicate, length-append}
+use Rattle.disc.specs.Address.{lba}
+use Rattle.disc.specs.Answer.{number, isRefusalSense, allowedSense}
+use Rattle.disc.specs.Blank.{blank}
+use Rattle.disc.specs.Command.{decode}
+use Rattle.disc.specs.Records.{listed, some, every, find, sumRecorded}
+use Rattle.disc.specs.Sound.{usedFirst, firstAtZero, followsFrom, inOrder, endsWithin, recordedWithin, zeroedWithin, incompleteLast, tailLast, tailOrFull, pendingNamed, finalizedComplete, sound, allowedState}
+use Rattle.disc.specs.Lengths.{dataLength, replyRoom, lengthsFit}
+use Rattle.disc.specs.Flush.{flush, flushPlan, synchronizeCache}
+use Rattle.disc.specs.Read.{allReadable, read}
+use Rattle.disc.specs.Write.{flushOthers, flushOthersPlan, gather, writeTo, writeFound, write}
+use Rattle.disc.specs.Reserve.{splitTail, reserve}
+use Rattle.disc.specs.Close.{appendTail, closeIncomplete, closeFragment, close}
+use Rattle.disc.specs.Judge.{perform, judgeCommand, judge}
+use Rattle.disc.specs.Verdict.{accepted, accept, refuse, refuseLink}
+use Rattle.disc.proofs.Laws.Bool.{by-cases}
+use Rattle.disc.proofs.Laws.Judge.{decided-capacity}
+use Rattle.drive.specs.Step.{Drive, Request, lent, verdictOn, carriedOut, step}
+use Rattle.drive.specs.Writes.{WriteOf}
+use Rattle.drive.proofs.Laws.Bytes.{length-zeros}
+use Rattle.drive.proofs.Laws.Step.{verdict-decided, verdict-block, verdict-judge}
+use Rattle.drive.proofs.Laws.Alike.{step-lengths}
+use Rattle.history.specs.Types.{Disc, Verdict, Accepted, CommandBlockLength}
+use Rattle.history.specs.Sequence.{Start, Turn, final}
+use Rattle.history.specs.Cut.{none, part, CutOf, Again, ends, same, cut}
+use Rattle.history.specs.Examples.{writeBlock, sector, asLeft, steady}
+use Rattle.history.specs.Witness.{numbers, Shape, shape, shapeOf, discAfter, filled, judged, before, cutWrite, cutFirst, cutSecond, behind, zeroStart, firstRun, secondRun}
+
+-- with right buffers the disc decides alone
+judge-block : (d : Disc) (b : List ℕ) (n m : ℕ) → (length b ≡ 12 → ⊥) → judge d b n m ≡ refuseLink d CommandBlockLength
+unfolding judge
+judge-block d b n m h = rw (ne-eqb (length b) 12 h)
+
+verdict-judges :
+    (s : Drive) (q : Request) → lent (s .disc) (length (s .medium)) (length (s .pending)) ≡ true
+    → verdictOn s q ≡ judge (s .disc) (q .block) (length (q .sectors)) (length (q .buffer))
+verdict-judges s q l =
+    by-cases (eqb (length (q .block)) 12)
+    (λ b. sym (verdict-judge s q (eqb-true (length (q .block)) 12 b) l))
+    (λ b.
+    let h = eqb-false (length (q .block)) 12 b in
+    sym (verdict-block s q h) ∙ sym (judge-block (s .disc) (q .block) (length (q .sectors)) (length (q .buffer)) h))
+
+after-capacity : (s : Drive) (q : Request) → step s q .after .disc .capacity ≡ s .disc .capacity
+unfolding step carriedOut
+after-capacity s q = decided-capacity (s .disc) (verdictOn s q) (verdict-decided s q)
+
+lent-as : (d e : Disc) (m p : ℕ) → e .capacity ≡ d .capacity → lent d m p ≡ true → lent e m p ≡ true
+lent-as d e m p c t = rw c t
+
+lent-after :
+    (s : Drive) (q : Request) → lent (s .disc) (length (s .medium)) (length (s .pending)) ≡ true
+    → lent (step s q .after .disc) (length (step s q .after .medium)) (length (step s q .after .pending)) ≡ true
+lent-after s q h =
+    let l = step-lengths s q in
+    rw (l .0, l .1) (lent-as (s .disc) (step s q .after .disc) (length (s .medium)) (length (s .pending)) (after-capacity s q) h)
+
+step-judges :
+    (s : Drive) (q : Request) → lent (s .disc) (length (s .medium)) (length (s .pending)) ≡ true
+    → (step s q .answer ≡ judge (s .disc) (q .block) (length (q .sectors)) (length (q .buffer)) .answer)
+    × (step s q .after .disc ≡ judge (s .disc) (q .block) (length (q .sectors)) (length (q .buffer)) .disc)
+unfolding step carriedOut
+step-judges s q l = let e = verdict-judges s q l in (ap (λ (v : Verdict). v .answer) e, ap (λ (v : Verdict). v .disc) e)
+
+-- a steady sequence by its shapes
+steady-disc :
+    (qs : List Request) (s : Drive) → lent (s .disc) (length (s .medium)) (length (s .pending)) ≡ true
+    → final (steady qs s) s .disc ≡ discAfter (map shapeOf qs) (s .disc)
+unfolding final steady discAfter
+steady-disc [] s l = refl
+steady-disc (q ∷ qs) s l =
+    steady-disc qs (step s q .after) (lent-after s q l) ∙ ap (λ (d : Disc). discAfter (map shapeOf qs) d) (step-judges s q l .1)
+
+steady-lent :
+    (qs : List Request) (s : Drive) → lent (s .disc) (length (s .medium)) (length (s .pending)) ≡ true
+    → lent (final (steady qs s) s .disc) (length (final (steady qs s) s .medium)) (length (final (steady qs s) s .pending)) ≡ true
+unfolding final steady
+steady-lent [] s l = l
+steady-lent (q ∷ qs) s l = steady-lent qs (step s q .after) (lent-after s q l)
+
+steady-numbers :
+    (qs : List Request) (s : Drive) → lent (s .disc) (length (s .medium)) (length (s .pending)) ≡ true
+    → numbers (steady qs s) s ≡ judged (map shapeOf qs) (s .disc)
+unfolding numbers steady judged
+steady-numbers [] s l = refl
+steady-numbers (q ∷ qs) s l =
+    let j = step-judges s q l in
+    ap (λ (n : ℕ). n ∷ numbers (steady qs (step s q .after)) (step s q .after)) (ap number (j .0))
+    ∙ ap (λ (ns : List ℕ). number (judge (s .disc) (q .block) (length (q .sectors)) (length (q .buffer)) .answer) ∷ ns)
+    (steady-numbers qs (step s q .after) (lent-after s q l) ∙ ap (judged (map shapeOf qs)) (j .1))
+
+-- requests made of shapes have those shapes
+filled-shape : (x : ℕ) (h : Shape) → shapeOf (filled x h) ≡ h
+filled-shape x h = ap (λ (n : ℕ). shape (h .block) n (length (replicate (h .room) x))) (length-replicate (h .sectors) x) ∙ ap (λ (n : ℕ). shape (h .block) (h .sectors) n) (length-replicate (h .room) x)
+
+filled-shapes : (x : ℕ) (hs : List Shape) → map shapeOf (map (filled x) hs) ≡ hs
+filled-shapes x [] = refl
+filled-shapes x (h ∷ hs) =
+    ap (λ (g : Shape). g ∷ map shapeOf (map (filled x) hs)) (filled-shape x h) ∙ ap (λ (gs : List Shape). h ∷ gs) (filled-shapes x hs)
+
+-- one steady sequence behind another
+steady-append : (ps qs : List Request) (s : Drive) → steady (ps ++ qs) s ≡ steady ps s ++ steady qs (final (steady ps s) s)
+unfolding final steady
+steady-append [] qs s = refl
+steady-append (p ∷ ps) qs s = ap (λ (ts : List Turn). asLeft p s ∷ ts) (steady-append ps qs (step s p .after))
+
+-- the same commands in both sequences
+again-prefix :
+    (ps : List Request) (s e : Drive) (ts us : List Turn) → Again (final (steady ps s) s) ts us → Again s (steady ps s ++ ts) (steady ps e ++ us)
+unfolding final steady
+again-prefix [] s e ts us w = w
+again-prefix (p ∷ ps) s e ts us w =
+    same s (asLeft p s) (asLeft p e) _ _ (record { block = refl; sectors = refl; room = refl })
+    (again-prefix ps (step s p .after) (step e p .after) ts us w)
+
+-- the cut of the WRITE in the example
+cut-sectors : length (sector 7 ++ (sector 9 ++ [])) ≡ 4096
+cut-sectors = length-append (sector 7) (sector 9 ++ []) ∙ omega (arith, length-replicate {A = ℕ} 2048 7, length-append (sector 9) [], length-replicate {A = ℕ} 2048 9)
+
+first-write : WriteOf cutFirst (lba 84) 1
+unfolding decode
+first-write = record { block = refl; command = refl; sectors = length-replicate {A = ℕ} 2048 7 }
+
+second-write : WriteOf cutSecond (lba 85) 1
+unfolding decode
+second-write = record { block = refl; command = refl; sectors = length-replicate {A = ℕ} 2048 9 }
+
+whole-write : WriteOf cutWrite (lba 84) 2
+unfolding decode
+whole-write = record { block = refl; command = refl; sectors = cut-sectors }
+
+cut-write : CutOf cutWrite (cutFirst ∷ cutSecond ∷ [])
+cut-write =
+    record {
+      address = lba 84;
+      count = 2;
+      whole = whole-write;
+      several = omega arith;
+      parts = part (lba 84) 1 1 cutFirst _ _ (omega arith) first-write (part (lba 85) 1 0 cutSecond [] [] (omega arith) second-write (none (lba 86)));
+    }
+
+start-lent : (s : Drive) → Start 300 s → lent (s .disc) (length (s .medium)) (length (s .pending)) ≡ true
+unfolding blank
+start-lent s h = rw (h .disc, h .medium, h .pending)
+
+-- what the list of the example comes to, computed
+computed-accepted : judge (discAfter before (blank 300)) (writeBlock 84 2) 4096 0 .answer ≡ Accepted
+unfolding discAfter judged decode listed some every find sumRecorded usedFirst firstAtZero followsFrom inOrder endsWithin recordedWithin zeroedWithin incompleteLast tailLast tailOrFull pendingNamed finalizedComplete sound allowedState isRefusalSense allowedSense blank dataLength replyRoom lengthsFit accepted accept refuse refuseLink flush flushPlan allReadable read flushOthers flushOthersPlan gather writeTo writeFound write splitTail reserve appendTail closeIncomplete closeFragment close synchronizeCache perform judgeCommand judge
+computed-accepted = refl
+
+computed-numbers :
+    judged (before ++ (shape (writeBlock 84 2) 4096 0 ∷ behind)) (blank 300) ≡ 1 ∷ 4 ∷ 0x052000 ∷ 0 ∷ 0 ∷ 0 ∷ 0 ∷ 0 ∷ 0 ∷ 0 ∷ []
+unfolding discAfter judged decode listed some every find sumRecorded usedFirst firstAtZero followsFrom inOrder endsWithin recordedWithin zeroedWithin incompleteLast tailLast tailOrFull pendingNamed finalizedComplete sound allowedState isRefusalSense allowedSense blank dataLength replyRoom lengthsFit accepted accept refuse refuseLink flush flushPlan allReadable read flushOthers flushOthersPlan gather writeTo writeFound write splitTail reserve appendTail closeIncomplete closeFragment close synchronizeCache perform judgeCommand judge
+computed-numbers = refl
+
+shapes-append : (hs : List Shape) (rs : List Request) → map shapeOf (map (filled 0) hs ++ rs) ≡ hs ++ map shapeOf rs
+shapes-append [] rs = refl
+shapes-append (h ∷ hs) rs =
+    ap (λ (g : Shape). g ∷ map shapeOf (map (filled 0) hs ++ rs)) (filled-shape 0 h) ∙ ap (λ (gs : List Shape). h ∷ gs) (shapes-append hs rs)
+
+run-shapes : map shapeOf firstRun ≡ before ++ (shape (writeBlock 84 2) 4096 0 ∷ behind)
+run-shapes =
+    shapes-append before (cutWrite ∷ map (filled 0) behind)
+    ∙ (ap (λ (n : ℕ). before ++ (shape (writeBlock 84 2) n 0 ∷ map shapeOf (map (filled 0) behind))) cut-sectors
+    ∙ ap (λ (hs : List Shape). before ++ (shape (writeBlock 84 2) 4096 0 ∷ hs)) (filled-shapes 0 behind))
+
+again-steady : (rs : List Request) (s e : Drive) → Again s (steady rs s) (steady rs e)
+unfolding steady
+again-steady [] s e = ends s
+again-steady (r ∷ rs) s e =
+    same s (asLeft r s) (asLeft r e) _ _ (record { block = refl; sectors = refl; room = refl }) (again-steady rs (step s r .after) (step e r .after))
+
+-- from every start of 300 blocks, over any bytes: the WRITE is accepted in its place
+module _ (s : Drive) (start : Start 300 s) where
+  place : Drive
+  place = final (steady (map (filled 0) before) s) s
+
+  place-disc : place .disc ≡ discAfter before (blank 300)
+  unfolding place
+  place-disc =
+      steady-disc (map (filled 0) before) s (start-lent s start)
+      ∙ (ap (λ (hs : List Shape). discAfter hs (s .disc)) (filled-shapes 0 before) ∙ ap (discAfter before) (start .disc))
+
+  place-lent : lent (place .disc) (length (place .medium)) (length (place .pending)) ≡ true
+  unfolding place
+  place-lent = steady-lent (map (filled 0) before) s (start-lent s start)
+
+  write-accepted : step place cutWrite .answer ≡ Accepted
+  write-accepted =
+      step-judges place cutWrite place-lent .0
+      ∙ (ap (λ (d : Disc). judge d (writeBlock 84 2) (length (cutWrite .sectors)) 0 .answer) place-disc
+      ∙ (ap (λ (n : ℕ). judge (discAfter before (blank 300)) (writeBlock 84 2) n 0 .answer) cut-sectors ∙ computed-accepted))
+
+  -- the answers: L1, L4, 5/20/00, and seven commands accepted
+  pub witness-numbers : numbers (steady firstRun s) s ≡ 1 ∷ 4 ∷ 0x052000 ∷ 0 ∷ 0 ∷ 0 ∷ 0 ∷ 0 ∷ 0 ∷ 0 ∷ []
+  witness-numbers =
+      steady-numbers firstRun s (start-lent s start)
+      ∙ (ap (λ (hs : List Shape). judged hs (s .disc)) run-shapes
+      ∙ (ap (judged (before ++ (shape (writeBlock 84 2) 4096 0 ∷ behind))) (start .disc) ∙ computed-numbers))
+
+  -- the same again with the WRITE cut, from any other start
+  pub witness-again : (e : Drive) → Again s (steady firstRun s) (steady secondRun e)
+  unfolding place steady final
+  witness-again e =
+      let ps = map (filled 0) before in
+      let rs = map (filled 0) behind in
+      let x = final (steady ps e) e in
+      let y = step (step x cutFirst .after) cutSecond .after in
+      subst (λ (ts : List Turn). Again s ts (steady secondRun e)) (sym (steady-append ps (cutWrite ∷ rs) s))
+      (subst (λ (us : List Turn). Again s (steady ps s ++ steady (cutWrite ∷ rs) (final (steady ps s) s)) us)
+      (sym (steady-append ps (cutFirst ∷ cutSecond ∷ rs) e))
+      (again-prefix ps s e _ _
+      (cut place (asLeft cutWrite place) (steady rs (step place cutWrite .after)) (steady (cutFirst ∷ cutSecond ∷ []) x) (steady rs y) _
+      write-accepted cut-write (again-steady rs (step place cutWrite .after) y) refl)))
+
+-- a start of 300 blocks is there
+pub zero-start : Start 300 zeroStart
+zero-start = record { range = refl; disc = refl; medium = length-zeros 9830400; pending = length-zeros 32768 }

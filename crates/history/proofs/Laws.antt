@@ -4,3 +4,4 @@ pub mod Parts
 pub mod Demand
 pub mod Examples
 pub mod Witness
+pub mod Useful

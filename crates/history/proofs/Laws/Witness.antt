@@ -39,7 +39,7 @@ judge-block : (d : Disc) (b : List ℕ) (n m : ℕ) → (length b ≡ 12 → ⊥
 unfolding judge
 judge-block d b n m h = rw (ne-eqb (length b) 12 h)
 
-verdict-judges :
+pub verdict-judges :
     (s : Drive) (q : Request) → lent (s .disc) (length (s .medium)) (length (s .pending)) ≡ true
     → verdictOn s q ≡ judge (s .disc) (q .block) (length (q .sectors)) (length (q .buffer))
 verdict-judges s q l =
@@ -56,14 +56,14 @@ after-capacity s q = decided-capacity (s .disc) (verdictOn s q) (verdict-decided
 lent-as : (d e : Disc) (m p : ℕ) → e .capacity ≡ d .capacity → lent d m p ≡ true → lent e m p ≡ true
 lent-as d e m p c t = rw c t
 
-lent-after :
+pub lent-after :
     (s : Drive) (q : Request) → lent (s .disc) (length (s .medium)) (length (s .pending)) ≡ true
     → lent (step s q .after .disc) (length (step s q .after .medium)) (length (step s q .after .pending)) ≡ true
 lent-after s q h =
     let l = step-lengths s q in
     rw (l .0, l .1) (lent-as (s .disc) (step s q .after .disc) (length (s .medium)) (length (s .pending)) (after-capacity s q) h)
 
-step-judges :
+pub step-judges :
     (s : Drive) (q : Request) → lent (s .disc) (length (s .medium)) (length (s .pending)) ≡ true
     → (step s q .answer ≡ judge (s .disc) (q .block) (length (q .sectors)) (length (q .buffer)) .answer)
     × (step s q .after .disc ≡ judge (s .disc) (q .block) (length (q .sectors)) (length (q .buffer)) .disc)
@@ -147,7 +147,7 @@ cut-write =
       parts = part (lba 84) 1 1 cutFirst _ _ (omega arith) first-write (part (lba 85) 1 0 cutSecond [] [] (omega arith) second-write (none (lba 86)));
     }
 
-start-lent : (s : Drive) → Start 300 s → lent (s .disc) (length (s .medium)) (length (s .pending)) ≡ true
+pub start-lent : (s : Drive) → Start 300 s → lent (s .disc) (length (s .medium)) (length (s .pending)) ≡ true
 unfolding blank
 start-lent s h = rw (h .disc, h .medium, h .pending)
 

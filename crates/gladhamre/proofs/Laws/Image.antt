@@ -5,9 +5,9 @@ use native.Mathlib.Numerals.{add-one}
 use native.Mathlib.Nat.{not-suc-le-zero, le-of-suc-le-suc}
 use native.Mathlib.Omega.{arith}
 use mathlib.Core.Bool.{Bool, true, false, _&&_}
-use mathlib.Core.List.{List, [], _∷_, _++_, append-assoc, append-nil}
-use lib.ListN.{length, getD, set, take, drop, length-set, length-append, drop-of-length-le}
-use lib.Seq.{drop-drop, getD-take, take-all, length-take-le}
+use mathlib.Core.List.{List, [], _∷_, _++_, append-nil}
+use lib.ListN.{length, getD, set, take, drop, length-append, drop-of-length-le}
+use lib.Seq.{drop-drop, getD-take, take-all, length-take-le, sets, sets-eq}
 use borrow.Author.Tests.{eq-eqb, ne-eqb, eqb-true, ltb-true, lt-ltb}
 use lib.Dec.{eqb, ltb}
 use Rattle.disc.specs.Fragment.{unusedRecord}
@@ -18,26 +18,9 @@ use Rattle.drive.proofs.Laws.Bytes.{splice-splice, splice-end}
 use Rattle.gladhamre.specs.Types.{Kind, Reserved, Appended, Fragment, Disc}
 use Rattle.gladhamre.specs.Image.{flagWord, kindWord, kindOf, decode, word, recordOf, recordFits, recordWords, listOf, listFits, listWords, headWords, headFits, encode, isState, StateWords}
 
--- words stored one after another, from an index on
-unfoldable pub fill : List ℕ → ℕ → List ℕ → List ℕ
-fill w i [] = w
-fill w i (x ∷ xs) = fill (set w i x) (suc i) xs
-
-take-set : (w : List ℕ) (x i : ℕ) → i < length w → take (suc i) (set w i x) ≡ take i w ++ (x ∷ [])
-take-set [] x i h = absurd (not-suc-le-zero h)
-take-set (y ∷ ys) x zero h = refl
-take-set (y ∷ ys) x (suc i) h = ap (λ (l : List ℕ). y ∷ l) (take-set ys x i (le-of-suc-le-suc h))
-
-fill-from : (xs w : List ℕ) (i : ℕ) → i + length xs ≡ length w → fill w i xs ≡ take i w ++ xs
-unfolding fill
-fill-from [] w i h = sym (append-nil (take i w) ∙ take-all i w (omega arith))
-fill-from (x ∷ xs) w i h =
-    fill-from xs (set w i x) (suc i) (simp length-set (omega arith))
-    ∙ (ap (λ (l : List ℕ). l ++ xs) (take-set w x i (omega arith)) ∙ append-assoc (take i w) (x ∷ []) xs)
-
--- as many as there are: only they are left
-pub fill-all : (xs w : List ℕ) → length w ≡ length xs → fill w 0 xs ≡ xs
-fill-all xs w h = fill-from xs w 0 (omega arith)
+-- as many words stored as there are: only they are left
+pub fill-all : (xs w : List ℕ) → length w ≡ length xs → sets w 0 xs ≡ xs
+fill-all xs w h = sets-eq xs w 0 (omega arith) ∙ rw (drop-of-length-le w {i = 0 + length xs} (omega arith)) (append-nil xs)
 
 -- the six words of a record, as the part of the image that is lent
 pub part-record : (v : List ℕ) → recordOf (take 6 v) ≡ recordOf v

@@ -1,6 +1,6 @@
 use lib.ListN.{length-set}
 use Rattle.gladhamre.specs.Image.{headWords}
-use Rattle.gladhamre.proofs.Laws.Image.{fill, fill-all}
+use Rattle.gladhamre.proofs.Laws.Image.{fill-all}
 use native.Mathlib.Omega.{arith}
 use borrow.Author.Needs.{needs}
 use Rattle.gladhamre.proofs.image.write_head.Statement.{statement}
@@ -67,7 +67,6 @@ same-length c = search needs
 
 -- src/image.rt:174:1
 returns : tie.Need-returns
-unfolding fill
 returns c =
     let start = c .before .before .before .before .before .before .before .before in
     rw (c .before .before .before .before .before .flag-word .ensures) (fill-all (headWords (start .args .disc)) (start .args .words .now) (omega arith))

@@ -1,6 +1,6 @@
 use lib.ListN.{length-set}
 use Rattle.gladhamre.specs.Image.{recordWords}
-use Rattle.gladhamre.proofs.Laws.Image.{fill, fill-all}
+use Rattle.gladhamre.proofs.Laws.Image.{fill-all}
 use native.Mathlib.Omega.{arith}
 use borrow.Author.Needs.{needs}
 use Rattle.gladhamre.proofs.image.write_record.Statement.{statement}
@@ -47,7 +47,6 @@ same-length c = search needs
 
 -- src/image.rt:65:1
 returns : tie.Need-returns
-unfolding fill
 returns c =
     let start = c .before .before .before in
     rw (c .kind-word .ensures) (fill-all (recordWords (start .args .f)) (start .args .words .now) (omega arith))

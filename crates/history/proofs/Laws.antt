@@ -5,3 +5,4 @@ pub mod Demand
 pub mod Examples
 pub mod Witness
 pub mod Useful
+pub mod Served

@@ -7,3 +7,6 @@ pub use Rattle.disc.specs.declared.command.Command.{Command}
 pub use Rattle.disc.specs.declared.command.Command.the-variants.{Write}
 pub use Rattle.disc.specs.declared.verdict.Verdict.{Verdict}
 pub use Rattle.disc.specs.declared.answer.LinkRefusal.the-variants.{CommandBlockLength}
+pub use Rattle.disc.specs.declared.answer.LinkRefusal.{LinkRefusal}
+pub use Rattle.disc.specs.declared.answer.LinkRefusal.the-variants.{TransferLength}
+pub use Rattle.disc.specs.declared.answer.Answer.the-variants.{Link}

@@ -5,4 +5,4 @@ pub mod Moves
 pub mod Reply
 pub mod Step
 pub mod Alike
-pub mod Writes
+pub mod Requests

@@ -5,7 +5,7 @@ use mathlib.Core.List.{List, [], _∷_, _++_}
 use lib.ListN.{length}
 use Rattle.disc.specs.Address.{lba}
 use Rattle.drive.specs.Step.{Drive, Request}
-use Rattle.drive.specs.Writes.{WriteOf}
+use Rattle.drive.specs.Requests.{WriteOf}
 use Rattle.history.specs.Types.{Lba, Accepted}
 use Rattle.history.specs.Sequence.{Turn, result, final, told, AllAccepted, blocksOf, requests}
 

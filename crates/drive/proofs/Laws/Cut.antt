@@ -20,7 +20,7 @@ use Rattle.drive.proofs.Laws.Kept.{length-flushed-medium, length-flushe
 use Rattle.drive.specs.Types.{Lba, Disc, Accepted, LinkRefusal, Verdict, Block, Flush, Skip, Gather, Plan}
 use Rattle.drive.specs.Moves.{movedMedium, movedPending, flushedMedium, flushedPending, transferredMedium, transferredPending}
 use Rattle.drive.specs.Step.{Drive, drive, Request, lent, verdictOn, carriedOut, step}
-use Rattle.drive.specs.Writes.{WriteOf}
+use Rattle.drive.specs.Requests.{WriteOf}
 use Rattle.drive.proofs.Laws.Step.{verdict-decided, verdict-judge, lent-pending}
 use Rattle.drive.proofs.Laws.Alike.{verdict-cases, judgement, step-lengths}
 

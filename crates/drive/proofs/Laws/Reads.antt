@@ -17,7 +17,7 @@ use Rattle.disc.proofs.Laws.Numbers.{equal-cases}
 use Rattle.drive.specs.Types.{Lba, Disc, Read, Accepted, Send, Reply, Transfer, Verdict}
 use Rattle.drive.specs.Reply.{sentBytes}
 use Rattle.drive.specs.Step.{Drive, Request, verdictOn, carriedOut, step}
-use Rattle.drive.specs.Writes.{ReadOf}
+use Rattle.drive.specs.Requests.{ReadOf}
 use Rattle.drive.proofs.Laws.Step.{verdict-decided, verdict-judge}
 use Rattle.drive.proofs.Laws.Cut.{Served}
 

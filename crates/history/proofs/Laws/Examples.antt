@@ -8,7 +8,7 @@ use lib.ListN.{length, getD, length-replicate, length-append}
 use Rattle.disc.specs.Address.{lba}
 use Rattle.disc.specs.Command.{decode}
 use Rattle.drive.specs.Step.{Drive, Request}
-use Rattle.drive.specs.Writes.{WriteOf}
+use Rattle.drive.specs.Requests.{WriteOf}
 use Rattle.drive.specs.Alike.{recordedByte, Alike}
 use Rattle.drive.proofs.Laws.Alike.{alike-same}
 use Rattle.history.specs.Types.{Lba, Write}

@@ -7,7 +7,7 @@ use lib.ListN.{length, length-append}
 use Rattle.disc.specs.Address.{lba}
 use Rattle.disc.specs.Command.{decode}
 use Rattle.drive.specs.Step.{Drive, Request, request, verdictOn, carriedOut, step}
-use Rattle.drive.specs.Writes.{WriteOf}
+use Rattle.drive.specs.Requests.{WriteOf}
 use Rattle.drive.proofs.Laws.Cut.{Served, write-verdict, accepted-served, whole-parts, parts-whole, cut-recorded, cut-after}
 use Rattle.history.specs.Types.{Lba, Accepted, Write, Verdict}
 use Rattle.history.specs.Cut.{Parts, none, part}

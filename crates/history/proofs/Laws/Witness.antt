@@ -24,7 +24,7 @@ use Rattle.disc.specs.Verdict.{accepted, accept, refuse, refuseLink}
 use Rattle.disc.proofs.Laws.Bool.{by-cases}
 use Rattle.disc.proofs.Laws.Judge.{decided-capacity}
 use Rattle.drive.specs.Step.{Drive, Request, lent, verdictOn, carriedOut, step}
-use Rattle.drive.specs.Writes.{WriteOf}
+use Rattle.drive.specs.Requests.{WriteOf}
 use Rattle.drive.proofs.Laws.Bytes.{length-zeros}
 use Rattle.drive.proofs.Laws.Step.{verdict-decided, verdict-block, verdict-judge}
 use Rattle.drive.proofs.Laws.Alike.{step-lengths}

@@ -1,11 +1,11 @@
 -- Small requests and turns for the examples: what the vocabulary means.
-use Prim.Native.Nat.{ℕ}
+use Prim.Native.Nat.{ℕ, _+_}
 use mathlib.Core.List.{List, [], _∷_, _++_}
 use lib.ListN.{replicate}
 use Rattle.drive.specs.Step.{Drive, Request, request}
 use Rattle.history.specs.Sequence.{Turn, result}
 
--- the block of a WRITE at a small address and of a small length
+-- a block of a WRITE, its address and its length in one byte each
 abbrev pub writeBlock : ℕ → ℕ → List ℕ
 writeBlock a n = 0x2A ∷ 0 ∷ 0 ∷ 0 ∷ 0 ∷ a ∷ 0 ∷ 0 ∷ n ∷ 0 ∷ 0 ∷ 0 ∷ []
 
@@ -13,17 +13,17 @@ writeBlock a n = 0x2A ∷ 0 ∷ 0 ∷ 0 ∷ 0 ∷ a ∷ 0 ∷ 0 ∷ n ∷ 0 ∷ 
 abbrev pub sector : ℕ → List ℕ
 sector x = replicate 2048 x
 
--- WRITE 0 of 2, and its two parts: WRITE 0 of 1 and WRITE 1 of 1
-abbrev pub wholeWrite : Request
-wholeWrite = request (writeBlock 0 2) (sector 7 ++ (sector 9 ++ [])) []
+-- a WRITE of 2 sectors at an address, and its two parts
+abbrev pub wholeWrite : ℕ → Request
+wholeWrite a = request (writeBlock a 2) (sector 7 ++ (sector 9 ++ [])) []
 
-abbrev pub firstPart : Request
-firstPart = request (writeBlock 0 1) (sector 7) []
+abbrev pub firstPart : ℕ → Request
+firstPart a = request (writeBlock a 1) (sector 7) []
 
-abbrev pub secondPart : Request
-secondPart = request (writeBlock 1 1) (sector 9) []
+abbrev pub secondPart : ℕ → Request
+secondPart a = request (writeBlock (a + 1) 1) (sector 9) []
 
--- the same sectors with a gap before them, and over the first
+-- to follow the first part of a WRITE 0 of 2: the second sector behind a gap, and over the first
 abbrev pub partBehindGap : Request
 partBehindGap = request (writeBlock 2 1) (sector 9) []
 

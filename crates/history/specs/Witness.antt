@@ -10,7 +10,7 @@ use Rattle.drive.specs.Bytes.{zeros}
 use Rattle.drive.specs.Step.{Drive, drive, Request, request}
 use Rattle.history.specs.Types.{Disc}
 use Rattle.history.specs.Sequence.{Turn, result}
-use Rattle.history.specs.Examples.{writeBlock, sector}
+use Rattle.history.specs.Examples.{writeBlock, wholeWrite, firstPart, secondPart}
 
 -- the numbers of a sequence's answers
 unfoldable pub numbers : List Turn → Drive → List ℕ
@@ -54,13 +54,13 @@ before =
 
 -- WRITE 84 of 2, which is cut into WRITE 84 of 1 and WRITE 85 of 1
 abbrev pub cutWrite : Request
-cutWrite = request (writeBlock 84 2) (sector 7 ++ (sector 9 ++ [])) []
+cutWrite = wholeWrite 84
 
 abbrev pub cutFirst : Request
-cutFirst = request (writeBlock 84 1) (sector 7) []
+cutFirst = firstPart 84
 
 abbrev pub cutSecond : Request
-cutSecond = request (writeBlock 85 1) (sector 9) []
+cutSecond = secondPart 84
 
 -- CLOSE 001 of fragment 1, and 35h
 abbrev pub behind : List Shape

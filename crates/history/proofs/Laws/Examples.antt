@@ -7,43 +7,34 @@ use native.Mathlib.Omega.{arith}
 use lib.ListN.{length, getD, length-replicate, length-append}
 use Rattle.disc.specs.Address.{lba}
 use Rattle.disc.specs.Command.{decode}
-use Rattle.drive.specs.Step.{Drive, Request}
+use Rattle.drive.specs.Step.{Drive, Request, request}
 use Rattle.drive.specs.Requests.{WriteOf}
 use Rattle.drive.specs.Alike.{recordedByte, Alike}
 use Rattle.drive.proofs.Laws.Alike.{alike-same}
 use Rattle.history.specs.Types.{Lba, Write}
 use Rattle.history.specs.Sequence.{Start, Turn, found, result, Admissible, Undisturbed}
 use Rattle.history.specs.Cut.{Parts, none, part, CutOf}
-use Rattle.history.specs.Examples.{wholeWrite, firstPart, secondPart, partBehindGap, partOverFirst, emptyPart, sector, asLeft, steady}
+use Rattle.history.specs.Examples.{writeBlock, wholeWrite, firstPart, secondPart, partBehindGap, partOverFirst, emptyPart, sector, asLeft, steady}
+use Rattle.history.proofs.Laws.Parts.{write-request}
 use Rattle.history.proofs.Laws.Demand.{start-alike}
 
--- the requests are WRITEs with their data
-first-write : WriteOf firstPart (lba 0) 1
-unfolding decode
-first-write = record { block = refl; command = refl; sectors = length-replicate {A = ℕ} 2048 7 }
+-- a cut that is one, at any address
+pub whole-sectors : length (sector 7 ++ (sector 9 ++ [])) ≡ 4096
+whole-sectors =
+    length-append (sector 7) (sector 9 ++ [])
+    ∙ omega (arith, length-replicate {A = ℕ} 2048 7, length-append (sector 9) [], length-replicate {A = ℕ} 2048 9)
 
-second-write : WriteOf secondPart (lba 1) 1
-unfolding decode
-second-write = record { block = refl; command = refl; sectors = length-replicate {A = ℕ} 2048 9 }
+one-sector : (a x : ℕ) → WriteOf (request (writeBlock a 1) (sector x) []) (lba a) 1
+one-sector a x = write-request (lba a) 1 (sector x) (length-replicate {A = ℕ} 2048 x)
 
-whole-write : WriteOf wholeWrite (lba 0) 2
-unfolding decode
-whole-write =
+pub cut-in-two : (a : ℕ) → CutOf (wholeWrite a) (firstPart a ∷ secondPart a ∷ [])
+cut-in-two a =
     record {
-      block = refl;
-      command = refl;
-      sectors = length-append (sector 7) (sector 9 ++ []) ∙ omega (arith, length-replicate {A = ℕ} 2048 7, length-append (sector 9) [], length-replicate {A = ℕ} 2048 9);
-    }
-
--- a cut that is one
-pub cut-in-two : CutOf wholeWrite (firstPart ∷ secondPart ∷ [])
-cut-in-two =
-    record {
-      address = lba 0;
+      address = lba a;
       count = 2;
-      whole = whole-write;
+      whole = write-request (lba a) 2 (wholeWrite a .sectors) whole-sectors;
       several = omega arith;
-      parts = part (lba 0) 1 1 firstPart _ _ (omega arith) first-write (part (lba 1) 1 0 secondPart [] [] (omega arith) second-write (none (lba 2)));
+      parts = part (lba a) 1 1 (firstPart a) _ _ (omega arith) (one-sector a 7) (part (lba (a + 1)) 1 0 (secondPart a) [] [] (omega arith) (one-sector (a + 1) 9) (none _));
     }
 
 -- no part has 0 sectors, and each begins where the last ended: no gap, no overlap
@@ -70,18 +61,14 @@ parts-joined a b c n m k x one two qs w v (part d i j u rest us h y (part f g l 
     let next = write-address (sym (v .command) ∙ y₁ .command) in
     omega (arith, ap (λ (z : Lba). z .0) start, count, ap (λ (z : Lba). z .0) next)
 
-pub gap-is-none : (q : Request) (qs : List Request) → CutOf q (firstPart ∷ partBehindGap ∷ qs) → ⊥
-unfolding decode
+pub gap-is-none : (q : Request) (qs : List Request) → CutOf q (firstPart 0 ∷ partBehindGap ∷ qs) → ⊥
 gap-is-none q qs c =
-    let w : WriteOf partBehindGap (lba 2) 1 = record { block = refl; command = refl; sectors = length-replicate {A = ℕ} 2048 9 } in
-    let e = parts-joined (lba 0) (lba 2) (c .address) 1 1 (c .count) (q .sectors) firstPart partBehindGap qs first-write w (c .parts) in
+    let e = parts-joined (lba 0) (lba 2) (c .address) 1 1 (c .count) (q .sectors) (firstPart 0) partBehindGap qs (one-sector 0 7) (one-sector 2 9) (c .parts) in
     omega arith
 
-pub overlap-is-none : (q : Request) (qs : List Request) → CutOf q (firstPart ∷ partOverFirst ∷ qs) → ⊥
-unfolding decode
+pub overlap-is-none : (q : Request) (qs : List Request) → CutOf q (firstPart 0 ∷ partOverFirst ∷ qs) → ⊥
 overlap-is-none q qs c =
-    let w : WriteOf partOverFirst (lba 0) 1 = record { block = refl; command = refl; sectors = length-replicate {A = ℕ} 2048 9 } in
-    let e = parts-joined (lba 0) (lba 0) (c .address) 1 1 (c .count) (q .sectors) firstPart partOverFirst qs first-write w (c .parts) in
+    let e = parts-joined (lba 0) (lba 0) (c .address) 1 1 (c .count) (q .sectors) (firstPart 0) partOverFirst qs (one-sector 0 7) (one-sector 0 9) (c .parts) in
     omega arith
 
 -- one part alone is no cut

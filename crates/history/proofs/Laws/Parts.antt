@@ -10,14 +10,15 @@ use Rattle.drive.specs.Step.{Drive, Request, request, verdictOn, carriedOut, st
 use Rattle.drive.specs.Requests.{WriteOf}
 use Rattle.drive.proofs.Laws.Cut.{Served, write-verdict, accepted-served, whole-parts, parts-whole, cut-recorded, cut-after}
 use Rattle.history.specs.Types.{Lba, Accepted, Write, Verdict}
+use Rattle.history.specs.Examples.{writeBlock}
 use Rattle.history.specs.Cut.{Parts, none, part}
 use Rattle.history.proofs.Laws.Runs.{runs, RunAccepted, runBlocks}
 
 -- a WRITE of n sectors at an address, as some request: the parts still to come are one such WRITE
 abbrev pub writeRequest : Lba → ℕ → List ℕ → Request
-writeRequest a n x = request (0x2A ∷ 0 ∷ 0 ∷ 0 ∷ 0 ∷ a .0 ∷ 0 ∷ 0 ∷ n ∷ 0 ∷ 0 ∷ 0 ∷ []) x []
+writeRequest a n x = request (writeBlock (a .0) n) x []
 
-write-request : (a : Lba) (n : ℕ) (x : List ℕ) → length x ≡ 2048 * n → WriteOf (writeRequest a n x) a n
+pub write-request : (a : Lba) (n : ℕ) (x : List ℕ) → length x ≡ 2048 * n → WriteOf (writeRequest a n x) a n
 unfolding decode
 write-request a n x h =
     let address : 0 + (0 + a .0) ≡ a .0 = omega arith in

@@ -3,11 +3,9 @@ use Prim.Native.Nat.{ℕ}
 use mathlib.Core.Path.{_≡_, refl, sym, ap, _∙_, subst}
 use mathlib.Core.Bool.{true}
 use mathlib.Core.List.{List, [], _∷_, _++_, map}
-use native.Mathlib.Omega.{arith}
 use borrow.Author.Tests.{eqb-true, eqb-false, ne-eqb}
 use lib.Dec.{eqb}
-use lib.ListN.{length, replicate, length-replicate, length-append}
-use Rattle.disc.specs.Address.{lba}
+use lib.ListN.{length, replicate, length-replicate}
 use Rattle.disc.specs.Answer.{number, isRefusalSense, allowedSense}
 use Rattle.disc.specs.Blank.{blank}
 use Rattle.disc.specs.Command.{decode}
@@ -24,15 +22,15 @@ use Rattle.disc.specs.Verdict.{accepted, accept, refuse, refuseLink}
 use Rattle.disc.proofs.Laws.Bool.{by-cases}
 use Rattle.disc.proofs.Laws.Judge.{decided-capacity}
 use Rattle.drive.specs.Step.{Drive, Request, lent, verdictOn, carriedOut, step}
-use Rattle.drive.specs.Requests.{WriteOf}
 use Rattle.drive.proofs.Laws.Bytes.{length-zeros}
 use Rattle.drive.proofs.Laws.Step.{verdict-decided, verdict-block, verdict-judge}
 use Rattle.drive.proofs.Laws.Alike.{step-lengths}
 use Rattle.history.specs.Types.{Disc, Verdict, Accepted, CommandBlockLength}
 use Rattle.history.specs.Sequence.{Start, Turn, final}
-use Rattle.history.specs.Cut.{none, part, CutOf, Again, ends, same, cut}
-use Rattle.history.specs.Examples.{writeBlock, sector, asLeft, steady}
+use Rattle.history.specs.Cut.{Again, ends, same, cut}
+use Rattle.history.specs.Examples.{writeBlock, asLeft, steady}
 use Rattle.history.specs.Witness.{numbers, Shape, shape, shapeOf, discAfter, filled, judged, before, cutWrite, cutFirst, cutSecond, behind, zeroStart, firstRun, secondRun}
+use Rattle.history.proofs.Laws.Examples.{whole-sectors, cut-in-two}
 
 -- with right buffers the disc decides alone
 judge-block : (d : Disc) (b : List ℕ) (n m : ℕ) → (length b ≡ 12 → ⊥) → judge d b n m ≡ refuseLink d CommandBlockLength
@@ -121,32 +119,6 @@ again-prefix (p ∷ ps) s e ts us w =
     same s (asLeft p s) (asLeft p e) _ _ (record { block = refl; sectors = refl; room = refl })
     (again-prefix ps (step s p .after) (step e p .after) ts us w)
 
--- the cut of the WRITE in the example
-cut-sectors : length (sector 7 ++ (sector 9 ++ [])) ≡ 4096
-cut-sectors = length-append (sector 7) (sector 9 ++ []) ∙ omega (arith, length-replicate {A = ℕ} 2048 7, length-append (sector 9) [], length-replicate {A = ℕ} 2048 9)
-
-first-write : WriteOf cutFirst (lba 84) 1
-unfolding decode
-first-write = record { block = refl; command = refl; sectors = length-replicate {A = ℕ} 2048 7 }
-
-second-write : WriteOf cutSecond (lba 85) 1
-unfolding decode
-second-write = record { block = refl; command = refl; sectors = length-replicate {A = ℕ} 2048 9 }
-
-whole-write : WriteOf cutWrite (lba 84) 2
-unfolding decode
-whole-write = record { block = refl; command = refl; sectors = cut-sectors }
-
-cut-write : CutOf cutWrite (cutFirst ∷ cutSecond ∷ [])
-cut-write =
-    record {
-      address = lba 84;
-      count = 2;
-      whole = whole-write;
-      several = omega arith;
-      parts = part (lba 84) 1 1 cutFirst _ _ (omega arith) first-write (part (lba 85) 1 0 cutSecond [] [] (omega arith) second-write (none (lba 86)));
-    }
-
 pub start-lent : (s : Drive) → Start 300 s → lent (s .disc) (length (s .medium)) (length (s .pending)) ≡ true
 unfolding blank
 start-lent s h = rw (h .disc, h .medium, h .pending)
@@ -169,7 +141,7 @@ shapes-append (h ∷ hs) rs =
 run-shapes : map shapeOf firstRun ≡ before ++ (shape (writeBlock 84 2) 4096 0 ∷ behind)
 run-shapes =
     shapes-append before (cutWrite ∷ map (filled 0) behind)
-    ∙ (ap (λ (n : ℕ). before ++ (shape (writeBlock 84 2) n 0 ∷ map shapeOf (map (filled 0) behind))) cut-sectors
+    ∙ (ap (λ (n : ℕ). before ++ (shape (writeBlock 84 2) n 0 ∷ map shapeOf (map (filled 0) behind))) whole-sectors
     ∙ ap (λ (hs : List Shape). before ++ (shape (writeBlock 84 2) 4096 0 ∷ hs)) (filled-shapes 0 behind))
 
 again-steady : (rs : List Request) (s e : Drive) → Again s (steady rs s) (steady rs e)
@@ -197,7 +169,7 @@ module _ (s : Drive) (start : Start 300 s) where
   write-accepted =
       step-judges place cutWrite place-lent .0
       ∙ (ap (λ (d : Disc). judge d (writeBlock 84 2) (length (cutWrite .sectors)) 0 .answer) place-disc
-      ∙ (ap (λ (n : ℕ). judge (discAfter before (blank 300)) (writeBlock 84 2) n 0 .answer) cut-sectors ∙ computed-accepted))
+      ∙ (ap (λ (n : ℕ). judge (discAfter before (blank 300)) (writeBlock 84 2) n 0 .answer) whole-sectors ∙ computed-accepted))
 
   -- the answers: L1, L4, 5/20/00, and seven commands accepted
   pub witness-numbers : numbers (steady firstRun s) s ≡ 1 ∷ 4 ∷ 0x052000 ∷ 0 ∷ 0 ∷ 0 ∷ 0 ∷ 0 ∷ 0 ∷ 0 ∷ []
@@ -219,7 +191,7 @@ module _ (s : Drive) (start : Start 300 s) where
       (sym (steady-append ps (cutFirst ∷ cutSecond ∷ rs) e))
       (again-prefix ps s e _ _
       (cut place (asLeft cutWrite place) (steady rs (step place cutWrite .after)) (steady (cutFirst ∷ cutSecond ∷ []) x) (steady rs y) _
-      write-accepted cut-write (again-steady rs (step place cutWrite .after) y) refl)))
+      write-accepted (cut-in-two 84) (again-steady rs (step place cutWrite .after) y) refl)))
 
 -- a start of 300 blocks is there
 pub zero-start : Start 300 zeroStart

@@ -74,7 +74,7 @@ untouched s q a d =
     record { answer = a; reply = []; recorded = 0; buffer = q .buffer; after = drive d (s .medium) (s .pending) }
 
 -- what the code that carries a verdict out asks: what is sent is the recorded run, and what the plan asks of the lent buffers is there
-pub record Carried (v : Verdict) (s : Drive) (q : Request) : Type 0 where
+pub record Feasible (v : Verdict) (s : Drive) (q : Request) : Type 0 where
   pub sends : Sendable (s .disc) (q .block) (s .medium) (v .plan .transfer) (v .reply) (length (q .buffer))
   pub block : length (s .pending) ≡ 32768
   pub flush : FlushFits (length (s .medium)) (v .plan .flush)
@@ -87,7 +87,7 @@ response v n = record { answer = v .answer; disc = v .disc; length = n; recorded
 abbrev pub refused : Disc → LinkRefusal → Response
 refused d r = response (refuseLink d r) 0
 
--- its promise: the response, and medium, pending buffer and reply buffer afterwards
+-- the promise of that code: the response, and medium, pending buffer and reply buffer afterwards
 pub record CarriedOut (v : Verdict) (s : Drive) (q : Request) (r : Response) (medium pending buffer : List ℕ) : Type 0 where
   pub responds : r ≡ response v (length (carriedOut v s q .reply))
   pub recordedMedium : medium ≡ carriedOut v s q .after .medium

@@ -8,7 +8,7 @@ use disc::Disc;
 use disc::LinkRefusal;
 use disc::Verdict;
 ghost use mathlib.Core.Path.{_≡_};
-ghost use Rattle.drive.specs.Step.{drive, request, lent, refused, Carried, CarriedOut, Answered};
+ghost use Rattle.drive.specs.Step.{drive, request, lent, refused, Feasible, CarriedOut, Answered};
 
 // The answer to a command: how it ended, the disc afterwards, the reply's length and the number of blocks recorded.
 pub struct Response {
@@ -49,7 +49,7 @@ fn carry_out(
     pending: &mut [u8],
     reply: &mut [u8],
 ) -> Response
-    requires { ⌜ Carried verdict (drive disc (now medium) (now pending)) (request (now block) (now «data») (now reply)) ⌝ }
+    requires { ⌜ Feasible verdict (drive disc (now medium) (now pending)) (request (now block) (now «data») (now reply)) ⌝ }
     ensures { λ r. ⌜ CarriedOut verdict (drive disc (now (medium .entry)) (now (pending .entry))) (request (now (block .entry)) (now («data» .entry)) (now (reply .entry))) r (now (medium .exit)) (now (pending .exit)) (now (reply .exit)) ⌝ }
 {
     let plan = verdict.plan;

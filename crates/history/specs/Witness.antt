@@ -81,8 +81,8 @@ secondRun = map (filled 0) before ++ (cutFirst ∷ cutSecond ∷ map (filled 0) 
 abbrev pub firstBlock : Request
 firstBlock = filled 7 (shape (writeBlock 0 16) 32768 0)
 
-abbrev pub discInformation : Request
-discInformation = filled 0 (shape (0x51 ∷ 0 ∷ 0 ∷ 0 ∷ 0 ∷ 0 ∷ 0 ∷ 0 ∷ 34 ∷ 0 ∷ 0 ∷ 0 ∷ []) 0 34)
+abbrev pub informationRequest : Request
+informationRequest = filled 0 (shape (0x51 ∷ 0 ∷ 0 ∷ 0 ∷ 0 ∷ 0 ∷ 0 ∷ 0 ∷ 34 ∷ 0 ∷ 0 ∷ 0 ∷ []) 0 34)
 
 abbrev pub secondBlock : Request
 secondBlock = filled 9 (shape (writeBlock 16 16) 32768 0)

@@ -51,3 +51,12 @@ unfolding
 blank-allowed c r =
     let h = range-least c r in
     simp (sub-zero, zero-add, ne-eqb c 0 (λ e. omega arith), ne-eqb 0 c (λ e. omega arith), eq-eqb c c refl, le-leb c c (omega arith), le-leb 0 c (omega arith))
+
+-- its capacity, and that nothing is pending
+pub blank-capacity : (c : ℕ) → blank c .capacity ≡ c
+unfolding blank
+blank-capacity c = refl
+
+pub blank-pending : (c : ℕ) → blank c .pending ≡ 0
+unfolding blank
+blank-pending c = refl

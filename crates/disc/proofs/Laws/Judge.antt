@@ -1,10 +1,10 @@
 -- What the decision about a command does to the disc.
 use Prim.Native.Nat.{ℕ, _+_, _-_, _/_, _≤_, min, _*_}
-use mathlib.Core.Path.{_≡_, ap, refl}
+use mathlib.Core.Path.{_≡_, ap, refl, sym}
 use mathlib.Core.Bool.{true, not, _||_}
 use mathlib.Core.List.{List, _++_}
 use native.Mathlib.Omega.{arith}
-use borrow.Author.Tests.{not-false, ltb-false, eq-eqb, le-leb}
+use borrow.Author.Tests.{not-false, ltb-false, eq-eqb, le-leb, ne-eqb}
 use native.Mathlib.Nat.{le-refl}
 use lib.ListN.{length, replicate, length-append}
 use lib.Dec.{eqb, ltb}
@@ -21,11 +21,11 @@ use Rattle.disc.specs.Verdict.{refuseLink, noPlan, refuse, accepted, acc
 use Rattle.disc.specs.Read.{allReadable, read}
 use Rattle.disc.specs.Reports.{bytes32, senseBytes, requestSense, readCapacity, discInformation, readDiscInformation, trackInformation, trackReport, trackFound, trackNumbered, readTrackInformation}
 use Rattle.disc.specs.Judge.{testUnitReady, perform, judgeCommand, judge, Judged}
-use mathlib.Core.Logic.{⊎-elim}
+use mathlib.Core.Logic.{⊎-elim, _⊎_, inl, inr}
 use Rattle.disc.specs.Recorded.{recordsBlock, flushes, transfers}
 use Rattle.disc.specs.Write.{write}
 use Rattle.disc.proofs.Laws.Pending.{Pending, pending-same}
-use Rattle.disc.proofs.Laws.Bool.{and-left, cond-cases, and-both, same-test, or-left, or-right, or-cases, contradiction}
+use Rattle.disc.proofs.Laws.Bool.{and-left, cond-cases, and-both, same-test, or-left, or-right, or-cases, contradiction, by-cases}
 use Rattle.disc.proofs.Laws.Rules.{sound-rules}
 use Rattle.disc.proofs.Laws.Onward.{Onward, same-onward, onward-sum}
 use Rattle.disc.proofs.Laws.Recorded.{Records, nothing-records}
@@ -292,6 +292,26 @@ judge-reads d b m a k l e r s f = judge-performs d b 0 m (Read a k) l e r s (and
 pub perform-read : (d : Disc) (a : Lba) (k : ℕ) → perform d (Read a k) ≡ read d a k
 unfolding perform
 perform-read d a k = refl
+
+-- a block of another length is L1; of a state that is in order L1 and L4 alone come up
+pub judge-block : (d : Disc) (b : List ℕ) (n m : ℕ) → (length b ≡ 12 → ⊥) → judge d b n m ≡ refuseLink d CommandBlockLength
+unfolding judge
+judge-block d b n m h = rw (ne-eqb (length b) 12 h)
+
+link-same : {y z : LinkRefusal} → Link y ≡ Link z → z ≡ y
+link-same {y} {z} q = let p : y ≡ z = cc in sym p
+
+pub judge-link :
+    (d : Disc) (b : List ℕ) (n m : ℕ) (x : LinkRefusal) → inRange (d .capacity) ≡ true → allowedState d ≡ true → judge d b n m .answer ≡ Link x
+    → (x ≡ CommandBlockLength) ⊎ (x ≡ TransferLength)
+unfolding judge judgeCommand refuseLink
+judge-link d b n m x r a e =
+    by-cases (eqb (length b) 12)
+    (λ w.
+    by-cases (lengthsFit (decode b) n m)
+    (λ l. absurd (outcome-answer d (decode b) (perform d (decode b)) x (allowed-outcome d (decode b) r a) (rw (w, r, a, l) at e)))
+    (λ l. let q : Link TransferLength ≡ Link x = rw (w, r, a, l) at e in inr (link-same q)))
+    (λ w. let q : Link CommandBlockLength ≡ Link x = rw w at e in inl (link-same q))
 
 -- blocks with the same fields are decided alike, whatever stands in the bytes that no field reads
 pub judge-decodes :

@@ -7,7 +7,7 @@ use native.Mathlib.Omega.{arith}
 use borrow.Author.Tests.{eq-eqb, eqb-true, leb-true}
 use lib.Dec.{eqb, leb}
 use lib.ListN.{length}
-use Rattle.disc.specs.Types.{Lba, Disc, Flush, Transfer, Send, Verdict, Command, Read}
+use Rattle.disc.specs.Types.{Lba, Disc, Flush, Transfer, Send, Verdict, Command}
 use Rattle.disc.specs.Command.{decode}
 use Rattle.disc.specs.Rules.{Sound}
 use Rattle.disc.specs.Blank.{inRange}
@@ -20,7 +20,7 @@ use Rattle.disc.specs.Judge.{perform, judge}
 use Rattle.disc.specs.Run.{stretch, sent, sentBy, served, recordedRun}
 use Rattle.disc.proofs.Laws.Bool.{and-both, and-left, and-right}
 use Rattle.disc.proofs.Laws.Rules.{sound-rules}
-use Rattle.disc.proofs.Laws.Plan.{Flushed, skips, records, Moved, nothing, sends, gathers, fills, unrecorded-inside}
+use Rattle.disc.proofs.Laws.Plan.{Flushed, skips, records, Moved, nothing, sends, gathers, fills, unrecorded-inside, moved-sends}
 use Rattle.disc.proofs.Laws.Outcome.{outcome-placed, outcome-room}
 use Rattle.disc.proofs.Laws.Judge.{allowed-ready, allowed-outcome, Decided, onLink, byDrive, judge-decided}
 
@@ -78,11 +78,7 @@ pub judge-fits :
     (d : Disc) (b : List ℕ) (k n m : ℕ) → k ≡ 32768 * d .capacity → Fits k n m (judge d b n m)
 judge-fits d b k n m e = decided-fits d k (judge d b n m) e (judge-decided d b n m)
 
--- a plan that sends is a READ's
-sends-read : (d : Disc) (c : Command) (a : Lba) (n : ℕ) → Moved d c (Send a n) → c ≡ Read a n
-sends-read d c a n (sends x y q h r) = q
-
--- so on a medium of whole blocks the recorded run of its block is what it sends
+-- a plan that sends is a READ's, so on a medium of whole blocks the recorded run of its block is what it sends
 decided-run :
     {n m : ℕ} (d : Disc) (b medium : List ℕ) (a : Lba) (k : ℕ) (v : Verdict) → length b ≡ 12 → length medium ≡ 32768 * d .capacity
     → Decided d (decode b) n m v → v .plan .transfer ≡ Send a k → recordedRun d b medium ≡ stretch a k medium
@@ -90,8 +86,7 @@ unfolding refuseLink perform recordedRun sentBy sent
 decided-run d b medium a k v lb lm (onLink x) e = absurd (let z : _≡_ {A = ℕ} 0 1 = cc in omega arith)
 decided-run d b medium a k v lb lm (byDrive r s l) e =
     let c = decode b in
-    let p : Moved d c (Send a k) = rw e at (outcome-placed d c _ (allowed-outcome d c r s) .moved) in
-    let q = sends-read d c a k p in
+    let q = moved-sends d c a k (rw e at (outcome-placed d c _ (allowed-outcome d c r s) .moved)) .command in
     let t : served d (length b) (length medium) ≡ true =
     and-both (and-both (and-both (eq-eqb _ _ lb) r) (eq-eqb _ _ lm)) s in
     let w : read d a k .plan .transfer ≡ Send a k = rw q at e in

@@ -1,7 +1,7 @@
 -- What is recorded stays recorded: a record with recorded blocks stays at its place and start and records no fewer; and which blocks are
 -- recorded anew.
 use Prim.Native.Nat.{ℕ, _+_, _-_, _≤_, _<_, suc}
-use mathlib.Core.Path.{_≡_, refl, sym, _∙_, ap}
+use mathlib.Core.Path.{_≡_, refl, sym, _∙_, ap, subst}
 use native.Mathlib.Omega.{arith}
 use lib.ListN.{length, getD, set}
 use lib.Seq.{getD-set-same, getD-set-other}
@@ -11,7 +11,7 @@ use borrow.Author.Tests.{ltb-true, ltb-false}
 use lib.Dec.{ltb}
 use Rattle.disc.specs.Types.{Fragment, Disc}
 use Rattle.disc.specs.Fragment.{unusedRecord, firstUnrecorded}
-use Rattle.disc.specs.Records.{used, lastRecord, withRecord, sumRecorded}
+use Rattle.disc.specs.Records.{used, lastRecord, withRecord, sumRecorded, listed}
 use Rattle.disc.specs.Rules.{at, Sound}
 use Rattle.disc.proofs.Laws.Bool.{by-cases}
 use Rattle.disc.proofs.Laws.Numbers.{equal-cases}
@@ -63,6 +63,33 @@ held-stays d e x k h =
 
 pub held-onward : (d e : Disc) (B : ℕ → Type 0) (x : ℕ) → Onward d e B → Held d x → Held e x
 held-onward d e B x o h = held-stays d e x (o .stays) h
+
+-- on a disc with the same list, as one with another sense, the same is recorded
+held-list : (d e : Disc) (x : ℕ) → d .fragments ≡ e .fragments → Held d x → Held e x
+held-list d e x q h =
+    let at-same = ap (λ (l : List Fragment). getD l (h .index) unusedRecord) q in
+    record {
+      index = h .index;
+      listed = subst (λ (l : List Fragment). h .index < length (listed l)) q (h .listed);
+      from = subst (λ (f : Fragment). f .start .0 ≤ x) at-same (h .from);
+      below = subst (λ (f : Fragment). x < firstUnrecorded f .0) at-same (h .below);
+    }
+
+pub list-onward : (d e k : Disc) (B : ℕ → Type 0) → e .fragments ≡ k .fragments → Onward d e B → Onward d k B
+list-onward d e k B q o =
+    record {
+      stays =
+          λ i h n.
+          let a = o .stays i h n in
+          let at-same = ap (λ (l : List Fragment). getD l i unusedRecord) q in
+          record {
+            listed = subst (λ (l : List Fragment). i < length (listed l)) q (a .listed);
+            start = subst (λ (f : Fragment). f .start .0 ≡ at d i .start .0) at-same (a .start);
+            recorded = subst (λ (f : Fragment). at d i .recorded ≤ f .recorded) at-same (a .recorded);
+          };
+      was = λ x h. o .was x (held-list k e x (sym q) h);
+      adds = λ x b. held-list e k x q (o .adds x b);
+    }
 
 -- the blocks of B by another description
 pub onward-as :

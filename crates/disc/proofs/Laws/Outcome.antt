@@ -31,7 +31,7 @@ use Rattle.disc.proofs.Laws.Flush.{used-limit, flush-sound, flush-capac
 use Rattle.disc.proofs.Laws.Write.{writable-found, others-sound, others-numbered, others-pending}
 use Rattle.disc.proofs.Laws.Close.{appended-last}
 use Rattle.disc.proofs.Laws.Session.{kept-few, kept-capacity, kept-finalized, kept-pending}
-use Rattle.disc.proofs.Laws.Onward.{Onward, same-onward, onward-on, NoBlock, onward-as, onward-before, onward-after}
+use Rattle.disc.proofs.Laws.Onward.{Onward, same-onward, onward-on, NoBlock, onward-as, onward-before, onward-after, list-onward}
 use Rattle.disc.proofs.Laws.Plan.{Placed, placed-none, placed-flush, placed-gather, placed-fill, placed-send}
 use Rattle.disc.proofs.Laws.Keep.{split-onward, fill-grows, shorten-onward, close-tail-onward, open-session-onward, gather-grows, split-sound, fill-sound, shorten-sound, close-tail-closed, open-session-sound, finalize-sound, only-blank, gather-sound, write-room}
 
@@ -267,15 +267,6 @@ close-session-outcome d c r =
     (onward-after d e _ _ (flush-onward d r) (onward-before e k _ NoBlock (close-tail-onward e s p) (open-session-onward k t few start))))
     (placed-flush d c r) (pending-none d _ (open-pending k ∙ (kept-pending e ∙ p))) (no-room c)))))
 
--- another sense, or finalized: the records stay
-finalized-onward : (d k : Disc) (B : ℕ → Type 0) → Onward d k B → Onward d (finalized k) B
-finalized-onward d k B o =
-    record {
-      stays = λ i h n. let a = o .stays i h n in record { listed = a .listed; start = a .start; recorded = a .recorded };
-      was = λ x h. o .was x (record { index = h .index; listed = h .listed; from = h .from; below = h .below });
-      adds = λ x b. let h = o .adds x b in record { index = h .index; listed = h .listed; from = h .from; below = h .below };
-    }
-
 pub finalize-outcome : (d : Disc) (c : Command) → Ready d → Outcome d c (finalize d)
 unfolding finalize
 finalize-outcome d c r =
@@ -291,7 +282,7 @@ finalize-outcome d c r =
     (λ b.
     let t = close-tail-closed e s p i (two-kept d r (λ t q. contradiction (and-both t (eq-eqb _ _ q)) b)) in
     done (finalized k) _ _ (finalize-sound k t (kept-pending e ∙ p)) (kept-capacity e ∙ flush-capacity d)
-    (flush-records d _ (flushPlan d) (finalized-onward d k _ (onward-after d e k _ (flush-onward d r) (close-tail-onward e s p))))
+    (flush-records d _ (flushPlan d) (list-onward d k (finalized k) _ refl (onward-after d e k _ (flush-onward d r) (close-tail-onward e s p))))
     (placed-flush d c r) (pending-none d _ (kept-pending e ∙ p)) (no-room c))))
 
 pub close-outcome : (d : Disc) (c : Command) (function n : ℕ) → Ready d → Outcome d c (close d function n)
@@ -324,14 +315,6 @@ sense-sound d q s =
       owned = λ z. let o = s .owned z in record { number = o .number; listed = o .listed; incomplete = o .incomplete };
       closed = s .closed;
       settled = s .settled;
-    }
-
-sense-onward : (d e : Disc) (q : Sense) (B : ℕ → Type 0) → Onward d e B → Onward d (withSense e q) B
-sense-onward d e q B o =
-    record {
-      stays = λ i h n. let a = o .stays i h n in record { listed = a .listed; start = a .start; recorded = a .recorded };
-      was = λ x h. o .was x (record { index = h .index; listed = h .listed; from = h .from; below = h .below });
-      adds = λ x b. let h = o .adds x b in record { index = h .index; listed = h .listed; from = h .from; below = h .below };
     }
 
 -- so every command keeps the list sound and the capacity
@@ -367,8 +350,8 @@ outcome-answer d c v q (refused x) e = let z : _≡_ {A = ℕ} 0 1 = cc in omega
 -- and recorded are the blocks that were recorded before it, and those of its plan
 pub outcome-onward : (d : Disc) (c : Command) (v : Verdict) → Outcome d c v → Onward d (v .disc) (Records (v .plan))
 unfolding accept accepted refuse
-outcome-onward d c v (done after q p s k o l g m) = sense-onward d after noSense (Records p) o
-outcome-onward d c v (refused q) = sense-onward d d (refusalSense q) (Records noPlan) (nothing-records d d (same-onward d))
+outcome-onward d c v (done after q p s k o l g m) = list-onward d after (withSense after noSense) (Records p) refl o
+outcome-onward d c v (refused q) = list-onward d d (withSense d (refusalSense q)) (Records noPlan) refl (nothing-records d d (same-onward d))
 
 -- and its plan records blocks that were unrecorded before
 pub outcome-placed : (d : Disc) (c : Command) (v : Verdict) → Outcome d c v → Placed d c (v .plan)

@@ -1,14 +1,16 @@
 -- A run of readable sectors lies in the recorded blocks of one fragment.
 use Prim.Native.Nat.{ℕ, zero, suc, _+_, _-_, _/_, _≤_, _<_}
-use mathlib.Core.Path.{_≡_, refl}
+use mathlib.Core.Path.{_≡_, refl, ap}
 use mathlib.Core.Bool.{true, not}
 use native.Mathlib.Omega.{arith}
 use borrow.Author.Tests.{leb-true, le-leb, ltb-true, ltb-false, lt-ltb, le-ltb, not-true}
 use lib.Dec.{eqb, leb, ltb}
+use lib.ListN.{getD, replicate}
+use Rattle.disc.specs.Blank.{blank}
 use Rattle.disc.specs.Types.{Lba, Fragment, Disc, Nothing, Send}
 use Rattle.disc.specs.Address.{lba, sectorsIn, firstSector}
 use Rattle.disc.specs.Fragment.{unusedRecord, firstUnrecorded, holdsRecorded}
-use Rattle.disc.specs.Records.{some, records, used, readable}
+use Rattle.disc.specs.Records.{some, records, used, readable, limit}
 use Rattle.disc.specs.Rules.{at, Sound}
 use Rattle.disc.specs.Verdict.{accepted, accept, refuse}
 use Rattle.disc.specs.Read.{allReadable, read}
@@ -57,6 +59,20 @@ pub held-readable : (d : Disc) (a : Lba) → Held d (a .0 / 16) → readable d a
 held-readable d a h =
     at-readable d a (h .index) (h .listed)
     (recorded-between a (at d (h .index)) (omega (arith, h .from)) (omega (arith, h .below)))
+
+-- no sector of a blank disc is readable
+unused-at : (n i : ℕ) → getD (replicate n unusedRecord) i unusedRecord ≡ unusedRecord
+unused-at zero i = refl
+unused-at (suc n) zero = refl
+unused-at (suc n) (suc i) = unused-at n i
+
+blank-record : (c i : ℕ) → at (blank c) i .recorded ≡ 0
+unfolding blank
+blank-record c zero = refl
+blank-record c (suc i) = ap (λ f. f .recorded) (unused-at (limit - 1) i)
+
+pub blank-unreadable : (c : ℕ) (a : Lba) → readable (blank c) a ≡ true → ⊥
+blank-unreadable c a t = let h = readable-held (blank c) a t in omega (arith, h .from, h .below, blank-record c (h .index))
 
 -- a readable sector stays so while the list goes onward
 pub readable-onward : (d e : Disc) (B : ℕ → Type 0) (a : Lba) → Onward d e B → readable d a ≡ true → readable e a ≡ true

@@ -10,15 +10,13 @@ use borrow.Author.Tests.{eqb-true, eqb-false}
 use lib.Dec.{eqb}
 use Rattle.disc.specs.Address.{lba}
 use Rattle.disc.specs.Answer.{refusalSense}
-use Rattle.disc.specs.Command.{decode}
 use Rattle.disc.specs.Judge.{judge}
-use Rattle.disc.specs.Lent.{FlushFits, TransferFits, Fits}
+use Rattle.disc.specs.Lent.{FlushFits, TransferFits}
 use Rattle.disc.specs.Recorded.{flushes, transfers, recordsBlock, flushedCount}
 use Rattle.disc.specs.Records.{readable, withSense}
 use Rattle.disc.specs.Verdict.{refuse, refuseLink}
 use Rattle.disc.proofs.Laws.Bool.{by-cases, or-cases}
-use Rattle.disc.proofs.Laws.Judge.{Decided, judge-decided, decided-link, decided-refused, decided-recorded, decided-fresh, decided-sends, decided-pending}
-use Rattle.disc.proofs.Laws.Lent.{judge-fits}
+use Rattle.disc.proofs.Laws.Judge.{decided-link, decided-refused, decided-recorded, decided-fresh, decided-sends, decided-pending, decided-capacity}
 use Rattle.disc.proofs.Laws.Pending.{Pending}
 use Rattle.disc.proofs.Laws.Read.{all-readable-at}
 use Rattle.drive.specs.Types.{Lba, Block, Disc, LinkRefusal, DriveRefusal, Link, Drive as byDrive, CommandBlockLength, MediumSize, Record, Reply, Transfer, Nothing, Send, Gather, Fill, Verdict}
@@ -29,7 +27,7 @@ use Rattle.drive.specs.Alike.{recordedByte, Alike}
 use Rattle.drive.proofs.Laws.Bytes.{splice-nil}
 use Rattle.drive.proofs.Laws.Agree.{Agree, agree-run}
 use Rattle.drive.proofs.Laws.Kept.{length-flushed-medium, length-flushed-pending, length-moved-medium, length-moved-pending, moved-kept, flushed-agree, transferred-agree, flushed-sectors, transferred-sectors}
-use Rattle.drive.proofs.Laws.Step.{verdict-decided, verdict-block, verdict-lent, verdict-judge, lent-medium, lent-pending}
+use Rattle.drive.proofs.Laws.Step.{verdict-decided, verdict-block, verdict-lent, verdict-judge, Judgement, judgement, verdict-judges}
 
 -- a verdict that moves nothing leaves every buffer as it is
 link-carried : (s : Drive) (q : Request) (x : LinkRefusal) → carriedOut (refuseLink (s .disc) x) s q ≡ untouched s q (Link x) (s .disc)
@@ -71,25 +69,6 @@ verdict-cases s q link judged =
     (λ l. link MediumSize (sym (verdict-lent s q block l))))
     (λ b. link CommandBlockLength (sym (verdict-block s q (eqb-false (length (q .block)) 12 b))))
 
--- what the disc has decided, with all that is known of it
-pub record Judgement (s : Drive) (q : Request) (v : Verdict) : Type 0 where
-  pub fits : Fits (length (s .medium)) (length (q .sectors)) (length (q .buffer)) v
-  pub block : length (s .pending) ≡ 32768
-  pub decided : Decided (s .disc) (decode (q .block)) (length (q .sectors)) (length (q .buffer)) v
-
-pub judgement :
-    (s : Drive) (q : Request) → lent (s .disc) (length (s .medium)) (length (s .pending)) ≡ true
-    → Judgement s q (judge (s .disc) (q .block) (length (q .sectors)) (length (q .buffer)))
-judgement s q l =
-    let n = length (q .sectors) in
-    let m = length (q .buffer) in
-    let d = s .disc in
-    record {
-      fits = judge-fits d (q .block) (length (s .medium)) n m (lent-medium d (length (s .medium)) (length (s .pending)) l);
-      block = lent-pending d (length (s .medium)) (length (s .pending)) l;
-      decided = judge-decided d (q .block) n m;
-    }
-
 carried-outside :
     (s : Drive) (q : Request) (i : ℕ) (v : Verdict) → Judgement s q v → recordsBlock (v .plan) (i / 32768) ≡ false
     → getD (carriedOut v s q .after .medium) i 0 ≡ getD (s .medium) i 0
@@ -110,16 +89,18 @@ step-outside s q i none =
     ap (λ (v : Verdict). getD (carriedOut v s q .after .medium) i 0) e
     ∙ carried-outside s q i v j (rw e at none))
 
+-- and those blocks were unrecorded
+pub step-fresh :
+    (s : Drive) (q : Request) (i : ℕ) → recordsBlock (verdictOn s q .plan) (i / 32768) ≡ true → recordedByte (s .disc) i ≡ true → ⊥
+step-fresh s q i r t =
+    let k : i / 2048 / 16 ≡ i / 32768 = omega arith in
+    decided-fresh (s .disc) (verdictOn s q) (lba (i / 2048)) (verdict-decided s q) (rw (ap (recordsBlock (verdictOn s q .plan)) k) r) t
+
 -- demand 2: what was recorded stays, byte for byte
 pub step-kept :
     (s : Drive) (q : Request) (i : ℕ) → recordedByte (s .disc) i ≡ true → getD (step s q .after .medium) i 0 ≡ getD (s .medium) i 0
 step-kept s q i t =
-    let k : i / 2048 / 16 ≡ i / 32768 = omega arith in
-    step-outside s q i
-    (by-cases (recordsBlock (verdictOn s q .plan) (i / 32768))
-    (λ r.
-    absurd (decided-fresh (s .disc) (verdictOn s q) (lba (i / 2048)) (verdict-decided s q) (rw (ap (recordsBlock (verdictOn s q .plan)) k) r) t))
-    (λ r. r))
+    step-outside s q i (by-cases (recordsBlock (verdictOn s q .plan) (i / 32768)) (λ r. absurd (step-fresh s q i r t)) (λ r. r))
 
 -- lengths stay
 carried-lengths :
@@ -145,6 +126,28 @@ step-lengths s q =
       ap (λ (v : Verdict). length (carriedOut v s q .after .medium)) e ∙ w .0,
       ap (λ (v : Verdict). length (carriedOut v s q .after .pending)) e ∙ w .1,
     ))
+
+-- so what is lent rightly stays so, and with it the disc decides alone
+step-capacity : (s : Drive) (q : Request) → step s q .after .disc .capacity ≡ s .disc .capacity
+unfolding step carriedOut
+step-capacity s q = decided-capacity (s .disc) (verdictOn s q) (verdict-decided s q)
+
+lent-as : (d e : Disc) (m p : ℕ) → e .capacity ≡ d .capacity → lent d m p ≡ true → lent e m p ≡ true
+lent-as d e m p c t = rw c t
+
+pub lent-after :
+    (s : Drive) (q : Request) → lent (s .disc) (length (s .medium)) (length (s .pending)) ≡ true
+    → lent (step s q .after .disc) (length (step s q .after .medium)) (length (step s q .after .pending)) ≡ true
+lent-after s q h =
+    let l = step-lengths s q in
+    rw (l .0, l .1) (lent-as (s .disc) (step s q .after .disc) (length (s .medium)) (length (s .pending)) (step-capacity s q) h)
+
+pub step-judges :
+    (s : Drive) (q : Request) → lent (s .disc) (length (s .medium)) (length (s .pending)) ≡ true
+    → (step s q .answer ≡ judge (s .disc) (q .block) (length (q .sectors)) (length (q .buffer)) .answer)
+    × (step s q .after .disc ≡ judge (s .disc) (q .block) (length (q .sectors)) (length (q .buffer)) .disc)
+unfolding step carriedOut
+step-judges s q l = let e = verdict-judges s q l in (ap (λ (v : Verdict). v .answer) e, ap (λ (v : Verdict). v .disc) e)
 
 -- recorded is what was recorded and the blocks of the plan, as a byte of the medium has it
 byte-recorded :

@@ -5,6 +5,8 @@ use Prim.Native.Nat.{ℕ, _+_, _*_, _/_, _%_, _≤_}
 use native.Mathlib.Omega.{arith}
 use mathlib.Core.List.{List, _++_}
 use lib.ListN.{length}
+use mathlib.Core.Logic.{_⊎_}
+use Rattle.drive.specs.Alike.{Alike}
 use Rattle.disc.specs.Address.{lba, block}
 use Rattle.disc.specs.Blank.{inRange}
 use Rattle.disc.specs.Lent.{FlushFits, TransferFits, Fits}
@@ -14,15 +16,15 @@ use Rattle.disc.specs.Verdict.{refuseLink, plan}
 use Rattle.disc.specs.Write.{write}
 use Rattle.disc.proofs.Laws.Accepts.{takes-accepted, write-takes}
 use Rattle.disc.proofs.Laws.Cut.{cut-accepted, cut-plans, parts-takes}
-use Rattle.disc.proofs.Laws.Judge.{allowed-ready, judge-writes, decided-served, decided-allowed, decided-capacity}
+use Rattle.disc.proofs.Laws.Judge.{allowed-ready, judge-writes, decided-served, decided-allowed, decided-capacity, judge-link}
 use Rattle.drive.proofs.Laws.Moves.{cut-pending, cut-medium}
 use Rattle.drive.proofs.Laws.Kept.{length-flushed-medium, length-flushed-pending}
-use Rattle.drive.specs.Types.{Lba, Disc, Accepted, LinkRefusal, Verdict, Block, Flush, Skip, Gather, Plan}
+use Rattle.drive.specs.Types.{Lba, Disc, Accepted, LinkRefusal, Verdict, Block, Flush, Skip, Gather, Plan, Link, CommandBlockLength, TransferLength}
 use Rattle.drive.specs.Moves.{movedMedium, movedPending, flushedMedium, flushedPending, transferredMedium, transferredPending}
 use Rattle.drive.specs.Step.{Drive, drive, Request, lent, verdictOn, carriedOut, step}
 use Rattle.drive.specs.Requests.{WriteOf}
-use Rattle.drive.proofs.Laws.Step.{verdict-decided, verdict-judge, lent-pending}
-use Rattle.drive.proofs.Laws.Alike.{verdict-cases, judgement, step-lengths}
+use Rattle.drive.proofs.Laws.Step.{verdict-decided, verdict-judge, lent-pending, judgement}
+use Rattle.drive.proofs.Laws.Alike.{verdict-cases, lent-after, step-judges}
 
 -- what the link asks of a drive: the lent lengths, the capacity's range, an allowed state
 pub record Served (s : Drive) : Type 0 where
@@ -55,17 +57,27 @@ step-disc s q = refl
 
 pub served-after : (s : Drive) (q : Request) → Served s → Served (step s q .after)
 served-after s q k =
-    let l = step-lengths s q in
     let w = verdict-decided s q in
-    let c = decided-capacity (s .disc) (verdictOn s q) w in
     record {
-      lends = rw (step-disc s q, l .0, l .1) (lent-as (s .disc) (verdictOn s q .disc) (length (s .medium)) (length (s .pending)) c (k .lends));
-      range = rw (step-disc s q, c) (k .range);
+      lends = lent-after s q (k .lends);
+      range = rw (step-disc s q, decided-capacity (s .disc) (verdictOn s q) w) (k .range);
       allowed = rw (step-disc s q) (decided-allowed (s .disc) (verdictOn s q) (k .allowed) w);
     }
-  where
-    lent-as : (d e : Disc) (m p : ℕ) → e .capacity ≡ d .capacity → lent d m p ≡ true → lent e m p ≡ true
-    lent-as d e m p c t = rw c t
+
+-- an alike drive is served too, and of the link refusals a served one gives L1 and L4 alone
+pub served-alike : (s t : Drive) → Alike s t → Served s → Served t
+served-alike s t a k =
+    record {
+      lends = rw (sym (a .disc), sym (a .mediumLength), sym (a .pendingLength)) (k .lends);
+      range = rw (sym (a .disc)) (k .range);
+      allowed = rw (sym (a .disc)) (k .allowed);
+    }
+
+pub served-link :
+    (s : Drive) (q : Request) (x : LinkRefusal) → Served s → step s q .answer ≡ Link x → (x ≡ CommandBlockLength) ⊎ (x ≡ TransferLength)
+served-link s q x k e =
+    judge-link (s .disc) (q .block) (length (q .sectors)) (length (q .buffer)) x (k .range) (k .allowed)
+    (sym (step-judges s q (k .lends) .0) ∙ e)
 
 -- the answer and the count of a WRITE that is served
 module _ (s : Drive) (q : Request) (a : Lba) (n : ℕ) (w : WriteOf q a n) (k : Served s) where

@@ -3,22 +3,22 @@ use mathlib.Core.Path.{_≡_, refl, sym, ap, _∙_}
 use mathlib.Core.Bool.{true, false, not}
 use Prim.Native.Nat.{ℕ, _*_, _≤_}
 use native.Mathlib.Omega.{arith}
-use borrow.Author.Tests.{eq-eqb, ne-eqb, eqb-true}
+use borrow.Author.Tests.{eq-eqb, ne-eqb, eqb-true, eqb-false}
 use mathlib.Core.List.{List}
 use lib.Dec.{eqb}
-use lib.ListN.{length, drop, length-take}
+use lib.ListN.{length, length-take}
 use Rattle.disc.specs.Answer.{number}
 use Rattle.disc.specs.Command.{decode}
 use Rattle.disc.specs.Judge.{judge}
-use Rattle.disc.specs.Lent.{TransferFits, RunFits}
+use Rattle.disc.specs.Lent.{TransferFits, RunFits, Fits}
 use Rattle.disc.specs.Verdict.{refuseLink, rise}
-use Rattle.disc.proofs.Laws.Bool.{and-left, and-right, cond-cases}
-use Rattle.disc.proofs.Laws.Judge.{Decided, onLink, judge-decided, decided-rise, decided-most}
+use Rattle.disc.proofs.Laws.Bool.{and-left, and-right, cond-cases, by-cases}
+use Rattle.disc.proofs.Laws.Judge.{Decided, onLink, judge-decided, decided-rise, decided-most, judge-block}
 use Rattle.disc.proofs.Laws.Lent.{judge-fits, judge-run}
 use Rattle.drive.specs.Types.{Disc, LinkRefusal, CommandBlockLength, MediumSize, Reply, Transfer, Nothing, Send, Gather, Fill, Verdict, Response}
 use Rattle.drive.specs.Moves.{flushedMedium, flushedPending, transferredMedium, transferredPending, movedMedium, movedPending}
 use Rattle.drive.specs.Reply.{sentBytes}
-use Rattle.drive.specs.Step.{Drive, Request, lent, verdictOn, carriedOut, step, Carried, CarriedOut, refused, Answered}
+use Rattle.drive.specs.Step.{Drive, Request, lent, verdictOn, carriedOut, step, Feasible, CarriedOut, refused, Answered}
 use Rattle.drive.proofs.Laws.Bytes.{splice-nil}
 
 -- the lower layer's laws of a decision hold of the verdict: it is a link refusal or what the disc decides
@@ -52,6 +52,17 @@ module _ (s : Drive) (q : Request) where
     unfolding verdictOn
     verdict-judge h = rw (eq-eqb (length (q .block)) 12 block, h)
 
+-- with right buffers the disc decides alone, L1 included
+pub verdict-judges :
+    (s : Drive) (q : Request) → lent (s .disc) (length (s .medium)) (length (s .pending)) ≡ true
+    → verdictOn s q ≡ judge (s .disc) (q .block) (length (q .sectors)) (length (q .buffer))
+verdict-judges s q l =
+    by-cases (eqb (length (q .block)) 12)
+    (λ b. sym (verdict-judge s q (eqb-true (length (q .block)) 12 b) l))
+    (λ b.
+    let h = eqb-false (length (q .block)) 12 b in
+    sym (verdict-block s q h) ∙ sym (judge-block (s .disc) (q .block) (length (q .sectors)) (length (q .buffer)) h))
+
 -- what is lent
 pub lent-medium : (d : Disc) (m p : ℕ) → lent d m p ≡ true → m ≡ 32768 * d .capacity
 lent-medium d m p h = eqb-true _ _ (and-left (eqb m (32768 * d .capacity)) (eqb p 32768) h)
@@ -64,21 +75,41 @@ sent-room :
     (t : Transfer) (r : Reply) (medium : List ℕ) (n m : ℕ) → TransferFits (length medium) n t → RunFits m t → r .length ≤ m
     → length (sentBytes t r medium) ≤ m
 unfolding sentBytes
-sent-room Nothing r medium n m f g h = rw (length-take (r .length) (r .bytes)) (omega arith)
-sent-room (Send a k) r medium n m f g h = rw (length-take (2048 * k) (drop (2048 * a .0) medium)) (omega arith)
-sent-room (Gather b p k) r medium n m f g h = rw (length-take (r .length) (r .bytes)) (omega arith)
-sent-room (Fill b k) r medium n m f g h = rw (length-take (r .length) (r .bytes)) (omega arith)
+sent-room Nothing r medium n m f g h = simp length-take (omega arith)
+sent-room (Send a k) r medium n m f g h = simp length-take (omega arith)
+sent-room (Gather b p k) r medium n m f g h = simp length-take (omega arith)
+sent-room (Fill b k) r medium n m f g h = simp length-take (omega arith)
+
+-- what the disc has decided, with all that is known of it
+pub record Judgement (s : Drive) (q : Request) (v : Verdict) : Type 0 where
+  pub fits : Fits (length (s .medium)) (length (q .sectors)) (length (q .buffer)) v
+  pub block : length (s .pending) ≡ 32768
+  pub decided : Decided (s .disc) (decode (q .block)) (length (q .sectors)) (length (q .buffer)) v
+
+pub judgement :
+    (s : Drive) (q : Request) → lent (s .disc) (length (s .medium)) (length (s .pending)) ≡ true
+    → Judgement s q (judge (s .disc) (q .block) (length (q .sectors)) (length (q .buffer)))
+judgement s q l =
+    let n = length (q .sectors) in
+    let m = length (q .buffer) in
+    let d = s .disc in
+    record {
+      fits = judge-fits d (q .block) (length (s .medium)) n m (lent-medium d (length (s .medium)) (length (s .pending)) l);
+      block = lent-pending d (length (s .medium)) (length (s .pending)) l;
+      decided = judge-decided d (q .block) n m;
+    }
 
 -- what the code that carries a decision out asks is there
-pub judge-carried :
+pub judge-feasible :
     (s : Drive) (q : Request) → length (q .block) ≡ 12 → lent (s .disc) (length (s .medium)) (length (s .pending)) ≡ true
-    → Carried (judge (s .disc) (q .block) (length (q .sectors)) (length (q .buffer))) s q
-judge-carried s q block h =
+    → Feasible (judge (s .disc) (q .block) (length (q .sectors)) (length (q .buffer))) s q
+judge-feasible s q block h =
     let n = length (q .sectors) in
     let m = length (q .buffer) in
     let whole = lent-medium (s .disc) (length (s .medium)) (length (s .pending)) h in
     let v = judge (s .disc) (q .block) n m in
-    let f = judge-fits (s .disc) (q .block) (length (s .medium)) n m whole in
+    let j = judgement s q h in
+    let f = j .fits in
     record {
       sends =
           record {
@@ -87,7 +118,7 @@ judge-carried s q block h =
             report = f .report;
             whole = f .whole;
           };
-      block = lent-pending (s .disc) (length (s .medium)) (length (s .pending)) h;
+      block = j .block;
       flush = f .flush;
       transfer = f .transfer;
     }

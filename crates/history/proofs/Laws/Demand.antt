@@ -1,20 +1,16 @@
 -- Demand 3, proved whole.
-use Prim.Native.Nat.{ℕ, suc, zero, _*_, _/_, _≤_}
+use Prim.Native.Nat.{ℕ, _*_, _/_, _≤_}
 use mathlib.Core.Path.{_≡_, refl, sym, ap, _∙_, subst}
-use mathlib.Core.Bool.{true}
 use mathlib.Core.List.{List, []}
 use native.Mathlib.Omega.{arith}
-use lib.ListN.{getD, take, replicate}
+use lib.ListN.{take}
+use Rattle.disc.proofs.Laws.Blank.{blank-pending}
 use Rattle.disc.specs.Address.{lba}
-use Rattle.disc.specs.Blank.{blank}
-use Rattle.disc.specs.Fragment.{unusedRecord}
-use Rattle.disc.specs.Records.{readable}
-use Rattle.disc.specs.Rules.{at}
-use Rattle.disc.proofs.Laws.Read.{readable-held}
+use Rattle.disc.proofs.Laws.Read.{blank-unreadable}
 use Rattle.drive.specs.Step.{Drive, Request, request, Result, verdictOn, carriedOut, step}
 use Rattle.drive.specs.Alike.{recordedByte, pendingSectors, Alike}
 use Rattle.drive.proofs.Laws.Alike.{AlikeResults, step-alike, alike-same, alike-back, alike-on}
-use Rattle.history.specs.Types.{Lba, Disc, Accepted}
+use Rattle.history.specs.Types.{Disc, Accepted}
 use Rattle.history.specs.Sequence.{Start, Turn, found, result, final, Admissible, Undisturbed, told, requests}
 use Rattle.history.specs.Cut.{CutOf, SameCommand, Again, ends, same, cut, Agreeing}
 use Rattle.history.specs.Demand.{RecordedStays, Demand3}
@@ -22,24 +18,6 @@ use Rattle.history.proofs.Laws.Runs.{runs-follow, undisturbed-runs, fin
 use Rattle.history.proofs.Laws.Parts.{Does, parts-do}
 
 -- a blank disc has no recorded sector, and none pending: two starts are alike, whatever their bytes
-unused-at : (n i : ℕ) → getD (replicate n unusedRecord) i unusedRecord ≡ unusedRecord
-unused-at zero i = refl
-unused-at (suc n) zero = refl
-unused-at (suc n) (suc i) = unused-at n i
-
-blank-record : (c i : ℕ) → at (blank c) i .recorded ≡ 0
-unfolding blank
-blank-record c zero = refl
-blank-record c (suc i) = ap (λ f. f .recorded) (unused-at 63 i)
-
-blank-unrecorded : (c : ℕ) (a : Lba) → readable (blank c) a ≡ true → ⊥
-blank-unrecorded c a t =
-    let h = readable-held (blank c) a t in omega (arith, h .from, h .below, blank-record c (h .index))
-
-blank-pending : (c : ℕ) → blank c .pending ≡ 0
-unfolding blank
-blank-pending c = refl
-
 pub start-alike : (c : ℕ) (s e : Drive) → Start c s → Start c e → Alike s e
 start-alike c s e a b =
     let none : (x : Drive) → Start c x → pendingSectors x ≡ [] =
@@ -48,7 +26,7 @@ start-alike c s e a b =
       disc = a .disc ∙ sym (b .disc);
       mediumLength = a .medium ∙ sym (b .medium);
       pendingLength = a .pending ∙ sym (b .pending);
-      recorded = λ i t. absurd (blank-unrecorded c (lba (i / 2048)) (ap (λ (d : Disc). recordedByte d i) (sym (a .disc)) ∙ t));
+      recorded = λ i t. absurd (blank-unreadable c (lba (i / 2048)) (ap (λ (d : Disc). recordedByte d i) (sym (a .disc)) ∙ t));
       pending = none s a ∙ sym (none e b);
     }
 

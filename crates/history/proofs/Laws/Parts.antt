@@ -14,7 +14,8 @@ use Rattle.history.specs.Examples.{writeBlock}
 use Rattle.history.specs.Cut.{Parts, none, part}
 use Rattle.history.proofs.Laws.Runs.{runs, RunAccepted, runBlocks}
 
--- a WRITE of n sectors at an address, as some request: the parts still to come are one such WRITE
+-- a WRITE of n sectors at an address, as some request: the parts still to come are one such WRITE. The definitions read a block as a
+-- list of numbers of any size, so one number of it can hold a whole address
 abbrev pub writeRequest : Lba → ℕ → List ℕ → Request
 writeRequest a n x = request (writeBlock (a .0) n) x []
 

@@ -5,6 +5,8 @@ use mathlib.Core.Path.{_≡_, refl, ap, _∙_}
 use mathlib.Core.Bool.{true}
 use mathlib.Core.List.{List, _∷_}
 use lib.ListN.{length, replicate, length-replicate}
+use Rattle.drive.proofs.Laws.Alike.{lent-after}
+use Rattle.drive.proofs.Laws.Step.{verdict-judges}
 use Rattle.disc.specs.Answer.{isRefusalSense, allowedSense}
 use Rattle.disc.specs.Blank.{blank}
 use Rattle.disc.specs.Command.{decode}
@@ -13,7 +15,7 @@ use Rattle.disc.specs.Sound.{usedFirst, firstAtZero, followsFrom, inOrder, ends
 use Rattle.disc.specs.Lengths.{dataLength, replyRoom, lengthsFit}
 use Rattle.disc.specs.Flush.{flush, flushPlan}
 use Rattle.disc.specs.Write.{flushOthers, flushOthersPlan, gather, writeTo, writeFound, write}
-use Rattle.disc.specs.Reports.{sessionState, discStatus, discInformation as informationBytes, readDiscInformation}
+use Rattle.disc.specs.Reports.{sessionState, discStatus, discInformation, readDiscInformation}
 use Rattle.disc.specs.Judge.{perform, judgeCommand, judge}
 use Rattle.disc.specs.Verdict.{accepted, accept}
 use Rattle.drive.specs.Reply.{sentBytes}
@@ -21,8 +23,8 @@ use Rattle.drive.specs.Step.{Drive, Request, lent, verdictOn, carriedOut, step}
 use Rattle.history.specs.Types.{Disc, Verdict, Accepted}
 use Rattle.history.specs.Sequence.{Start}
 use Rattle.history.specs.Examples.{writeBlock}
-use Rattle.history.specs.Witness.{firstBlock, discInformation, secondBlock}
-use Rattle.history.proofs.Laws.Witness.{verdict-judges, lent-after, start-lent}
+use Rattle.history.specs.Witness.{firstBlock, informationRequest, secondBlock}
+use Rattle.history.proofs.Laws.Served.{start-lent}
 
 -- a verdict by the disc and the lengths, as numbers
 known-verdict :
@@ -38,32 +40,27 @@ abbrev one : Verdict
 one = judge (blank 300) (writeBlock 0 16) 32768 0
 
 abbrev two : Verdict
-two = judge (one .disc) (discInformation .block) 0 34
+two = judge (one .disc) (informationRequest .block) 0 34
 
 abbrev three : Verdict
 three = judge (two .disc) (writeBlock 16 16) 32768 0
 
-computed-one : (one .answer ≡ Accepted) × (one .recorded ≡ 1)
-unfolding decode listed some every find sumRecorded usedFirst firstAtZero followsFrom inOrder endsWithin recordedWithin zeroedWithin incompleteLast tailLast tailOrFull pendingNamed finalizedComplete sound allowedState isRefusalSense allowedSense blank dataLength replyRoom lengthsFit accepted accept flush flushPlan flushOthers flushOthersPlan gather writeTo writeFound write perform judgeCommand judge
-computed-one = (refl, refl)
-
-computed-two : (m : List ℕ) → sentBytes (two .plan .transfer) (two .reply) m ≡ 0x00 ∷ 0x20 ∷ 0x05 ∷ 1 ∷ 1 ∷ 1 ∷ 1 ∷ replicate 27 0
-unfolding sentBytes decode listed some every find sumRecorded firstOfSession usedFirst firstAtZero followsFrom inOrder endsWithin recordedWithin zeroedWithin incompleteLast tailLast tailOrFull pendingNamed finalizedComplete sound allowedState isRefusalSense allowedSense blank dataLength replyRoom lengthsFit accepted accept flush flushPlan flushOthers flushOthersPlan gather writeTo writeFound write sessionState discStatus informationBytes readDiscInformation perform judgeCommand judge
-computed-two m = refl
-
-computed-three : (three .answer ≡ Accepted) × (three .recorded ≡ 1)
-unfolding decode listed some every find sumRecorded firstOfSession usedFirst firstAtZero followsFrom inOrder endsWithin recordedWithin zeroedWithin incompleteLast tailLast tailOrFull pendingNamed finalizedComplete sound allowedState isRefusalSense allowedSense blank dataLength replyRoom lengthsFit accepted accept flush flushPlan flushOthers flushOthersPlan gather writeTo writeFound write sessionState discStatus informationBytes readDiscInformation perform judgeCommand judge
-computed-three = (refl, refl)
+computed :
+    (one .answer ≡ Accepted) × (one .recorded ≡ 1)
+    × ((m : List ℕ) → sentBytes (two .plan .transfer) (two .reply) m ≡ 0x00 ∷ 0x20 ∷ 0x05 ∷ 1 ∷ 1 ∷ 1 ∷ 1 ∷ replicate 27 0)
+    × (three .answer ≡ Accepted) × (three .recorded ≡ 1)
+unfolding sentBytes decode listed some every find sumRecorded firstOfSession usedFirst firstAtZero followsFrom inOrder endsWithin recordedWithin zeroedWithin incompleteLast tailLast tailOrFull pendingNamed finalizedComplete sound allowedState isRefusalSense allowedSense blank dataLength replyRoom lengthsFit accepted accept flush flushPlan flushOthers flushOthersPlan gather writeTo writeFound write sessionState discStatus discInformation readDiscInformation perform judgeCommand judge
+computed = (refl, refl, λ m. refl, refl, refl)
 
 module _ (s : Drive) (start : Start 300 s) where
   first-verdict : verdictOn s firstBlock ≡ one
-  first-verdict = known-verdict s firstBlock (blank 300) 32768 0 (start-lent s start) (start .disc) (length-replicate {A = ℕ} 32768 7) refl
+  first-verdict = known-verdict s firstBlock (blank 300) 32768 0 (start-lent 300 s start) (start .disc) (length-replicate {A = ℕ} 32768 7) refl
 
   -- WRITE 0 of 16 is accepted and records one block
   pub first-records : (step s firstBlock .answer ≡ Accepted) × (step s firstBlock .recorded ≡ 1)
   unfolding step carriedOut
   first-records =
-      (ap (λ (v : Verdict). v .answer) first-verdict ∙ computed-one .0, ap (λ (v : Verdict). v .recorded) first-verdict ∙ computed-one .1)
+      (ap (λ (v : Verdict). v .answer) first-verdict ∙ computed .0, ap (λ (v : Verdict). v .recorded) first-verdict ∙ computed .1)
 
   abbrev after-first : Drive
   after-first = step s firstBlock .after
@@ -72,19 +69,19 @@ module _ (s : Drive) (start : Start 300 s) where
   unfolding step carriedOut
   after-first-disc = ap (λ (v : Verdict). v .disc) first-verdict
 
-  second-verdict : verdictOn after-first discInformation ≡ two
+  second-verdict : verdictOn after-first informationRequest ≡ two
   second-verdict =
-      known-verdict after-first discInformation (one .disc) 0 34 (lent-after s firstBlock (start-lent s start)) after-first-disc refl
+      known-verdict after-first informationRequest (one .disc) 0 34 (lent-after s firstBlock (start-lent 300 s start)) after-first-disc refl
       (length-replicate {A = ℕ} 34 0)
 
   -- the 51h after it says so: an incomplete session on a disc that is not blank
-  pub information-says : step after-first discInformation .reply ≡ 0x00 ∷ 0x20 ∷ 0x05 ∷ 1 ∷ 1 ∷ 1 ∷ 1 ∷ replicate 27 0
+  pub information-says : step after-first informationRequest .reply ≡ 0x00 ∷ 0x20 ∷ 0x05 ∷ 1 ∷ 1 ∷ 1 ∷ 1 ∷ replicate 27 0
   unfolding step carriedOut
   information-says =
-      ap (λ (v : Verdict). sentBytes (v .plan .transfer) (v .reply) (after-first .medium)) second-verdict ∙ computed-two (after-first .medium)
+      ap (λ (v : Verdict). sentBytes (v .plan .transfer) (v .reply) (after-first .medium)) second-verdict ∙ computed .2 (after-first .medium)
 
   abbrev after-second : Drive
-  after-second = step after-first discInformation .after
+  after-second = step after-first informationRequest .after
 
   after-second-disc : after-second .disc ≡ two .disc
   unfolding step carriedOut
@@ -95,5 +92,5 @@ module _ (s : Drive) (start : Start 300 s) where
   unfolding step carriedOut
   second-records =
       let v = known-verdict after-second secondBlock (two .disc) 32768 0
-      (lent-after after-first discInformation (lent-after s firstBlock (start-lent s start))) after-second-disc (length-replicate {A = ℕ} 32768 9) refl in
-      (ap (λ (x : Verdict). x .answer) v ∙ computed-three .0, ap (λ (x : Verdict). x .recorded) v ∙ computed-three .1)
+      (lent-after after-first informationRequest (lent-after s firstBlock (start-lent 300 s start))) after-second-disc (length-replicate {A = ℕ} 32768 9) refl in
+      (ap (λ (x : Verdict). x .answer) v ∙ computed .3, ap (λ (x : Verdict). x .recorded) v ∙ computed .4)

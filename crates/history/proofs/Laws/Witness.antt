@@ -2,9 +2,7 @@
 use Prim.Native.Nat.{ℕ}
 use mathlib.Core.Path.{_≡_, refl, sym, ap, _∙_, subst}
 use mathlib.Core.Bool.{true}
-use mathlib.Core.List.{List, [], _∷_, _++_, map}
-use borrow.Author.Tests.{eqb-true, eqb-false, ne-eqb}
-use lib.Dec.{eqb}
+use mathlib.Core.List.{List, [], _∷_, _++_, map, map-append}
 use lib.ListN.{length, replicate, length-replicate}
 use Rattle.disc.specs.Answer.{number, isRefusalSense, allowedSense}
 use Rattle.disc.specs.Blank.{blank}
@@ -19,54 +17,16 @@ use Rattle.disc.specs.Reserve.{splitTail, reserve}
 use Rattle.disc.specs.Close.{appendTail, closeIncomplete, closeFragment, close}
 use Rattle.disc.specs.Judge.{perform, judgeCommand, judge}
 use Rattle.disc.specs.Verdict.{accepted, accept, refuse, refuseLink}
-use Rattle.disc.proofs.Laws.Bool.{by-cases}
-use Rattle.disc.proofs.Laws.Judge.{decided-capacity}
-use Rattle.drive.specs.Step.{Drive, Request, lent, verdictOn, carriedOut, step}
+use Rattle.drive.specs.Step.{Drive, Request, lent, step}
 use Rattle.drive.proofs.Laws.Bytes.{length-zeros}
-use Rattle.drive.proofs.Laws.Step.{verdict-decided, verdict-block, verdict-judge}
-use Rattle.drive.proofs.Laws.Alike.{step-lengths}
-use Rattle.history.specs.Types.{Disc, Verdict, Accepted, CommandBlockLength}
+use Rattle.drive.proofs.Laws.Alike.{lent-after, step-judges}
+use Rattle.history.specs.Types.{Disc, Accepted}
 use Rattle.history.specs.Sequence.{Start, Turn, final}
 use Rattle.history.specs.Cut.{Again, ends, same, cut}
 use Rattle.history.specs.Examples.{writeBlock, asLeft, steady}
 use Rattle.history.specs.Witness.{numbers, Shape, shape, shapeOf, discAfter, filled, judged, before, cutWrite, cutFirst, cutSecond, behind, zeroStart, firstRun, secondRun}
+use Rattle.history.proofs.Laws.Served.{start-lent}
 use Rattle.history.proofs.Laws.Examples.{whole-sectors, cut-in-two}
-
--- with right buffers the disc decides alone
-judge-block : (d : Disc) (b : List ℕ) (n m : ℕ) → (length b ≡ 12 → ⊥) → judge d b n m ≡ refuseLink d CommandBlockLength
-unfolding judge
-judge-block d b n m h = rw (ne-eqb (length b) 12 h)
-
-pub verdict-judges :
-    (s : Drive) (q : Request) → lent (s .disc) (length (s .medium)) (length (s .pending)) ≡ true
-    → verdictOn s q ≡ judge (s .disc) (q .block) (length (q .sectors)) (length (q .buffer))
-verdict-judges s q l =
-    by-cases (eqb (length (q .block)) 12)
-    (λ b. sym (verdict-judge s q (eqb-true (length (q .block)) 12 b) l))
-    (λ b.
-    let h = eqb-false (length (q .block)) 12 b in
-    sym (verdict-block s q h) ∙ sym (judge-block (s .disc) (q .block) (length (q .sectors)) (length (q .buffer)) h))
-
-after-capacity : (s : Drive) (q : Request) → step s q .after .disc .capacity ≡ s .disc .capacity
-unfolding step carriedOut
-after-capacity s q = decided-capacity (s .disc) (verdictOn s q) (verdict-decided s q)
-
-lent-as : (d e : Disc) (m p : ℕ) → e .capacity ≡ d .capacity → lent d m p ≡ true → lent e m p ≡ true
-lent-as d e m p c t = rw c t
-
-pub lent-after :
-    (s : Drive) (q : Request) → lent (s .disc) (length (s .medium)) (length (s .pending)) ≡ true
-    → lent (step s q .after .disc) (length (step s q .after .medium)) (length (step s q .after .pending)) ≡ true
-lent-after s q h =
-    let l = step-lengths s q in
-    rw (l .0, l .1) (lent-as (s .disc) (step s q .after .disc) (length (s .medium)) (length (s .pending)) (after-capacity s q) h)
-
-pub step-judges :
-    (s : Drive) (q : Request) → lent (s .disc) (length (s .medium)) (length (s .pending)) ≡ true
-    → (step s q .answer ≡ judge (s .disc) (q .block) (length (q .sectors)) (length (q .buffer)) .answer)
-    × (step s q .after .disc ≡ judge (s .disc) (q .block) (length (q .sectors)) (length (q .buffer)) .disc)
-unfolding step carriedOut
-step-judges s q l = let e = verdict-judges s q l in (ap (λ (v : Verdict). v .answer) e, ap (λ (v : Verdict). v .disc) e)
 
 -- a steady sequence by its shapes
 steady-disc :
@@ -119,30 +79,19 @@ again-prefix (p ∷ ps) s e ts us w =
     same s (asLeft p s) (asLeft p e) _ _ (record { block = refl; sectors = refl; room = refl })
     (again-prefix ps (step s p .after) (step e p .after) ts us w)
 
-pub start-lent : (s : Drive) → Start 300 s → lent (s .disc) (length (s .medium)) (length (s .pending)) ≡ true
-unfolding blank
-start-lent s h = rw (h .disc, h .medium, h .pending)
-
--- what the list of the example comes to, computed
-computed-accepted : judge (discAfter before (blank 300)) (writeBlock 84 2) 4096 0 .answer ≡ Accepted
+-- what the list of the example comes to, computed: the WRITE in its place, and all answers
+computed :
+    (judge (discAfter before (blank 300)) (writeBlock 84 2) 4096 0 .answer ≡ Accepted)
+    × (judged (before ++ (shape (writeBlock 84 2) 4096 0 ∷ behind)) (blank 300) ≡ 1 ∷ 4 ∷ 0x052000 ∷ 0 ∷ 0 ∷ 0 ∷ 0 ∷ 0 ∷ 0 ∷ 0 ∷ [])
 unfolding discAfter judged decode listed some every find sumRecorded usedFirst firstAtZero followsFrom inOrder endsWithin recordedWithin zeroedWithin incompleteLast tailLast tailOrFull pendingNamed finalizedComplete sound allowedState isRefusalSense allowedSense blank dataLength replyRoom lengthsFit accepted accept refuse refuseLink flush flushPlan allReadable read flushOthers flushOthersPlan gather writeTo writeFound write splitTail reserve appendTail closeIncomplete closeFragment close synchronizeCache perform judgeCommand judge
-computed-accepted = refl
-
-computed-numbers :
-    judged (before ++ (shape (writeBlock 84 2) 4096 0 ∷ behind)) (blank 300) ≡ 1 ∷ 4 ∷ 0x052000 ∷ 0 ∷ 0 ∷ 0 ∷ 0 ∷ 0 ∷ 0 ∷ 0 ∷ []
-unfolding discAfter judged decode listed some every find sumRecorded usedFirst firstAtZero followsFrom inOrder endsWithin recordedWithin zeroedWithin incompleteLast tailLast tailOrFull pendingNamed finalizedComplete sound allowedState isRefusalSense allowedSense blank dataLength replyRoom lengthsFit accepted accept refuse refuseLink flush flushPlan allReadable read flushOthers flushOthersPlan gather writeTo writeFound write splitTail reserve appendTail closeIncomplete closeFragment close synchronizeCache perform judgeCommand judge
-computed-numbers = refl
-
-shapes-append : (hs : List Shape) (rs : List Request) → map shapeOf (map (filled 0) hs ++ rs) ≡ hs ++ map shapeOf rs
-shapes-append [] rs = refl
-shapes-append (h ∷ hs) rs =
-    ap (λ (g : Shape). g ∷ map shapeOf (map (filled 0) hs ++ rs)) (filled-shape 0 h) ∙ ap (λ (gs : List Shape). h ∷ gs) (shapes-append hs rs)
+computed = (refl, refl)
 
 run-shapes : map shapeOf firstRun ≡ before ++ (shape (writeBlock 84 2) 4096 0 ∷ behind)
 run-shapes =
-    shapes-append before (cutWrite ∷ map (filled 0) behind)
+    map-append shapeOf (map (filled 0) before) (cutWrite ∷ map (filled 0) behind)
+    ∙ (ap (λ (hs : List Shape). hs ++ map shapeOf (cutWrite ∷ map (filled 0) behind)) (filled-shapes 0 before)
     ∙ (ap (λ (n : ℕ). before ++ (shape (writeBlock 84 2) n 0 ∷ map shapeOf (map (filled 0) behind))) whole-sectors
-    ∙ ap (λ (hs : List Shape). before ++ (shape (writeBlock 84 2) 4096 0 ∷ hs)) (filled-shapes 0 behind))
+    ∙ ap (λ (hs : List Shape). before ++ (shape (writeBlock 84 2) 4096 0 ∷ hs)) (filled-shapes 0 behind)))
 
 again-steady : (rs : List Request) (s e : Drive) → Again s (steady rs s) (steady rs e)
 unfolding steady
@@ -158,25 +107,25 @@ module _ (s : Drive) (start : Start 300 s) where
   place-disc : place .disc ≡ discAfter before (blank 300)
   unfolding place
   place-disc =
-      steady-disc (map (filled 0) before) s (start-lent s start)
+      steady-disc (map (filled 0) before) s (start-lent 300 s start)
       ∙ (ap (λ (hs : List Shape). discAfter hs (s .disc)) (filled-shapes 0 before) ∙ ap (discAfter before) (start .disc))
 
   place-lent : lent (place .disc) (length (place .medium)) (length (place .pending)) ≡ true
   unfolding place
-  place-lent = steady-lent (map (filled 0) before) s (start-lent s start)
+  place-lent = steady-lent (map (filled 0) before) s (start-lent 300 s start)
 
   write-accepted : step place cutWrite .answer ≡ Accepted
   write-accepted =
       step-judges place cutWrite place-lent .0
       ∙ (ap (λ (d : Disc). judge d (writeBlock 84 2) (length (cutWrite .sectors)) 0 .answer) place-disc
-      ∙ (ap (λ (n : ℕ). judge (discAfter before (blank 300)) (writeBlock 84 2) n 0 .answer) whole-sectors ∙ computed-accepted))
+      ∙ (ap (λ (n : ℕ). judge (discAfter before (blank 300)) (writeBlock 84 2) n 0 .answer) whole-sectors ∙ computed .0))
 
   -- the answers: L1, L4, 5/20/00, and seven commands accepted
   pub witness-numbers : numbers (steady firstRun s) s ≡ 1 ∷ 4 ∷ 0x052000 ∷ 0 ∷ 0 ∷ 0 ∷ 0 ∷ 0 ∷ 0 ∷ 0 ∷ []
   witness-numbers =
-      steady-numbers firstRun s (start-lent s start)
+      steady-numbers firstRun s (start-lent 300 s start)
       ∙ (ap (λ (hs : List Shape). judged hs (s .disc)) run-shapes
-      ∙ (ap (judged (before ++ (shape (writeBlock 84 2) 4096 0 ∷ behind))) (start .disc) ∙ computed-numbers))
+      ∙ (ap (judged (before ++ (shape (writeBlock 84 2) 4096 0 ∷ behind))) (start .disc) ∙ computed .1))
 
   -- the same again with the WRITE cut, from any other start
   pub witness-again : (e : Drive) → Again s (steady firstRun s) (steady secondRun e)

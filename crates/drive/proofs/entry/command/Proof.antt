@@ -3,7 +3,7 @@ use mathlib.Core.Bool.{true, false}
 use lib.ListN.{length}
 use Rattle.drive.specs.Types.{CommandBlockLength, MediumSize}
 use Rattle.drive.specs.Step.{drive, request, lent}
-use Rattle.drive.proofs.Laws.Step.{verdict-block, verdict-lent, verdict-judge, judge-carried, verdict-answered, refused-answered}
+use Rattle.drive.proofs.Laws.Step.{verdict-block, verdict-lent, verdict-judge, judge-feasible, verdict-answered, refused-answered}
 use mathlib.Core.Path.{_≡_, sym, _∙_}
 use borrow.Author.Needs.{needs}
 use Rattle.drive.proofs.entry.command.Statement.{statement}
@@ -54,7 +54,7 @@ carry-out-requires c κs =
     let start = c .before .before .before .before .before .before .before .before .before .before .before .before in
     let s = drive (start .args .disc) (start .args .medium .now) (start .args .pending .now) in
     let q = request (start .args .block .now) (start .args .«data» .now) (start .args .reply .now) in
-    rw (c .before .before .before .judge .ensures .verdict) (judge-carried s q (c .before .before .before .before .before .before .if1 .left) (sym (c .before .before .before .before .before .is-lent .ensures) ∙ not-false _ (c .before .before .before .before .if2 .left)))
+    rw (c .before .before .before .judge .ensures .verdict) (judge-feasible s q (c .before .before .before .before .before .before .if1 .left) (sym (c .before .before .before .before .before .is-lent .ensures) ∙ not-false _ (c .before .before .before .before .if2 .left)))
 
 -- src/entry.rt:70:1
 same-length : tie.Need-same-length

@@ -3,6 +3,13 @@ pub mod Runs
 pub mod Parts
 pub mod Demand
 pub mod Served
+pub mod Regions
+pub mod Account
+pub mod Recording
+pub mod Layout
+pub mod Credit
+pub mod Kept
 pub mod Examples
 pub mod Witness
 pub mod Useful
+pub mod Figures

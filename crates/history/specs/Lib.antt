@@ -3,5 +3,7 @@ pub mod Types
 pub mod Sequence
 pub mod Cut
 pub mod Demand
+pub mod Account
+pub mod Kept
 pub mod Examples
 pub mod Witness

@@ -19,7 +19,7 @@ pub start-lent : (c : ℕ) (s : Drive) → Start c s → lent (s .disc) (length 
 start-lent c s h =
     rw (h .disc, blank-capacity c, h .medium, h .pending) (and-both (eq-eqb (32768 * c) (32768 * c) refl) refl)
 
-start-served : (c : ℕ) (s : Drive) → Start c s → Served s
+pub start-served : (c : ℕ) (s : Drive) → Start c s → Served s
 start-served c s h =
     record {
       lends = start-lent c s h;

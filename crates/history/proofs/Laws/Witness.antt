@@ -29,7 +29,7 @@ use Rattle.history.proofs.Laws.Served.{start-lent}
 use Rattle.history.proofs.Laws.Examples.{whole-sectors, cut-in-two}
 
 -- a steady sequence by its shapes
-steady-disc :
+pub steady-disc :
     (qs : List Request) (s : Drive) → lent (s .disc) (length (s .medium)) (length (s .pending)) ≡ true
     → final (steady qs s) s .disc ≡ discAfter (map shapeOf qs) (s .disc)
 unfolding final steady discAfter
@@ -86,7 +86,11 @@ computed :
 unfolding discAfter judged decode listed some every find sumRecorded usedFirst firstAtZero followsFrom inOrder endsWithin recordedWithin zeroedWithin incompleteLast tailLast tailOrFull pendingNamed finalizedComplete sound allowedState isRefusalSense allowedSense blank dataLength replyRoom lengthsFit accepted accept refuse refuseLink flush flushPlan allReadable read flushOthers flushOthersPlan gather writeTo writeFound write splitTail reserve appendTail closeIncomplete closeFragment close synchronizeCache perform judgeCommand judge
 computed = (refl, refl)
 
-run-shapes : map shapeOf firstRun ≡ before ++ (shape (writeBlock 84 2) 4096 0 ∷ behind)
+-- the whole example by its shapes
+abbrev pub runShapes : List Shape
+runShapes = before ++ (shape (writeBlock 84 2) 4096 0 ∷ behind)
+
+pub run-shapes : map shapeOf firstRun ≡ runShapes
 run-shapes =
     map-append shapeOf (map (filled 0) before) (cutWrite ∷ map (filled 0) behind)
     ∙ (ap (λ (hs : List Shape). hs ++ map shapeOf (cutWrite ∷ map (filled 0) behind)) (filled-shapes 0 before)

@@ -1,0 +1,380 @@
+-- The account and the drive over whole sequences: the kept count, and what is read is what was written.
+use Prim.Native.Nat.{ℕ, suc, zero, _+_, _-_, _*_, _/_, _≤_, _<_}
+use mathlib.Core.Path.{_≡_, refl, sym, ap, _∙_, subst}
+use mathlib.Core.Bool.{Bool, true}
+use mathlib.Core.List.{List, [], _∷_, _++_}
+use native.Mathlib.Omega.{arith}
+use borrow.Author.Tests.{leb-true, leb-false, le-leb, ltb-true, lt-ltb}
+use lib.Dec.{eqb, leb, ltb}
+use lib.ListN.{length, getD, take, drop, replicate, length-drop}
+use lib.Seq.{take-add, take-take, drop-at, drop-drop, length-take-le}
+use Rattle.disc.specs.Address.{lba, block, firstSector, sectorsIn}
+use Rattle.disc.specs.Answer.{refusalSense}
+use Rattle.disc.specs.Blank.{blank}
+use Rattle.disc.specs.Command.{decode}
+use Rattle.disc.specs.Fragment.{unusedRecord, end, firstUnrecorded, holds, pendingIn}
+use Rattle.disc.specs.Records.{limit, records, used, numbered, withSense, find, atAddress, readable}
+use Rattle.disc.specs.Rules.{at, Sound}
+use Rattle.disc.specs.Lent.{Fits}
+use Rattle.disc.specs.Read.{read}
+use Rattle.disc.specs.Judge.{perform}
+use Rattle.disc.proofs.Laws.Accepts.{accepted-read}
+use Rattle.disc.proofs.Laws.Bool.{and-left, and-right, and-both, by-cases, same-test, cond-yes, cond-no}
+use Rattle.disc.proofs.Laws.Judge.{allowed-ready, perform-read, decided-performed}
+use Rattle.disc.proofs.Laws.Read.{readable-cases, at-readable, recorded-from, recorded-below, recorded-between, held-readable}
+use Rattle.disc.proofs.Laws.Records.{listed-at, find-hit}
+use Rattle.disc.proofs.Laws.Rules.{sound-rules}
+use Rattle.disc.proofs.Laws.Numbers.{equal-cases}
+use Rattle.disc.proofs.Laws.Sound.{disjoint}
+use Rattle.drive.specs.Alike.{Alike}
+use Rattle.drive.specs.Requests.{ReadOf}
+use Rattle.drive.specs.Step.{Drive, drive, Request, Result, verdictOn, carriedOut, step}
+use Rattle.drive.proofs.Laws.Agree.{agree-run}
+use Rattle.drive.proofs.Laws.Alike.{step-link, step-refused}
+use Rattle.drive.proofs.Laws.Cut.{Served, served-after, served-alike}
+use Rattle.drive.proofs.Laws.Reads.{recorded-accepted, read-reply}
+use Rattle.drive.proofs.Laws.Step.{verdict-decided, verdict-judges, lent-medium, judgement}
+use Rattle.history.specs.Types.{Lba, Fragment, Disc, Found, Number, Nowhere, Answer, Accepted, Link, Drive as byDrive, Read, Verdict}
+use Rattle.history.specs.Sequence.{Start, Turn, found, result, final, Admissible}
+use Rattle.history.specs.Account.{Account, opened, extentOf, credited, noted, accountFrom, account, sectorAt, contentIn, recordedIn, contentAt, recordedAt}
+use Rattle.history.specs.Kept.{Keeps, KeptAccount}
+use Rattle.history.proofs.Laws.Served.{start-served, sequence-served, only-lengths-refused}
+use Rattle.history.proofs.Laws.Regions.{region, unlisted-none}
+use Rattle.history.proofs.Laws.Account.{Holds, same-holds, sector-front}
+use Rattle.history.proofs.Laws.Credit.{noted-performed}
+
+abbrev HoldsOn : Drive → ℕ → Account → Type 0
+HoldsOn s n k = Holds (s .disc) (s .medium) (s .pending) n k
+
+served-sound : (s : Drive) → Served s → Sound (s .disc)
+served-sound s w = sound-rules (s .disc) (allowed-ready (s .disc) (w .range) (w .allowed) .sound)
+
+-- one command, by its answer
+module _ (s : Drive) (q : Request) (n : ℕ) (k : Account) (w : Served s) (one : 1 ≤ n) (h : HoldsOn s n k) where
+  accepted-holds : step s q .answer ≡ Accepted → HoldsOn (step s q .after) n (credited n (extentOf (s .disc) n) (decode (q .block)) (q .sectors) k)
+  unfolding step carriedOut
+  accepted-holds e =
+      let d = s .disc in
+      let c = decode (q .block) in
+      let l = length (s .medium) in
+      let j = judgement s q (w .lends) in
+      let performed : verdictOn s q ≡ perform d c = decided-performed d (verdictOn s q) (verdict-decided s q) e in
+      let fits : Fits l (length (q .sectors)) (length (q .buffer)) (perform d c) =
+      subst (λ (v : Verdict). Fits l (length (q .sectors)) (length (q .buffer)) v) (sym (verdict-judges s q (w .lends)) ∙ performed) (j .fits) in
+      subst (λ (v : Verdict). HoldsOn (carriedOut v s q .after) n (credited n (extentOf d n) c (q .sectors) k)) (sym performed)
+      (noted-performed d (s .medium) (s .pending) (q .sectors) n k (allowed-ready d (w .range) (w .allowed)) one (j .block)
+      (lent-medium d l (length (s .pending)) (w .lends)) h c (sym (ap (λ (v : Verdict). v .answer) performed) ∙ e) (fits .flush) (fits .transfer))
+
+  answer-holds : (a : Answer) → step s q .answer ≡ a → HoldsOn (step s q .after) n (noted n (extentOf (s .disc) n) q a k)
+  unfolding noted
+  answer-holds Accepted e = accepted-holds e
+  answer-holds (Link x) e = subst (λ (r : Result). HoldsOn (r .after) n k) (sym (step-link s q x e)) h
+  answer-holds (byDrive x) e =
+      subst (λ (r : Result). HoldsOn (r .after) n k) (sym (step-refused s q x e))
+      (same-holds (s .disc) (withSense (s .disc) (refusalSense x)) (s .medium) (s .pending) n k refl refl (λ z. refl) refl h)
+
+-- stale bytes are in no account
+region-alike :
+    (s : Drive) (t : Turn) (n : ℕ) → Sound (s .disc) → Served s → 1 ≤ n → Alike s (found t s)
+    → region (s .disc) (s .medium) n ≡ region (s .disc) (t .medium) n
+region-alike s t n sound w one a =
+    let d = s .disc in
+    by-cases (leb n (used d))
+    (λ l.
+    let listed = leb-true n (used d) l in
+    let b = numbered d n .start .0 in
+    let c = numbered d n .recorded in
+    let ends = sound .ends (n - 1) (omega arith) in
+    let most = sound .recorded (n - 1) (omega arith) in
+    let whole = lent-medium d (length (s .medium)) (length (s .pending)) (w .lends) in
+    agree-run (s .medium) (t .medium) (32768 * b) (32768 * c) (omega (arith, ends, most, whole)) (a .mediumLength)
+    (λ i from below.
+    a .recorded i
+    (held-readable d (lba (i / 2048))
+    (record { index = n - 1; listed = omega arith; from = omega (arith, from); below = omega (arith, below) }))))
+    (λ l.
+    let none = unlisted-none d n sound (leb-false n (used d) l) in
+    ap (λ (f : Fragment). take (32768 * f .recorded) (drop (32768 * f .start .0) (s .medium))) none
+    ∙ sym (ap (λ (f : Fragment). take (32768 * f .recorded) (drop (32768 * f .start .0) (t .medium))) none))
+
+pending-alike : (s : Drive) (t : Turn) (n : ℕ) → Alike s (found t s) → take (2048 * pendingIn (s .disc) n) (s .pending) ≡ take (2048 * pendingIn (s .disc) n) (t .pending)
+pending-alike s t n a =
+    let d = s .disc in
+    by-cases (eqb (d .owner) n)
+    (λ e.
+    let own = cond-yes (eqb (d .owner) n) (d .pending) 0 e in
+    ap (λ (c : ℕ). take (2048 * c) (s .pending)) own ∙ (a .pending ∙ sym (ap (λ (c : ℕ). take (2048 * c) (t .pending)) own)))
+    (λ e.
+    let none = cond-no (eqb (d .owner) n) (d .pending) 0 e in
+    ap (λ (c : ℕ). take (2048 * c) (s .pending)) none ∙ sym (ap (λ (c : ℕ). take (2048 * c) (t .pending)) none))
+
+found-holds : (s : Drive) (t : Turn) (n : ℕ) (k : Account) → Served s → 1 ≤ n → Alike s (found t s) → HoldsOn s n k → HoldsOn (found t s) n k
+found-holds s t n k w one a h =
+    record {
+      recorded = h .recorded;
+      zeroFilled = h .zeroFilled;
+      pending = h .pending;
+      balance = h .balance;
+      content =
+          λ i l.
+          h .content i l
+          ∙ ap (λ (x : List ℕ). sectorAt i x)
+          (ap (λ (x : List ℕ). x ++ take (2048 * pendingIn (s .disc) n) (s .pending)) (region-alike s t n (served-sound s w) w one a)
+          ∙ ap (λ (x : List ℕ). region (s .disc) (t .medium) n ++ x) (pending-alike s t n a));
+    }
+
+-- a blank disc has nothing in any account
+all-unused : (k i : ℕ) → getD (replicate k unusedRecord) i unusedRecord ≡ unusedRecord
+all-unused zero i = refl
+all-unused (suc k) zero = refl
+all-unused (suc k) (suc i) = all-unused k i
+
+blank-counts : (c i : ℕ) → (at (blank c) i .recorded ≡ 0) × (at (blank c) i .zeroed ≡ 0)
+unfolding blank
+blank-counts c zero = (refl, refl)
+blank-counts c (suc i) = let e = all-unused (limit - 1) i in (ap (λ (f : Fragment). f .recorded) e, ap (λ (f : Fragment). f .zeroed) e)
+
+blank-held : (c n : ℕ) → pendingIn (blank c) n ≡ 0
+unfolding blank
+blank-held c n = by-cases (eqb 0 n) (λ e. rw e) (λ e. rw e)
+
+start-holds : (c : ℕ) (s : Drive) → Start c s → (n : ℕ) → HoldsOn s n opened
+start-holds c s start n =
+    let b = blank-counts c (n - 1) in
+    let p = blank-held c n in
+    subst (λ (d : Disc). Holds d (s .medium) (s .pending) n opened) (sym (start .disc))
+    (record {
+      recorded = omega (arith, b .0);
+      zeroFilled = sym (b .1);
+      pending = sym p;
+      balance = refl;
+      content = λ i l. absurd (omega (arith, l));
+    })
+
+-- over a sequence
+sequence-holds :
+    (ts : List Turn) (s : Drive) → Admissible ts s → Served s → (n : ℕ) → 1 ≤ n → (k : Account) → HoldsOn s n k
+    → HoldsOn (final ts s) n (accountFrom n ts s k)
+unfolding final Admissible accountFrom
+sequence-holds [] s h w n one k g = g
+sequence-holds (t ∷ ts) s h w n one k g =
+    let here = served-alike s (found t s) (h .0) w in
+    sequence-holds ts (result t s .after) (h .1) (served-after (found t s) (t .request) here) n one _
+    (answer-holds (found t s) (t .request) n k here one (found-holds s t n k w one (h .0) g) (result t s .answer) refl)
+
+-- a search that finds nothing passes every record by
+find-none :
+    (p : ℕ → Fragment → Bool) (k : ℕ) (rs : List Fragment) → find p k rs ≡ Nowhere → (i : ℕ) → i < length rs
+    → p (k + i) (getD rs i unusedRecord) ≡ true → ⊥
+unfolding find
+find-none p k [] e i l t = omega (arith, l)
+find-none p k (f ∷ fs) e zero l t =
+    let here : k + 0 ≡ k = omega arith in
+    let u : p k f ≡ true = rw here at t in
+    let z : Number k ≡ Nowhere = rw u at e in
+    let q : _≡_ {A = ℕ} 0 1 = cc in
+    omega arith
+find-none p k (f ∷ fs) e (suc i) l t =
+    let here : k + suc i ≡ (k + 1) + i = omega arith in
+    by-cases (p k f)
+    (λ u. let z : Number k ≡ Nowhere = rw u at e in let q : _≡_ {A = ℕ} 0 1 = cc in omega arith)
+    (λ u. find-none p (k + 1) fs (rw u at e) i (omega (arith, l)) (rw here at t))
+
+-- the fragment that an address lies in
+module _ (d : Disc) (a : ℕ) where
+  record Located (n : ℕ) : Type 0 where
+    from : 1 ≤ n
+    listed : n ≤ used d
+    first : firstSector (numbered d n .start) .0 ≤ a
+    below : a < firstSector (end (numbered d n)) .0
+
+  located : (n : ℕ) → atAddress d (lba a) ≡ Number n → Located n
+  located n e =
+      let x = find-hit (λ k f. holds (lba a) f) 1 n (records d) e in
+      let index : n - 1 ≡ x .index = omega (arith, x .number) in
+      let same : numbered d n ≡ getD (records d) (x .index) unusedRecord =
+      ap (λ i. getD (d .fragments) i unusedRecord) index ∙ sym (listed-at (d .fragments) (x .index) unusedRecord (x .within)) in
+      let t : holds (lba a) (numbered d n) ≡ true = rw same (x .passes) in
+      let f = numbered d n in
+      record {
+        from = omega (arith, x .number);
+        listed = omega (arith, x .number, x .within);
+        first = leb-true _ _ (and-left (leb (firstSector (f .start) .0) a) (ltb a (firstSector (end f) .0)) t);
+        below = ltb-true _ _ (and-right (leb (firstSector (f .start) .0) a) (ltb a (firstSector (end f) .0)) t);
+      }
+
+  -- its recorded sectors are readable, and no other sector of it
+  located-readable : (n : ℕ) → Sound d → Located n → readable d (lba a) ≡ ltb a (firstSector (numbered d n .start) .0 + 16 * numbered d n .recorded)
+  located-readable n s w =
+      let f = numbered d n in
+      same-test
+      (λ t.
+      readable-cases d (lba a)
+      (λ i l h.
+      let from = recorded-from (lba a) (at d i) h in
+      let below = recorded-below (lba a) (at d i) h in
+      let most = s .recorded i l in
+      let same =
+      disjoint d s i (n - 1) (a / 16) l (omega (arith, w .from, w .listed)) (omega (arith, from)) (omega (arith, below, most))
+      (omega (arith, w .first)) (omega (arith, w .below)) in
+      lt-ltb a (firstSector (f .start) .0 + 16 * f .recorded) (let k = ap (λ j. firstSector (firstUnrecorded (at d j)) .0) same in omega (arith, below, k))) t)
+      (λ t.
+      let below = ltb-true a (firstSector (f .start) .0 + 16 * f .recorded) t in
+      at-readable d (lba a) (n - 1) (omega (arith, w .from, w .listed)) (recorded-between (lba a) f (w .first) (omega (arith, below))))
+
+  nowhere-unreadable : Sound d → atAddress d (lba a) ≡ Nowhere → readable d (lba a) ≡ true → ⊥
+  nowhere-unreadable s e t =
+      readable-cases d (lba a)
+      (λ i l h.
+      let f = at d i in
+      let from = recorded-from (lba a) f h in
+      let below = recorded-below (lba a) f h in
+      let most = s .recorded i l in
+      let in-end : a < firstSector (end f) .0 = omega (arith, below, most) in
+      let passes : holds (lba a) f ≡ true = and-both (le-leb (firstSector (f .start) .0) a from) (lt-ltb a (firstSector (end f) .0) in-end) in
+      find-none (λ k g. holds (lba a) g) 1 (records d) e i l (rw (listed-at (d .fragments) i unusedRecord l) passes)) t
+
+-- a sector in a run, as the sector of the whole
+sector-in-run :
+    (l : List ℕ) (a w b : ℕ) → b + 2048 ≤ w → a + b ≤ length l → take 2048 (drop b (take w (drop a l))) ≡ take 2048 (drop (a + b) l)
+sector-in-run l a w b h k =
+    let rest = drop a l in
+    let split : b + (w - b) ≡ w = omega arith in
+    let front : length (take b rest) ≡ b = length-take-le b rest (omega (arith, length-drop a l)) in
+    ap (λ (n : ℕ). take 2048 (drop b (take n rest))) (sym split)
+    ∙ (ap (λ (x : List ℕ). take 2048 (drop b x)) (take-add b (w - b) rest)
+    ∙ (ap (take 2048) (drop-at (take b rest) (take (w - b) (drop b rest)) b front)
+    ∙ (take-take 2048 (w - b) (drop b rest) (omega arith) ∙ ap (take 2048) (drop-drop b a l))))
+
+-- a recorded sector is what the account has at its address
+content-sector :
+    (s : Drive) (n a : ℕ) (k : Account) → Sound (s .disc) → Served s → HoldsOn s n k → Located (s .disc) a n
+    → a < firstSector (numbered (s .disc) n .start) .0 + 16 * numbered (s .disc) n .recorded
+    → k .content a ≡ sectorAt a (s .medium)
+content-sector s n a k sound w h x below =
+    let d = s .disc in
+    let f = numbered d n in
+    let i = a - 16 * f .start .0 in
+    let r = region d (s .medium) n in
+    let p = take (2048 * pendingIn d n) (s .pending) in
+    let ends = sound .ends (n - 1) (omega (arith, x .from, x .listed)) in
+    let most = sound .recorded (n - 1) (omega (arith, x .from, x .listed)) in
+    let whole = lent-medium d (length (s .medium)) (length (s .pending)) (w .lends) in
+    let size : length r ≡ 2048 * (16 * f .recorded) =
+    length-take-le (32768 * f .recorded) (drop (32768 * f .start .0) (s .medium))
+    (omega (arith, length-drop (32768 * f .start .0) (s .medium), whole, ends, most)) ∙ omega arith in
+    let index : i < 16 * f .recorded = omega (arith, x .first, below) in
+    let address : a ≡ 16 * f .start .0 + i = omega (arith, x .first) in
+    let place : 32768 * f .start .0 + 2048 * i ≡ 2048 * a = omega (arith, x .first) in
+    ap (k .content) address
+    ∙ (h .content i (omega (arith, index, h .recorded))
+    ∙ (sector-front r p (16 * f .recorded) i size index
+    ∙ (sector-in-run (s .medium) (32768 * f .start .0) (32768 * f .recorded) (2048 * i) (omega (arith, index)) (omega (arith, whole, ends, most, index))
+    ∙ ap (λ (b : ℕ). take 2048 (drop b (s .medium))) place)))
+
+-- at every point of a sequence from a start
+module _ (c : ℕ) (s : Drive) (start : Start c s) (ts : List Turn) (h : Admissible ts s) where
+  abbrev reached : Drive
+  reached = final ts s
+
+  point-served : Served reached
+  point-served = sequence-served ts s h (start-served c s start)
+
+  point-holds : (n : ℕ) → 1 ≤ n → HoldsOn reached n (account n ts s)
+  point-holds n one = sequence-holds ts s h (start-served c s start) n one opened (start-holds c s start n)
+
+  point-sound : Sound (reached .disc)
+  point-sound = served-sound reached point-served
+
+  filled-most : (n : ℕ) → numbered (reached .disc) n .zeroed ≤ 16 * numbered (reached .disc) n .recorded
+  filled-most n =
+      by-cases (leb n (used (reached .disc)))
+      (λ l. equal-cases n 0 (λ z. rw z (point-sound .zeroed 0 (point-sound .some))) (λ z. point-sound .zeroed (n - 1) (listed-index (leb-true n (used (reached .disc)) l) z)))
+      (λ l.
+      let none = unlisted-none (reached .disc) n point-sound (leb-false n (used (reached .disc)) l) in
+      omega (arith, ap (λ (f : Fragment). f .zeroed) none))
+    where
+      listed-index : {a b : ℕ} → a ≤ b → (a ≡ 0 → ⊥) → a - 1 < b
+      listed-index l z = omega arith
+
+  point-keeps : (n : ℕ) → 1 ≤ n → Keeps (account n ts s) (reached .disc) n
+  point-keeps n one =
+      let g = point-holds n one in
+      let most = filled-most n in
+      record {
+        kept = omega (arith, g .balance, g .recorded, g .zeroFilled, most);
+        within = omega (arith, g .balance, g .recorded, g .zeroFilled, most);
+        recorded = g .recorded;
+        zeroFilled = g .zeroFilled;
+        pending = g .pending;
+      }
+
+  found-recorded : (a : ℕ) (x : Found) → atAddress (reached .disc) (lba a) ≡ x → readable (reached .disc) (lba a) ≡ recordedIn ts s a x
+  unfolding recordedIn
+  found-recorded a (Number n) e =
+      let w = located (reached .disc) a n e in
+      located-readable (reached .disc) a n point-sound w
+      ∙ ap (λ (k : ℕ). ltb a (firstSector (numbered (reached .disc) n .start) .0 + k)) (sym (point-holds n (w .from) .recorded))
+  found-recorded a Nowhere e =
+      by-cases (readable (reached .disc) (lba a)) (λ t. absurd (nowhere-unreadable (reached .disc) a point-sound e t)) (λ t. t)
+
+  point-recorded : (a : ℕ) → readable (reached .disc) (lba a) ≡ recordedAt ts s a
+  point-recorded a = found-recorded a (atAddress (reached .disc) (lba a)) refl
+
+  -- the command that comes then
+  module _ (t : Turn) (alike : Alike reached (found t reached)) where
+    abbrev here : Drive
+    here = found t reached
+
+    here-served : Served here
+    here-served = served-alike reached here alike point-served
+
+    point-readable : (a : Lba) → ReadOf (t .request) a 1 → recordedAt ts s (a .0) ≡ true → result t reached .answer ≡ Accepted
+    point-readable a w e =
+        let d = reached .disc in
+        let read : readable d (lba (a .0)) ≡ true = point-recorded (a .0) ∙ e in
+        let within : a .0 + 1 ≤ sectorsIn (d .capacity) =
+        readable-cases d (lba (a .0))
+        (λ i l q. let ends = point-sound .ends i l in let most = point-sound .recorded i l in omega (arith, recorded-below (lba (a .0)) (at d i) q, ends, most)) read in
+        recorded-accepted here (t .request) a 1 w here-served (λ z. omega (arith, z)) within
+        (λ i l. let first : a .0 + i ≡ a .0 = omega (arith, l) in rw first read)
+
+    content-found :
+        (a : ℕ) (x : Found) → atAddress (reached .disc) (lba a) ≡ x → readable (reached .disc) (lba a) ≡ true
+        → take 2048 (drop (2048 * a) (t .medium)) ≡ contentIn ts s a x
+    unfolding contentIn
+    content-found a (Number n) e r =
+        let w = located (reached .disc) a n e in
+        let below = ltb-true a _ (sym (located-readable (reached .disc) a n point-sound w) ∙ r) in
+        sym
+        (content-sector here n a (account n ts s) point-sound here-served
+        (found-holds reached t n (account n ts s) point-served (w .from) alike (point-holds n (w .from))) w below)
+    content-found a Nowhere e r = absurd (nowhere-unreadable (reached .disc) a point-sound e r)
+
+    point-back :
+        (a : Lba) (n : ℕ) → decode (t .request .block) ≡ Read a n → result t reached .answer ≡ Accepted → (i : ℕ) → i < n
+        → sectorAt i (result t reached .reply) ≡ contentAt ts s (a .0 + i)
+    unfolding step carriedOut
+    point-back a n e accepted i l =
+        let d = reached .disc in
+        let q = t .request in
+        let performed : verdictOn here q ≡ read d a n =
+        decided-performed d (verdictOn here q) (verdict-decided here q) accepted ∙ (ap (perform d) e ∙ perform-read d a n) in
+        let all = accepted-read d a n (λ z. omega (arith, z, l)) (sym (ap (λ (v : Verdict). v .answer) performed) ∙ accepted) in
+        let whole = lent-medium d (length (t .medium)) (length (t .pending)) (here-served .lends) in
+        let place : 2048 * a .0 + 2048 * i ≡ 2048 * (a .0 + i) = omega arith in
+        ap (λ (x : List ℕ). sectorAt i x) (read-reply here q a n e accepted)
+        ∙ (sector-in-run (t .medium) (2048 * a .0) (2048 * n) (2048 * i) (omega arith) (omega (arith, whole, all .0, l))
+        ∙ (ap (λ (b : ℕ). take 2048 (drop b (t .medium))) place
+        ∙ content-found (a .0 + i) (atAddress d (lba (a .0 + i))) refl (all .1 i l)))
+
+-- the theorem
+pub kept-account : KeptAccount
+kept-account =
+    record {
+      keeps = λ c s start ts h n one. point-keeps c s start ts h n one;
+      recorded = λ c s start ts h a. point-recorded c s start ts h a;
+      lengths = only-lengths-refused;
+      readable = λ c s start ts h t alike a w e. point-readable c s start ts h t alike a w e;
+      back = λ c s start ts h t alike a n e accepted i l. point-back c s start ts h t alike a n e accepted i l;
+    }

@@ -1,0 +1,50 @@
+-- What the history's account says of the drive, over whole sequences of commands from a blank disc: document 01's "kept count", and that
+-- what is read is what was written.
+use Prim.Native.Nat.{ℕ, _+_, _-_, _≤_, _<_}
+use mathlib.Core.Path.{_≡_}
+use mathlib.Core.Bool.{true}
+use mathlib.Core.Logic.{_⊎_}
+use mathlib.Core.List.{List}
+use Rattle.disc.specs.Address.{lba, sectorsIn}
+use Rattle.disc.specs.Command.{decode}
+use Rattle.disc.specs.Fragment.{pendingIn}
+use Rattle.disc.specs.Records.{numbered, readable}
+use Rattle.drive.specs.Step.{Drive}
+use Rattle.drive.specs.Alike.{Alike}
+use Rattle.drive.specs.Requests.{ReadOf}
+use Rattle.history.specs.Types.{Lba, Disc, LinkRefusal, CommandBlockLength, TransferLength, Accepted, Link, Read}
+use Rattle.history.specs.Sequence.{Start, Turn, found, result, final, Admissible}
+use Rattle.history.specs.Account.{Account, account, sectorAt, contentAt, recordedAt}
+
+-- the "kept count" of the fragment with a number, and the state's own figures
+pub record Keeps (k : Account) (d : Disc) (n : ℕ) : Type 0 where
+  -- recorded sectors = sectors accepted there - pending there + zero-filled there
+  pub kept : k .recorded ≡ k .accepted - k .pending + k .zeroFilled
+  -- pending sectors are accepted ones, so the difference is a plain one
+  pub within : k .pending ≤ k .accepted
+  -- 16W, F, and the pending count
+  pub recorded : k .recorded ≡ sectorsIn (numbered d n .recorded)
+  pub zeroFilled : k .zeroFilled ≡ numbered d n .zeroed
+  pub pending : k .pending ≡ pendingIn d n
+
+-- for every capacity, every start, every sequence and every change of stale bytes, at every point
+pub record KeptAccount : Type 0 where
+  -- the kept count of every fragment; numbers count from 1
+  pub keeps :
+      (c : ℕ) (s : Drive) → Start c s → (ts : List Turn) → Admissible ts s → (n : ℕ) → 1 ≤ n → Keeps (account n ts s) (final ts s .disc) n
+  -- with right buffers no link refusal but L1 and L4, which a command's own lengths decide, ever comes up: no L2 and no L3
+  pub lengths :
+      (c : ℕ) (s : Drive) → Start c s → (ts : List Turn) → Admissible ts s → (t : Turn) → Alike (final ts s) (found t (final ts s))
+      → (x : LinkRefusal) → result t (final ts s) .answer ≡ Link x → (x ≡ CommandBlockLength) ⊎ (x ≡ TransferLength)
+  -- readable are exactly the addresses in blocks that the history recorded
+  pub recorded :
+      (c : ℕ) (s : Drive) → Start c s → (ts : List Turn) → Admissible ts s → (a : ℕ) → readable (final ts s .disc) (lba a) ≡ recordedAt ts s a
+  -- so a READ of such an address is accepted, whatever stale bytes hold
+  pub readable :
+      (c : ℕ) (s : Drive) → Start c s → (ts : List Turn) → Admissible ts s → (t : Turn) → Alike (final ts s) (found t (final ts s))
+      → (a : Lba) → ReadOf (t .request) a 1 → recordedAt ts s (a .0) ≡ true → result t (final ts s) .answer ≡ Accepted
+  -- every sector of an accepted READ is what the history put at its address
+  pub back :
+      (c : ℕ) (s : Drive) → Start c s → (ts : List Turn) → Admissible ts s → (t : Turn) → Alike (final ts s) (found t (final ts s))
+      → (a : Lba) (n : ℕ) → decode (t .request .block) ≡ Read a n → result t (final ts s) .answer ≡ Accepted
+      → (i : ℕ) → i < n → sectorAt i (result t (final ts s) .reply) ≡ contentAt ts s (a .0 + i)

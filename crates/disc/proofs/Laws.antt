@@ -20,6 +20,7 @@ pub mod Reserve
 pub mod Close
 pub mod Session
 pub mod Keep
+pub mod Counts
 pub mod Pending
 pub mod Outcome
 pub mod Accepts

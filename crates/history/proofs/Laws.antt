@@ -6,7 +6,6 @@ pub mod Served
 pub mod Regions
 pub mod Account
 pub mod Recording
-pub mod Layout
 pub mod Credit
 pub mod Kept
 pub mod Examples

@@ -82,7 +82,7 @@ gather-capacity : (d : Disc) (number n : ℕ) → gather (flushOthers d number) 
 unfolding gather flushOthers
 gather-capacity d number n = cond-cases (λ e. e .capacity ≡ d .capacity) (eqb (d .owner) number) d (flush d) (λ e. refl) (λ e. flush-capacity d)
 
-gathered-list :
+pub gathered-list :
     (d : Disc) (number n : ℕ)
     → gather d number n .fragments ≡ set (d .fragments) (number - 1) (grownRecord ((pendingIn d number + n) / 16) (numbered d number))
 unfolding gather
@@ -163,7 +163,7 @@ append-capacity d n =
     cond-cases (λ (e : Disc). e .capacity ≡ d .capacity) (ltb (nextFragmentStart (end (numbered d n)) .0) (d .capacity) && ltb n limit) _ _
     (λ t. refl) (λ t. refl)
 
-append-pending : (d : Disc) (n : ℕ) → appendTail d n .pending ≡ d .pending
+pub append-pending : (d : Disc) (n : ℕ) → appendTail d n .pending ≡ d .pending
 unfolding appendTail
 append-pending d n =
     cond-cases (λ (e : Disc). e .pending ≡ d .pending) (ltb (nextFragmentStart (end (numbered d n)) .0) (d .capacity) && ltb n limit) _ _

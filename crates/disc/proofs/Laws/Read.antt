@@ -1,24 +1,24 @@
 -- A run of readable sectors lies in the recorded blocks of one fragment.
-use Prim.Native.Nat.{ℕ, zero, suc, _+_, _-_, _/_, _≤_, _<_}
-use mathlib.Core.Path.{_≡_, refl, ap}
+use Prim.Native.Nat.{ℕ, zero, suc, _+_, _-_, _*_, _/_, _≤_, _<_}
+use mathlib.Core.Path.{_≡_, refl, sym, _∙_, ap}
 use mathlib.Core.Bool.{true, not}
 use native.Mathlib.Omega.{arith}
 use borrow.Author.Tests.{leb-true, le-leb, ltb-true, ltb-false, lt-ltb, le-ltb, not-true}
 use lib.Dec.{eqb, leb, ltb}
 use lib.ListN.{getD, replicate}
 use Rattle.disc.specs.Blank.{blank}
-use Rattle.disc.specs.Types.{Lba, Fragment, Disc, Nothing, Send}
+use Rattle.disc.specs.Types.{Lba, Fragment, Disc, Number, Nowhere, Nothing, Send}
 use Rattle.disc.specs.Address.{lba, sectorsIn, firstSector}
-use Rattle.disc.specs.Fragment.{unusedRecord, firstUnrecorded, holdsRecorded}
-use Rattle.disc.specs.Records.{some, records, used, readable, limit}
+use Rattle.disc.specs.Fragment.{unusedRecord, end, firstUnrecorded, holdsRecorded, holds}
+use Rattle.disc.specs.Records.{some, records, used, numbered, atAddress, readable, limit}
 use Rattle.disc.specs.Rules.{at, Sound}
 use Rattle.disc.specs.Verdict.{accepted, accept, refuse}
 use Rattle.disc.specs.Read.{allReadable, read}
 use Rattle.disc.specs.Run.{passes, holdsRun}
 use Rattle.disc.proofs.Laws.Bool.{and-left, and-right, and-both, by-cases, same-test}
 use Rattle.disc.proofs.Laws.Numbers.{order-cases}
-use Rattle.disc.proofs.Laws.Records.{listed-at, some-cases, at-some}
-use Rattle.disc.proofs.Laws.Sound.{starts-rise}
+use Rattle.disc.proofs.Laws.Records.{listed-at, some-cases, at-some, find-hit, find-none}
+use Rattle.disc.proofs.Laws.Sound.{starts-rise, disjoint}
 use Rattle.disc.proofs.Laws.Onward.{Held, Onward}
 
 -- a sector is readable where a record in use holds it in its recorded blocks
@@ -210,3 +210,57 @@ transfer-cases d a n none some-sent =
     by-cases (allReadable d a n)
     (λ r. some-sent (rw (z, p, r)) (ltb-false _ _ p) r)
     (λ r. none (rw (z, p, r)))))
+
+-- the fragment that an address lies in
+module _ (d : Disc) (a : ℕ) where
+  pub record Located (n : ℕ) : Type 0 where
+    pub from : 1 ≤ n
+    pub listed : n ≤ used d
+    pub first : firstSector (numbered d n .start) .0 ≤ a
+    pub below : a < firstSector (end (numbered d n)) .0
+
+  pub located : (n : ℕ) → atAddress d (lba a) ≡ Number n → Located n
+  located n e =
+      let x = find-hit (λ k f. holds (lba a) f) 1 n (records d) e in
+      let index : n - 1 ≡ x .index = omega (arith, x .number) in
+      let same : numbered d n ≡ getD (records d) (x .index) unusedRecord =
+      ap (λ i. getD (d .fragments) i unusedRecord) index ∙ sym (listed-at (d .fragments) (x .index) unusedRecord (x .within)) in
+      let t : holds (lba a) (numbered d n) ≡ true = rw same (x .passes) in
+      let f = numbered d n in
+      record {
+        from = omega (arith, x .number);
+        listed = omega (arith, x .number, x .within);
+        first = leb-true _ _ (and-left (leb (firstSector (f .start) .0) a) (ltb a (firstSector (end f) .0)) t);
+        below = ltb-true _ _ (and-right (leb (firstSector (f .start) .0) a) (ltb a (firstSector (end f) .0)) t);
+      }
+
+  -- its recorded sectors are readable, and no other sector of it
+  pub located-readable : (n : ℕ) → Sound d → Located n → readable d (lba a) ≡ ltb a (firstSector (numbered d n .start) .0 + 16 * numbered d n .recorded)
+  located-readable n s w =
+      let f = numbered d n in
+      same-test
+      (λ t.
+      readable-cases d (lba a)
+      (λ i l h.
+      let from = recorded-from (lba a) (at d i) h in
+      let below = recorded-below (lba a) (at d i) h in
+      let most = s .recorded i l in
+      let same =
+      disjoint d s i (n - 1) (a / 16) l (omega (arith, w .from, w .listed)) (omega (arith, from)) (omega (arith, below, most))
+      (omega (arith, w .first)) (omega (arith, w .below)) in
+      lt-ltb a (firstSector (f .start) .0 + 16 * f .recorded) (let k = ap (λ j. firstSector (firstUnrecorded (at d j)) .0) same in omega (arith, below, k))) t)
+      (λ t.
+      let below = ltb-true a (firstSector (f .start) .0 + 16 * f .recorded) t in
+      at-readable d (lba a) (n - 1) (omega (arith, w .from, w .listed)) (recorded-between (lba a) f (w .first) (omega (arith, below))))
+
+  pub nowhere-unreadable : Sound d → atAddress d (lba a) ≡ Nowhere → readable d (lba a) ≡ true → ⊥
+  nowhere-unreadable s e t =
+      readable-cases d (lba a)
+      (λ i l h.
+      let f = at d i in
+      let from = recorded-from (lba a) f h in
+      let below = recorded-below (lba a) f h in
+      let most = s .recorded i l in
+      let in-end : a < firstSector (end f) .0 = omega (arith, below, most) in
+      let passes : holds (lba a) f ≡ true = and-both (le-leb (firstSector (f .start) .0) a from) (lt-ltb a (firstSector (end f) .0) in-end) in
+      find-none (λ k g. holds (lba a) g) 1 (records d) e i l (rw (listed-at (d .fragments) i unusedRecord l) passes)) t

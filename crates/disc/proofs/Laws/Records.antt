@@ -193,6 +193,24 @@ find-hit p k n (f ∷ fs) e =
     let h = find-hit p (k + 1) n fs (rw t at e) in
     record { index = suc (h .index); number = omega (arith, h .number); within = omega (arith, h .within); passes = h .passes })
 
+-- a search that finds nothing passes every record by
+pub find-none :
+    (p : ℕ → Fragment → Bool) (k : ℕ) (rs : List Fragment) → find p k rs ≡ Nowhere → (i : ℕ) → i < length rs
+    → p (k + i) (getD rs i unusedRecord) ≡ true → ⊥
+unfolding find
+find-none p k [] e i l t = omega (arith, l)
+find-none p k (f ∷ fs) e zero l t =
+    let here : k + 0 ≡ k = omega arith in
+    let u : p k f ≡ true = rw here at t in
+    let z : Number k ≡ Nowhere = rw u at e in
+    let q : _≡_ {A = ℕ} 0 1 = cc in
+    omega arith
+find-none p k (f ∷ fs) e (suc i) l t =
+    let here : k + suc i ≡ (k + 1) + i = omega arith in
+    by-cases (p k f)
+    (λ u. let z : Number k ≡ Nowhere = rw u at e in let q : _≡_ {A = ℕ} 0 1 = cc in omega arith)
+    (λ u. find-none p (k + 1) fs (rw u at e) i (omega (arith, l)) (rw here at t))
+
 pub session-end : (fs : List Fragment) (i s n : ℕ) → length fs ≤ i → firstOfSession s n (listed (drop i fs)) ≡ n
 unfolding firstOfSession
 session-end fs i s n h = rw (listed-drop-end fs i h)

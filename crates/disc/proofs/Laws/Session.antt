@@ -9,7 +9,7 @@ use lib.Dec.{eqb, ltb}
 use lib.ListN.{length, getD, set, length-set}
 use lib.Seq.{getD-set-same, getD-set-other}
 use Rattle.disc.specs.Types.{Fragment, Disc, Nothing, IncompleteTrackInSession, EmptyTrack, NoMoreReservations, EndOfUserArea}
-use Rattle.disc.specs.Fragment.{unusedRecord, end, pendingIn, isBlank, nextSessionStart, tailFrom}
+use Rattle.disc.specs.Fragment.{unusedRecord, end, isBlank, nextSessionStart, tailFrom}
 use Rattle.disc.specs.Records.{limit, used, lastRecord, withRecord, hasTail, hasBlankTail, sumRecorded, blankTailOnly}
 use Rattle.disc.specs.Rules.{at, Sound}
 use Rattle.disc.specs.Ready.{Ready}
@@ -19,6 +19,7 @@ use Rattle.disc.specs.Close.{shortenedRecord, hasIncompleteReserved, clo
 use Rattle.disc.proofs.Laws.Numbers.{equal-cases, below-limit}
 use Rattle.disc.proofs.Laws.Bool.{and-false, and-both, contradiction, by-cases, cond-yes, cond-no}
 use Rattle.disc.proofs.Laws.Records.{listed-le, sum-set}
+use Rattle.disc.proofs.Laws.Sound.{none-pending}
 use Rattle.disc.proofs.Laws.Verdict.{accept-count}
 use Rattle.disc.proofs.Laws.Flush.{flush-sum, flush-pending, flush-sound}
 use Rattle.disc.proofs.Laws.Reserve.{blank-recorded, last-sum}
@@ -58,10 +59,7 @@ session-most d (suc i) s h =
 
 -- with nothing pending a tail that is not blank has a block recorded
 pub tail-written : (d : Disc) → d .pending ≡ 0 → hasTail d ≡ true → hasBlankTail d ≡ false → lastRecord d .recorded ≡ 0 → ⊥
-tail-written d p t b w = contradiction (and-both t (and-both (eq-eqb _ _ w) (eq-eqb _ _ (none-pending (used d))))) b
-  where
-    none-pending : (n : ℕ) → pendingIn d n ≡ 0
-    none-pending n = by-cases (eqb (d .owner) n) (λ e. cond-yes (eqb (d .owner) n) _ _ e ∙ p) (λ e. cond-no (eqb (d .owner) n) _ _ e)
+tail-written d p t b w = contradiction (and-both t (and-both (eq-eqb _ _ w) (eq-eqb _ _ (none-pending d (used d) p)))) b
 
 -- what is known of the list with its tail closed: its records, the free place behind them, and a small session number
 pub record Kept (k : Disc) : Type 0 where

@@ -16,7 +16,7 @@ use Rattle.disc.specs.Fragment.{end, complete, isTail, pendingIn, nextWr
 use Rattle.disc.specs.Records.{listed, records, used, sumRecorded, every}
 use Rattle.disc.specs.Sound.{isZero, usedFirst, follows, followsFrom, inOrder, endsWithin, recordedWithin}
 use Rattle.disc.specs.Rules.{at, Follows, Sound}
-use Rattle.disc.proofs.Laws.Bool.{and-left, and-right, by-cases}
+use Rattle.disc.proofs.Laws.Bool.{and-left, and-right, by-cases, cond-yes, cond-no}
 use Rattle.disc.proofs.Laws.Numbers.{below-suc, order-cases}
 use Rattle.disc.proofs.Laws.Records.{use-cases, listed-off, listed-on}
 use Rattle.disc.proofs.Laws.Rules.{zeros-at, follows-either, sound-tests, rules-sound}
@@ -30,6 +30,17 @@ sessions-apart p f w n = ⊎-elim (λ h. absurd (n (h .0))) (λ h. omega (arith,
 
 step-session : (p f : Fragment) → Follows p f → p .session ≤ f .session
 step-session p f w = ⊎-elim (λ h. omega (arith, h .0)) (λ h. omega (arith, h .0)) w
+
+-- the pending sectors are those of one fragment, and no other one's
+pub none-pending : (d : Disc) (n : ℕ) → d .pending ≡ 0 → pendingIn d n ≡ 0
+none-pending d n z =
+    by-cases (eqb (d .owner) n) (λ e. cond-yes (eqb (d .owner) n) (d .pending) 0 e ∙ z) (λ e. cond-no (eqb (d .owner) n) (d .pending) 0 e)
+
+pub other-pending : (d : Disc) (n : ℕ) → (d .owner ≡ n → ⊥) → pendingIn d n ≡ 0
+other-pending d n z = cond-no (eqb (d .owner) n) (d .pending) 0 (ne-eqb (d .owner) n z)
+
+pub own-pending : (d : Disc) (n : ℕ) → d .owner ≡ n → pendingIn d n ≡ d .pending
+own-pending d n e = cond-yes (eqb (d .owner) n) (d .pending) 0 (eq-eqb (d .owner) n e)
 
 module _ (d : Disc) (s : Sound d) where
   -- starts rise along the list, and fragments lie apart

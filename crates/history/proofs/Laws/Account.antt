@@ -61,17 +61,6 @@ pub record Holds (d : Disc) (m p : List ℕ) (n : ℕ) (k : Account) : Type 0 wh
   pub balance : k .recorded + k .pending ≡ k .accepted + k .zeroFilled
   pub content : (i : ℕ) → i < k .recorded + k .pending → k .content (16 * numbered d n .start .0 + i) ≡ sectorAt i (bytesOf d m p n)
 
--- nothing is pending in a fragment that is not the pending sectors' own
-pub none-pending : (d : Disc) (n : ℕ) → d .pending ≡ 0 → pendingIn d n ≡ 0
-none-pending d n z =
-    by-cases (eqb (d .owner) n) (λ e. cond-yes (eqb (d .owner) n) (d .pending) 0 e ∙ z) (λ e. cond-no (eqb (d .owner) n) (d .pending) 0 e)
-
-pub other-pending : (d : Disc) (n : ℕ) → (d .owner ≡ n → ⊥) → pendingIn d n ≡ 0
-other-pending d n z = cond-no (eqb (d .owner) n) (d .pending) 0 (ne-eqb (d .owner) n z)
-
-pub own-pending : (d : Disc) (n : ℕ) → d .owner ≡ n → pendingIn d n ≡ d .pending
-own-pending d n e = cond-yes (eqb (d .owner) n) (d .pending) 0 (eq-eqb (d .owner) n e)
-
 -- a list that changes without recording anything, and the same pending sectors
 pub same-holds :
     (d e : Disc) (m p : List ℕ) (n : ℕ) (k : Account) → numbered e n .recorded ≡ numbered d n .recorded

@@ -27,19 +27,20 @@ use Rattle.disc.proofs.Laws.Numbers.{equal-cases, below-limit}
 use Rattle.disc.proofs.Laws.Records.{listed-number}
 use Rattle.disc.proofs.Laws.Recorded.{among-from, among-below, among-between}
 use Rattle.disc.proofs.Laws.Rules.{sound-rules}
-use Rattle.disc.proofs.Laws.Sound.{disjoint, incomplete-room, pending-in-few}
+use Rattle.disc.proofs.Laws.Sound.{none-pending, disjoint, incomplete-room, pending-in-few}
 use Rattle.disc.proofs.Laws.Flush.{used-limit, flush-grows, flush-pending, flush-sound, flush-used, flush-capacity}
 use Rattle.disc.proofs.Laws.Write.{writable-found, others-numbered, others-pending, others-sound}
 use Rattle.disc.proofs.Laws.Close.{appended-last}
 use Rattle.disc.proofs.Laws.Session.{kept, kept-few, kept-pending}
 use Rattle.disc.proofs.Laws.Keep.{write-room}
+use Rattle.disc.proofs.Laws.Outcome.{append-pending}
 use Rattle.drive.specs.Moves.{gatheredMedium, gatheredPending, flushedMedium, flushedPending, transferredMedium, transferredPending, movedMedium, movedPending}
 use Rattle.drive.proofs.Laws.Kept.{length-flushed-medium, length-flushed-pending}
 use Rattle.history.specs.Types.{Lba, Fragment, Kind, Reserved, Appended, Disc, Found, Number, Nowhere, Accepted, DriveRefusal, WriteProtected, InvalidFieldInCommand, AddressOutOfRange, BlankCheck, InvalidOperationCode, InvalidAddressForWrite, IncompleteTrackInSession, EmptyTrack, NoMoreReservations, EndOfUserArea, Reply, Plan, Verdict, Skip, Nothing, Send, Gather, Command, TestUnitReady, RequestSense, ReadCapacity, Read, Write, SynchronizeCache, ReserveTrack, CloseTrackSession, ReadDiscInformation, ReadTrackInformation, Unlisted}
 use Rattle.history.specs.Account.{Account, extentOf, written, zeroed, flushed, filled, credited}
-use Rattle.history.proofs.Laws.Account.{Holds, none-pending, same-holds, zeroed-none, flushed-none}
+use Rattle.history.proofs.Laws.Account.{Holds, same-holds, zeroed-none, flushed-none}
 use Rattle.history.proofs.Laws.Recording.{holds-as, holds-at, flush-holds, others-own, others-else, gather-holds-own, gather-holds-else, fill-holds-own, fill-holds-else}
-use Rattle.history.proofs.Laws.Layout.{SameCounts, same-counts, counts-on, split-counts, split-start, shorten-counts, close-tail-counts, open-counts, blank-only-none}
+use Rattle.disc.proofs.Laws.Counts.{SameCounts, same-counts, counts-on, split-counts, split-start, shorten-counts, close-tail-counts, open-counts, blank-only-none}
 
 -- the fragment that a WRITE goes to is the one that its address lies in
 module _ (d : Disc) (a : Lba) (j n : ℕ) (r : Ready d) (w : Writable d a j) where
@@ -93,12 +94,6 @@ not-third : (a b c : Bool) → c ≡ false → (a && b && c) ≡ false
 not-third true true c e = e
 not-third true false c e = refl
 not-third false b c e = refl
-
-append-pending : (d : Disc) (n : ℕ) → appendTail d n .pending ≡ d .pending
-unfolding appendTail
-append-pending d n =
-    cond-cases (λ (e : Disc). e .pending ≡ d .pending) (ltb (nextFragmentStart (end (numbered d n)) .0) (d .capacity) && ltb n limit) _ _
-    (λ t. refl) (λ t. refl)
 
 -- a command on a disc that is ready, over a medium, a pending buffer and data; the fragment with number n and its account
 module _

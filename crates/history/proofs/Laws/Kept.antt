@@ -1,10 +1,10 @@
 -- The account and the drive over whole sequences: the kept count, and what is read is what was written.
 use Prim.Native.Nat.{ℕ, suc, zero, _+_, _-_, _*_, _/_, _≤_, _<_}
 use mathlib.Core.Path.{_≡_, refl, sym, ap, _∙_, subst}
-use mathlib.Core.Bool.{Bool, true}
+use mathlib.Core.Bool.{true}
 use mathlib.Core.List.{List, [], _∷_, _++_}
 use native.Mathlib.Omega.{arith}
-use borrow.Author.Tests.{leb-true, leb-false, le-leb, ltb-true, lt-ltb}
+use borrow.Author.Tests.{leb-true, leb-false, ltb-true}
 use lib.Dec.{eqb, leb, ltb}
 use lib.ListN.{length, getD, take, drop, replicate, length-drop}
 use lib.Seq.{take-add, take-take, drop-at, drop-drop, length-take-le}
@@ -12,20 +12,18 @@ use Rattle.disc.specs.Address.{lba, block, firstSector, sectorsIn}
 use Rattle.disc.specs.Answer.{refusalSense}
 use Rattle.disc.specs.Blank.{blank}
 use Rattle.disc.specs.Command.{decode}
-use Rattle.disc.specs.Fragment.{unusedRecord, end, firstUnrecorded, holds, pendingIn}
-use Rattle.disc.specs.Records.{limit, records, used, numbered, withSense, find, atAddress, readable}
+use Rattle.disc.specs.Fragment.{unusedRecord, pendingIn}
+use Rattle.disc.specs.Records.{limit, used, numbered, withSense, atAddress, readable}
 use Rattle.disc.specs.Rules.{at, Sound}
 use Rattle.disc.specs.Lent.{Fits}
 use Rattle.disc.specs.Read.{read}
 use Rattle.disc.specs.Judge.{perform}
 use Rattle.disc.proofs.Laws.Accepts.{accepted-read}
-use Rattle.disc.proofs.Laws.Bool.{and-left, and-right, and-both, by-cases, same-test, cond-yes, cond-no}
+use Rattle.disc.proofs.Laws.Bool.{by-cases, cond-yes, cond-no}
 use Rattle.disc.proofs.Laws.Judge.{allowed-ready, perform-read, decided-performed}
-use Rattle.disc.proofs.Laws.Read.{readable-cases, at-readable, recorded-from, recorded-below, recorded-between, held-readable}
-use Rattle.disc.proofs.Laws.Records.{listed-at, find-hit}
+use Rattle.disc.proofs.Laws.Read.{readable-cases, recorded-below, held-readable, Located, located, located-readable, nowhere-unreadable}
 use Rattle.disc.proofs.Laws.Rules.{sound-rules}
 use Rattle.disc.proofs.Laws.Numbers.{equal-cases}
-use Rattle.disc.proofs.Laws.Sound.{disjoint}
 use Rattle.drive.specs.Alike.{Alike}
 use Rattle.drive.specs.Requests.{ReadOf}
 use Rattle.drive.specs.Step.{Drive, drive, Request, Result, verdictOn, carriedOut, step}
@@ -161,78 +159,6 @@ sequence-holds (t ∷ ts) s h w n one k g =
     let here = served-alike s (found t s) (h .0) w in
     sequence-holds ts (result t s .after) (h .1) (served-after (found t s) (t .request) here) n one _
     (answer-holds (found t s) (t .request) n k here one (found-holds s t n k w one (h .0) g) (result t s .answer) refl)
-
--- a search that finds nothing passes every record by
-find-none :
-    (p : ℕ → Fragment → Bool) (k : ℕ) (rs : List Fragment) → find p k rs ≡ Nowhere → (i : ℕ) → i < length rs
-    → p (k + i) (getD rs i unusedRecord) ≡ true → ⊥
-unfolding find
-find-none p k [] e i l t = omega (arith, l)
-find-none p k (f ∷ fs) e zero l t =
-    let here : k + 0 ≡ k = omega arith in
-    let u : p k f ≡ true = rw here at t in
-    let z : Number k ≡ Nowhere = rw u at e in
-    let q : _≡_ {A = ℕ} 0 1 = cc in
-    omega arith
-find-none p k (f ∷ fs) e (suc i) l t =
-    let here : k + suc i ≡ (k + 1) + i = omega arith in
-    by-cases (p k f)
-    (λ u. let z : Number k ≡ Nowhere = rw u at e in let q : _≡_ {A = ℕ} 0 1 = cc in omega arith)
-    (λ u. find-none p (k + 1) fs (rw u at e) i (omega (arith, l)) (rw here at t))
-
--- the fragment that an address lies in
-module _ (d : Disc) (a : ℕ) where
-  record Located (n : ℕ) : Type 0 where
-    from : 1 ≤ n
-    listed : n ≤ used d
-    first : firstSector (numbered d n .start) .0 ≤ a
-    below : a < firstSector (end (numbered d n)) .0
-
-  located : (n : ℕ) → atAddress d (lba a) ≡ Number n → Located n
-  located n e =
-      let x = find-hit (λ k f. holds (lba a) f) 1 n (records d) e in
-      let index : n - 1 ≡ x .index = omega (arith, x .number) in
-      let same : numbered d n ≡ getD (records d) (x .index) unusedRecord =
-      ap (λ i. getD (d .fragments) i unusedRecord) index ∙ sym (listed-at (d .fragments) (x .index) unusedRecord (x .within)) in
-      let t : holds (lba a) (numbered d n) ≡ true = rw same (x .passes) in
-      let f = numbered d n in
-      record {
-        from = omega (arith, x .number);
-        listed = omega (arith, x .number, x .within);
-        first = leb-true _ _ (and-left (leb (firstSector (f .start) .0) a) (ltb a (firstSector (end f) .0)) t);
-        below = ltb-true _ _ (and-right (leb (firstSector (f .start) .0) a) (ltb a (firstSector (end f) .0)) t);
-      }
-
-  -- its recorded sectors are readable, and no other sector of it
-  located-readable : (n : ℕ) → Sound d → Located n → readable d (lba a) ≡ ltb a (firstSector (numbered d n .start) .0 + 16 * numbered d n .recorded)
-  located-readable n s w =
-      let f = numbered d n in
-      same-test
-      (λ t.
-      readable-cases d (lba a)
-      (λ i l h.
-      let from = recorded-from (lba a) (at d i) h in
-      let below = recorded-below (lba a) (at d i) h in
-      let most = s .recorded i l in
-      let same =
-      disjoint d s i (n - 1) (a / 16) l (omega (arith, w .from, w .listed)) (omega (arith, from)) (omega (arith, below, most))
-      (omega (arith, w .first)) (omega (arith, w .below)) in
-      lt-ltb a (firstSector (f .start) .0 + 16 * f .recorded) (let k = ap (λ j. firstSector (firstUnrecorded (at d j)) .0) same in omega (arith, below, k))) t)
-      (λ t.
-      let below = ltb-true a (firstSector (f .start) .0 + 16 * f .recorded) t in
-      at-readable d (lba a) (n - 1) (omega (arith, w .from, w .listed)) (recorded-between (lba a) f (w .first) (omega (arith, below))))
-
-  nowhere-unreadable : Sound d → atAddress d (lba a) ≡ Nowhere → readable d (lba a) ≡ true → ⊥
-  nowhere-unreadable s e t =
-      readable-cases d (lba a)
-      (λ i l h.
-      let f = at d i in
-      let from = recorded-from (lba a) f h in
-      let below = recorded-below (lba a) f h in
-      let most = s .recorded i l in
-      let in-end : a < firstSector (end f) .0 = omega (arith, below, most) in
-      let passes : holds (lba a) f ≡ true = and-both (le-leb (firstSector (f .start) .0) a from) (lt-ltb a (firstSector (end f) .0) in-end) in
-      find-none (λ k g. holds (lba a) g) 1 (records d) e i l (rw (listed-at (d .fragments) i unusedRecord l) passes)) t
 
 -- a sector in a run, as the sector of the whole
 sector-in-run :

@@ -20,9 +20,10 @@ use Rattle.disc.specs.Close.{filledRecord}
 use Rattle.disc.proofs.Laws.Bool.{by-cases, cond-yes, cond-no}
 use Rattle.disc.proofs.Laws.Numbers.{equal-cases}
 use Rattle.disc.proofs.Laws.Rules.{sound-rules}
-use Rattle.disc.proofs.Laws.Sound.{pending-in-few}
+use Rattle.disc.proofs.Laws.Sound.{none-pending, other-pending, own-pending, pending-in-few}
 use Rattle.disc.proofs.Laws.Flush.{owner, flush-none, flush-pending}
 use Rattle.disc.proofs.Laws.Keep.{Room}
+use Rattle.disc.proofs.Laws.Outcome.{gathered-list}
 use Rattle.drive.specs.Bytes.{zeros, splice, padded}
 use Rattle.drive.specs.Moves.{stream, gatheredMedium, gatheredPending, flushedMedium, flushedPending}
 use Rattle.drive.proofs.Laws.Bytes.{length-zeros, length-padded}
@@ -30,7 +31,7 @@ use Rattle.drive.proofs.Laws.Moves.{length-whole}
 use Rattle.history.specs.Types.{Fragment, Disc, Skip, Record}
 use Rattle.history.specs.Account.{Account, Extent, extentOf, written, zeroed, missing, flushed, filled}
 use Rattle.history.proofs.Laws.Regions.{Grows, grownMedium}
-use Rattle.history.proofs.Laws.Account.{Holds, none-pending, other-pending, own-pending, else-holds, zeroed-holds, written-holds, flushed-none, flushed-some}
+use Rattle.history.proofs.Laws.Account.{Holds, else-holds, zeroed-holds, written-holds, flushed-none, flushed-some}
 
 -- the same by other names
 pub holds-as :
@@ -174,17 +175,13 @@ module _
     held-bytes : 2048 * held ≤ length p
     held-bytes = omega (arith, block, pending-in-few d s j)
 
-    gathered-list : gather d j n .fragments ≡ set (d .fragments) (j - 1) gathered-record
-    unfolding gather
-    gathered-list = refl
-
     gather-grow : Grows d (gather d j n) j ((held + n) / 16) gathered-record m gathered-bytes
     gather-grow =
         record {
           sound = s;
           from = room .from;
           to = room .listed;
-          changed = gathered-list;
+          changed = gathered-list d j n;
           start = refl;
           count = refl;
           room = omega (arith, room .fits);

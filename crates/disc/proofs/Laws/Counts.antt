@@ -8,20 +8,20 @@ use borrow.Author.Tests.{ltb-true, ltb-false, eqb-true, eq-eqb}
 use lib.Dec.{eqb, ltb}
 use lib.ListN.{length, getD, set, length-set}
 use lib.Seq.{getD-set-same, getD-set-other}
 use Rattle.disc.specs.Fragment.{unusedRecord, end, isBlank, pendingIn, nextFragmentStart}
 use Rattle.disc.specs.Records.{limit, records, used, numbered, lastRecord, withRecord, hasTail, hasBlankTail, firstOfSession, blankTailOnly}
 use Rattle.disc.specs.Ready.{Ready}
 use Rattle.disc.specs.Rules.{at, Sound}
 use Rattle.disc.specs.Reserve.{reservedAt, splitTail}
 use Rattle.disc.specs.Close.{shortenedRecord, appendTail, closeTail, openSession}
 use Rattle.disc.proofs.Laws.Bool.{and-left, and-right, by-cases, cond-yes, cond-no}
 use Rattle.disc.proofs.Laws.Numbers.{equal-cases}
 use Rattle.disc.proofs.Laws.Records.{listed-le, listed-at}
 use Rattle.disc.proofs.Laws.Rules.{sound-rules}
 use Rattle.disc.proofs.Laws.Reserve.{blank-recorded}
 use Rattle.disc.proofs.Laws.Session.{kept-blank, kept-tail, kept-same, Kept}
 use Rattle.disc.proofs.Laws.Keep.{blank-unowned}
-use Rattle.history.specs.Types.{Fragment, Disc}
+use Rattle.disc.specs.Types.{Fragment, Disc}
 
 -- at every index the same blocks recorded and the same sectors zero-filled
 pub record SameCounts (d e : Disc) : Type 0 where

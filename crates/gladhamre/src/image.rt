@@ -90,16 +90,15 @@ fn list_fits(words: &[u32]) -> bool
     requires { ⌜ length (now words) ≡ 391 ⌝ }
     ensures { λ r. ⌜ r ≡ listFits limit (drop 7 (now (words .entry))) ⌝ }
 {
+    let mut fits = true;
     let mut i = 0;
     while i < Disc::LIMIT {
         let from = HEAD + RECORD * i;
         let to = from + RECORD;
-        if !record_fits(&words[from..to]) {
-            return false;
-        }
+        fits = fits & record_fits(&words[from..to]);
         i += 1;
     }
-    true
+    fits
 }
 
 // Whether the head has a flag and bytes where it must.

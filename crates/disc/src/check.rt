@@ -150,7 +150,7 @@ impl Disc {
         if owner > Disc::LIMIT {
             return false;
         }
-        let f = self.fragments[owner - 1];
+        let f = self.numbered(owner);
         !f.is_complete()
     }
 

@@ -21,7 +21,7 @@ impl Disc {
             return self;
         }
         let owner = self.owner as usize;
-        let f = self.fragments[owner - 1];
+        let f = self.numbered(owner);
         let mut after = self.with_record(owner, f.flushed(pending));
         after.pending = 0;
         after.owner = 0;
@@ -48,7 +48,7 @@ impl Disc {
             return Flush::Skip;
         }
         let owner = self.owner as usize;
-        let f = self.fragments[owner - 1];
+        let f = self.numbered(owner);
         Flush::Record {
             block: Block(f.start.0 + f.recorded),
             sectors: pending,

@@ -11,7 +11,7 @@ use crate::verdict::Verdict;
 ghost use mathlib.Core.Path.{_≡_};
 ghost use Rattle.disc.specs.Ready.{Ready};
 ghost use Rattle.disc.specs.Verdict.{refuseLink};
-ghost use Rattle.disc.specs.Judge.{perform, judgeCommand, Judged};
+ghost use Rattle.disc.specs.Judge.{perform, Judged};
 
 impl Verdict {
     // Refused on the link: nothing changes.
@@ -61,15 +61,15 @@ impl Disc {
         }
     }
 
-    // The link refusals that need no buffer, in order, then the drive.
-    pub(crate) fn judge_command(
-        self,
-        command: Command,
-        data_length: usize,
-        reply_length: usize,
-    ) -> Verdict
-        ensures { λ r. ⌜ r ≡ judgeCommand self command «data_length» «reply_length» ⌝ }
+    // The decision about a command block, with data and a reply buffer of these lengths: the link refusals that need no buffer, in order,
+    // then the drive.
+    pub fn judge(self, block: &[u8], data_length: usize, reply_length: usize) -> Verdict
+        ensures { λ r. ⌜ Judged self (now (block .entry)) «data_length» «reply_length» r ⌝ }
     {
+        if block.len() != lengths::COMMAND_LENGTH {
+            return Verdict::refused_link(self, LinkRefusal::CommandBlockLength);
+        }
+        let command = Command::decode(block);
         if !Disc::in_range(self.capacity) {
             return Verdict::refused_link(self, LinkRefusal::MediumSize);
         }
@@ -80,15 +80,5 @@ impl Disc {
             return Verdict::refused_link(self, LinkRefusal::TransferLength);
         }
         self.perform(command)
-    }
-
-    // The decision about a command block, with data and a reply buffer of these lengths.
-    pub fn judge(self, block: &[u8], data_length: usize, reply_length: usize) -> Verdict
-        ensures { λ r. ⌜ Judged self (now (block .entry)) «data_length» «reply_length» r ⌝ }
-    {
-        if block.len() != lengths::COMMAND_LENGTH {
-            return Verdict::refused_link(self, LinkRefusal::CommandBlockLength);
-        }
-        self.judge_command(Command::decode(block), data_length, reply_length)
     }
 }

@@ -1,12 +1,13 @@
 // A WRITE's sectors: they gather in the pending buffer, and each sixteen of them are recorded.
 use crate::bytes;
 use crate::medium;
+use disc::BLOCK_LENGTH;
 use disc::Block;
 use disc::SECTOR_LENGTH;
 use disc::SECTORS_PER_BLOCK;
 ghost use mathlib.Core.Path.{_≡_};
-ghost use Prim.Native.Nat.{_+_, _*_, _/_, _^_, _≤_, _<_};
-ghost use lib.ListN.{length};
+ghost use Prim.Native.Nat.{_+_, _*_, _/_, _%_, _^_, _≤_, _<_};
+ghost use lib.ListN.{length, take};
 ghost use Rattle.drive.specs.Bytes.{splice};
 ghost use Rattle.drive.specs.Moves.{gatheredMedium, gatheredPending};
 
@@ -21,6 +22,32 @@ fn gather_sector(medium: &mut [u8], pending: &mut [u8], block: Block, held: usiz
         return;
     }
     medium::record_block(medium, block, pending);
+}
+
+// The next sectors of a WRITE, of those that are left, and how many they are: a whole block that finds the pending buffer empty is recorded
+// from where it stands, and else one sector is gathered. Of the pending bytes only those of the sectors pending then are promised.
+fn gather_next(
+    medium: &mut [u8],
+    pending: &mut [u8],
+    block: Block,
+    held: usize,
+    left: usize,
+    sectors: &[u8],
+) -> usize
+    requires { ⌜ (length (now pending) ≡ 32768) × (held < 16) × (0 < left) × (length (now sectors) ≡ 2048 * left) × (32768 * (block .0 + (held + left) / 16) ≤ length (now medium)) ⌝ }
+    ensures taken { λ r. ⌜ (0 < r) × (r ≤ left) ⌝ }
+    ensures medium { λ r. ⌜ now (medium .exit) ≡ gatheredMedium (block .0) held r (now (medium .entry)) (now (pending .entry)) (take (2048 * r) (now (sectors .entry))) ⌝ }
+    ensures pending { λ r. ⌜ take (2048 * ((held + r) % 16)) (now (pending .exit)) ≡ take (2048 * ((held + r) % 16)) (gatheredPending held r (now (pending .entry)) (take (2048 * r) (now (sectors .entry)))) ⌝ }
+{
+    let per_block = SECTORS_PER_BLOCK as usize;
+    if held == 0 {
+        if per_block <= left {
+            medium::record_block(medium, block, &sectors[0..BLOCK_LENGTH]);
+            return per_block;
+        }
+    }
+    gather_sector(medium, pending, block, held, &sectors[0..SECTOR_LENGTH]);
+    1
 }
 
 // All sectors of a WRITE, behind those held for a block; the pending buffer's bytes past the last one become zero.
@@ -40,19 +67,20 @@ pub(crate) fn gather(
     let count = sectors as usize;
     let before = held as usize;
     let per_block = SECTORS_PER_BLOCK as usize;
+    let end = data.len();
     let mut i = 0;
     while i < count {
         let from = SECTOR_LENGTH * i;
-        let to = from + SECTOR_LENGTH;
         let here = Block(first + ((before + i) / per_block) as u32);
-        gather_sector(
+        let held_here = (before + i) % per_block;
+        i += gather_next(
             medium,
             pending,
             here,
-            (before + i) % per_block,
-            &data[from..to],
+            held_here,
+            count - i,
+            &data[from..end],
         );
-        i += 1;
     }
     bytes::clear_from(pending, SECTOR_LENGTH * ((before + count) % per_block));
 }

@@ -90,16 +90,15 @@ fn list_fits(words: &[u32]) -> bool
     requires { ⌜ length (now words) ≡ 391 ⌝ }
     ensures { λ r. ⌜ r ≡ listFits limit (drop 7 (now (words .entry))) ⌝ }
 {
+    let mut fits = true;
     let mut i = 0;
     while i < Disc::LIMIT {
         let from = HEAD + RECORD * i;
         let to = from + RECORD;
-        if !record_fits(&words[from..to]) {
-            return false;
-        }
+        fits = fits & record_fits(&words[from..to]);
         i += 1;
     }
-    true
+    fits
 }
 
 // Whether the head has a flag and bytes where it must.
@@ -186,15 +185,16 @@ fn write_head(words: &mut [u32], disc: Disc)
 }
 
 // The records, behind the head.
-fn write_list(words: &mut [u32], fragments: [Fragment; Disc::LIMIT])
+fn write_list(words: &mut [u32], disc: Disc)
     requires { ⌜ length (now words) ≡ 391 ⌝ }
-    ensures { λ _. ⌜ now (words .exit) ≡ splice (now (words .entry)) 7 (listWords fragments) ⌝ }
+    ensures { λ _. ⌜ now (words .exit) ≡ splice (now (words .entry)) 7 (listWords (disc .fragments)) ⌝ }
 {
     let mut i = 0;
     while i < Disc::LIMIT {
         let from = HEAD + RECORD * i;
         let to = from + RECORD;
-        write_record(&mut words[from..to], fragments[i]);
+        let f = disc.fragments[i];
+        write_record(&mut words[from..to], f);
         i += 1;
     }
 }
@@ -205,6 +205,5 @@ pub(crate) fn write(words: &mut [u32], disc: Disc)
     ensures { λ _. ⌜ now (words .exit) ≡ encode disc ⌝ }
 {
     write_head(&mut words[0..HEAD], disc);
-    let fragments = disc.fragments;
-    write_list(words, fragments);
+    write_list(words, disc);
 }

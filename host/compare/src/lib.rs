@@ -7,7 +7,6 @@
 #![forbid(unsafe_code)]
 
 mod bench;
-pub mod blocks;
 mod coverage;
 pub mod demand3;
 mod drive;
@@ -28,6 +27,7 @@ mod unsound;
 pub use coverage::Coverage;
 pub use drive::{Drive, Linked, Plain};
 pub use generator::Generator;
+pub use gladhamre::blocks;
 pub use mood::Mood;
 pub use pair::{Difference, Pair};
 pub use pool::pool;

@@ -24,6 +24,7 @@
 
 #![deny(unsafe_code)]
 
+pub mod blocks;
 pub mod raw;
 mod state;
 

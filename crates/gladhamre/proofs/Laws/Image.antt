@@ -104,17 +104,21 @@ lent-fits w i = ap recordFits (lent-part w i) ∙ part-fits (drop (6 * i) (drop 
 pub lent-record : (w : List ℕ) (i : ℕ) → recordOf (take (7 + 6 * i + 6 - (7 + 6 * i)) (drop (7 + 6 * i) w)) ≡ recordOf (drop (6 * i) (drop 7 w))
 lent-record w i = ap recordOf (lent-part w i) ∙ part-record (drop (6 * i) (drop 7 w))
 
--- the walk that tests the records: as far as index i all fit
-module _ (v : List ℕ) (i : ℕ) (h : i < 64) (so : listFits 64 v ≡ listFits (64 - i) (drop (6 * i) v)) where
-  pub fits-no : recordFits (drop (6 * i) v) ≡ false → false ≡ listFits 64 v
-  fits-no f = sym (so ∙ (fits-step 64 i v h ∙ rw f))
+-- the walk that tests the records: a says whether the first i of them fit
+pub fits-none : (v : List ℕ) → listFits 64 v ≡ (true && listFits (64 - 0) (drop (6 * 0) v))
+fits-none v = refl
 
-  pub fits-on : recordFits (drop (6 * i) v) ≡ true → listFits 64 v ≡ listFits (64 - (i + 1)) (drop (6 * (i + 1)) v)
-  fits-on t = so ∙ (fits-step 64 i v h ∙ rw t)
+pub fits-more :
+    (v : List ℕ) (i : ℕ) (a b : Bool) → i < 64 → listFits 64 v ≡ (a && listFits (64 - i) (drop (6 * i) v))
+    → b ≡ recordFits (drop (6 * i) v) → listFits 64 v ≡ ((a && b) && listFits (64 - (i + 1)) (drop (6 * (i + 1)) v))
+fits-more v i true b h so e =
+    so ∙ (fits-step 64 i v h ∙ ap (λ (t : Bool). t && listFits (64 - (i + 1)) (drop (6 * (i + 1)) v)) (sym e))
+fits-more v i false b h so e = so
 
-pub fits-all : (v : List ℕ) (i : ℕ) → 64 ≤ i → listFits 64 v ≡ listFits (64 - i) (drop (6 * i) v) → true ≡ listFits 64 v
+pub fits-all : (v : List ℕ) (i : ℕ) (a : Bool) → 64 ≤ i → listFits 64 v ≡ (a && listFits (64 - i) (drop (6 * i) v)) → a ≡ listFits 64 v
 unfolding listFits
-fits-all v i h so = let k : 64 - i ≡ 0 = omega arith in sym (so ∙ rw k)
+fits-all v i true h so = let k : 64 - i ≡ 0 = omega arith in sym (so ∙ rw k)
+fits-all v i false h so = sym so
 
 -- one turn of the writing
 pub write-more :

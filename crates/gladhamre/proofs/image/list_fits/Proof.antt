@@ -1,11 +1,11 @@
-use borrow.Author.Tests.{not-true, not-false}
-use lib.ListN.{drop}
-use Rattle.gladhamre.specs.Image.{listFits}
-use Rattle.gladhamre.proofs.Laws.Image.{lent-fits, fits-no, fits-on, fits-all}
 use borrow.Author.Needs.{needs}
-use mathlib.Core.Path.{_≡_, refl, sym, _∙_}
+use Rattle.gladhamre.specs.Image.{listFits}
+use Rattle.gladhamre.proofs.Laws.Image.{lent-fits, fits-none, fits-more, fits-all}
+use mathlib.Core.Bool.{_&&_}
+use mathlib.Core.Path.{_≡_, _∙_}
 use native.Mathlib.Omega.{arith}
 use Prim.Native.Nat.{_-_, _*_, _≤_}
+use lib.ListN.{drop}
 use Rattle.gladhamre.proofs.image.list_fits.Statement.{statement}
 use Rattle.gladhamre.proofs.image.list_fits.Tie as tie
 use Rattle.gladhamre.proofs.image.list_fits.Reads as reads
@@ -13,70 +13,65 @@ use Rattle.gladhamre.proofs.image.list_fits.Lts as lts
 use Rattle.gladhamre.proofs.image.record_fits.Reads as record-fits-reads
 
 abbrev Inv-loop : tie.InvT-loop
-Inv-loop words i₀ i = (i ≤ 64) × (listFits 64 (drop 7 words) ≡ listFits (64 - i) (drop (6 * i) (drop 7 words)))
+Inv-loop words fits₀ i₀ fits i = (i ≤ 64) × (listFits 64 (drop 7 words) ≡ (fits && listFits (64 - i) (drop (6 * i) (drop 7 words))))
 
 abbrev μ-loop : tie.MeasureT-loop
-μ-loop words i₀ i = 64 - i
+μ-loop words fits₀ i₀ fits i = 64 - i
 
--- src/image.rt:94:5
+-- src/image.rt:95:5
 loop-holds : tie.Need-loop-holds Inv-loop μ-loop
-loop-holds c = (search needs, refl)
+loop-holds c = (search needs, fits-none (drop 7 (c .before .args .words .now)))
 
--- src/image.rt:95:27
+-- src/image.rt:96:27
 mul-from : tie.Need-mul-from Inv-loop μ-loop
 mul-from c = search needs
 
--- src/image.rt:95:20
+-- src/image.rt:96:20
 add-from : tie.Need-add-from Inv-loop μ-loop
 add-from c = search needs
 
--- src/image.rt:96:18
+-- src/image.rt:97:18
 add-to : tie.Need-add-to Inv-loop μ-loop
 add-to c = search needs
 
--- src/image.rt:97:25
+-- src/image.rt:98:35
 mul-record-fits : tie.Need-mul-record-fits Inv-loop μ-loop
 mul-record-fits c = search needs
 
--- src/image.rt:97:25
+-- src/image.rt:98:35
 sub-record-fits : tie.Need-sub-record-fits Inv-loop μ-loop
 sub-record-fits c = search needs
 
--- src/image.rt:97:25
+-- src/image.rt:98:35
 part-record-fits-start : tie.Need-part-record-fits-start Inv-loop μ-loop
 part-record-fits-start c = search needs
 
--- src/image.rt:97:25
+-- src/image.rt:98:35
 part-record-fits-end : tie.Need-part-record-fits-end Inv-loop μ-loop
 part-record-fits-end c = search needs
 
--- src/image.rt:97:13
+-- src/image.rt:98:23
 record-fits-requires : tie.Need-record-fits-requires Inv-loop μ-loop
 record-fits-requires c κs = search needs
 
--- src/image.rt:98:13
-returns : tie.Need-returns Inv-loop μ-loop
-returns c =
-    let start = c .before .before .before .before .before .before in
-    fits-no (drop 7 (start .args .words .now)) (c .before .before .before .before .loop .i) (omega arith) (c .before .before .before .before .loop .inv .1) (sym (lent-fits (start .args .words .now) (c .before .before .before .before .loop .i)) ∙ (sym (c .before .record-fits .ensures) ∙ not-true _ (c .if1 .taken)))
-
--- src/image.rt:100:9
+-- src/image.rt:99:9
 add-i : tie.Need-add-i Inv-loop μ-loop
 add-i c = search needs
 
--- src/image.rt:94:5
+-- src/image.rt:95:5
 loop-less : tie.Need-loop-less Inv-loop μ-loop
 loop-less c = search needs
 
--- src/image.rt:94:5
+-- src/image.rt:95:5
 loop-again : tie.Need-loop-again Inv-loop μ-loop
 loop-again c =
-    let start = c .before .before .before .before .before .before in
-    (omega arith, fits-on (drop 7 (start .args .words .now)) (c .before .before .before .before .loop .i) (omega arith) (c .before .before .before .before .loop .inv .1) (sym (lent-fits (start .args .words .now) (c .before .before .before .before .loop .i)) ∙ (sym (c .before .record-fits .ensures) ∙ not-false _ (c .if1 .left))))
+    let v = drop 7 (c .before .before .before .before .before .args .words .now) in
+    let w = c .before .before .before .loop in
+    (omega arith, fits-more v (w .i) (w .fits) (c .record-fits .result) (omega arith) (w .inv .1) (c .record-fits .ensures ∙ lent-fits (c .before .before .before .before .before .args .words .now) (w .i)))
 
 -- src/image.rt:89:1
-returns-2 : tie.Need-returns-2 Inv-loop μ-loop
-returns-2 c = fits-all (drop 7 (c .before .before .before .args .words .now)) (c .before .loop .i) (omega arith) (c .before .loop .inv .1)
+returns : tie.Need-returns Inv-loop μ-loop
+returns c = fits-all (drop 7 (c .before .before .before .args .words .now)) (c .before .loop .i) (c .before .loop .fits) (omega arith) (c .before .loop .inv .1)
 
 pub list-fits-spec : {M : Type 1} → statement M
 list-fits-spec =
@@ -93,8 +88,7 @@ list-fits-spec =
     part-record-fits-start
     part-record-fits-end
     record-fits-requires
-    returns
     add-i
     loop-less
     loop-again
-    returns-2)
+    returns)

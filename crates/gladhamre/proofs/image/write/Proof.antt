@@ -38,8 +38,7 @@ same-length c = search needs
 -- src/image.rt:203:1
 returns : tie.Need-returns
 returns c =
-    let start = c .before .before .before .before .before .before .before .before .before .before in
-    write-both (start .args .words .now) (start .args .disc) _ (c .before .before .write-list .last .0) (omega arith) (search array-length) (put-splice (start .args .words .now) 0 7 (c .before .before .before .before .before .before .before .write-head .ensures) refl) (c .before .before .write-list .ensures)
+    write-both (c .before .before .before .before .before .before .before .before .before .args .words .now) (c .before .before .before .before .before .before .before .before .before .args .disc) _ (c .before .before .write-list .last .0) (omega arith) (search array-length) (put-splice (c .before .before .before .before .before .before .before .before .before .args .words .now) 0 7 (c .before .before .before .before .before .before .write-head .ensures) refl) (c .before .before .write-list .ensures)
 
 pub write-spec : {M : Type 1} → statement M
 write-spec =

@@ -16,11 +16,11 @@ use Rattle.gladhamre.proofs.image.write_list.Lts as lts
 use Rattle.gladhamre.proofs.image.write_record.Reads as write-record-reads
 
 abbrev Inv-loop : tie.InvT-loop
-Inv-loop words₀ fragments i₀ words i =
-    (i ≤ 64) × (length fragments ≡ 64) × (length words ≡ 391) × (words ≡ splice words₀ 7 (listWords (take i fragments)))
+Inv-loop words₀ disc i₀ words i =
+    (i ≤ 64) × (length (disc .fragments) ≡ 64) × (length words ≡ 391) × (words ≡ splice words₀ 7 (listWords (take i (disc .fragments))))
 
 abbrev μ-loop : tie.MeasureT-loop
-μ-loop words₀ fragments i₀ words i = 64 - i
+μ-loop words₀ disc i₀ words i = 64 - i
 
 -- src/image.rt:194:5
 loop-holds : tie.Need-loop-holds Inv-loop μ-loop
@@ -39,35 +39,35 @@ add-from c = search needs
 add-to : tie.Need-add-to Inv-loop μ-loop
 add-to c = search needs
 
--- src/image.rt:197:22
+-- src/image.rt:197:17
+mul-f : tie.Need-mul-f Inv-loop μ-loop
+mul-f c = search needs
+
+-- src/image.rt:197:17
+element-copy-out-f : tie.Need-element-copy-out-f Inv-loop μ-loop
+element-copy-out-f c = search needs
+
+-- src/image.rt:198:22
 mul-write-record : tie.Need-mul-write-record Inv-loop μ-loop
 mul-write-record c = search needs
 
--- src/image.rt:197:22
+-- src/image.rt:198:22
 sub-write-record : tie.Need-sub-write-record Inv-loop μ-loop
 sub-write-record c = search needs
 
--- src/image.rt:197:22
+-- src/image.rt:198:22
 part-write-record-start : tie.Need-part-write-record-start Inv-loop μ-loop
 part-write-record-start c = search needs
 
--- src/image.rt:197:22
+-- src/image.rt:198:22
 part-write-record-end : tie.Need-part-write-record-end Inv-loop μ-loop
 part-write-record-end c = search needs
 
--- src/image.rt:197:44
-mul-write-record-2 : tie.Need-mul-write-record-2 Inv-loop μ-loop
-mul-write-record-2 c = search needs
-
--- src/image.rt:197:44
-array-copy-out-write-record : tie.Need-array-copy-out-write-record Inv-loop μ-loop
-array-copy-out-write-record c = search needs
-
--- src/image.rt:197:9
+-- src/image.rt:198:9
 write-record-requires : tie.Need-write-record-requires Inv-loop μ-loop
 write-record-requires c κs = search needs
 
--- src/image.rt:198:9
+-- src/image.rt:199:9
 add-i : tie.Need-add-i Inv-loop μ-loop
 add-i c = search needs
 
@@ -78,12 +78,12 @@ loop-less c = search needs
 -- src/image.rt:194:5
 loop-again : tie.Need-loop-again Inv-loop μ-loop
 loop-again c =
-    let start = c .before .before .before .before .before .before .before .before in (
+    let w = c .before .before .before .before .before .before .loop in (
       omega arith,
-      c .before .before .before .before .before .before .loop .inv .1,
+      w .inv .1,
       omega arith,
-      write-more (start .args .words .now) (c .before .before .before .before .before .before .loop .words) _ (start .args .t2) (c .before .before .before .before .before .before .loop .i) unusedRecord (omega arith) (omega (arith, c .before .before .before .before .before .before .loop .inv .1)) (c .before .before .before .before .before .before .loop .inv .3)
-          (put-splice (c .before .before .before .before .before .before .loop .words) (7 + 6 * c .before .before .before .before .before .before .loop .i) (7 + 6 * c .before .before .before .before .before .before .loop .i + 6) (c .before .before .write-record .ensures) refl),
+      write-more (c .before .before .before .before .before .before .before .before .args .words .now) (w .words) _ (c .before .before .before .before .before .before .before .before .args .t2 .fragments) (w .i) unusedRecord (omega arith) (omega (arith, w .inv .1)) (w .inv .3)
+          (put-splice (w .words) (7 + 6 * w .i) (7 + 6 * w .i + 6) (c .before .before .write-record .ensures) refl),
     )
 
 -- src/image.rt:189:1
@@ -93,8 +93,8 @@ same-length c = search needs
 -- src/image.rt:189:1
 returns : tie.Need-returns Inv-loop μ-loop
 returns c =
-    let start = c .before .before .before in
-    write-all (start .args .words .now) (c .before .loop .words) (start .args .t2) (c .before .loop .i) (c .before .loop .inv .1) (omega arith) (omega arith) (c .before .loop .inv .3)
+    let w = c .before .loop in
+    write-all (c .before .before .before .args .words .now) (w .words) (c .before .before .before .args .t2 .fragments) (w .i) (w .inv .1) (omega arith) (omega arith) (w .inv .3)
 
 pub write-list-spec : {M : Type 1} → statement M
 write-list-spec =
@@ -106,12 +106,12 @@ write-list-spec =
     mul-from
     add-from
     add-to
+    mul-f
+    element-copy-out-f
     mul-write-record
     sub-write-record
     part-write-record-start
     part-write-record-end
-    mul-write-record-2
-    array-copy-out-write-record
     write-record-requires
     add-i
     loop-less

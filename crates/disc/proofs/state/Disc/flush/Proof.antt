@@ -13,35 +13,25 @@ returns c = rw (eq-eqb _ _ (c .if1 .taken))
 cast-owner : tie.Need-cast-owner
 cast-owner c = search needs
 
-sub-f : tie.Need-sub-f
-sub-f c =
-    let d = c .before .args .t1 in
-    let o = owner d (c .before .pre) (c .if1 .left) in
-    omega (arith, o .number, o .slot)
-
-mul-f : tie.Need-mul-f
-mul-f c = search needs
-
-element-copy-out-f : tie.Need-element-copy-out-f
-element-copy-out-f c =
-    let d = c .before .args .t1 in
-    let o = owner d (c .before .pre) (c .if1 .left) in
-    omega (arith, o .number, o .slot)
+numbered-requires : tie.Need-numbered-requires
+numbered-requires c κs =
+    let o = owner (c .before .before .args .self) (c .before .before .pre) (c .before .if1 .left) in
+    (o .number, omega (arith, o .slot))
 
 flushed-requires : tie.Need-flushed-requires
 flushed-requires c κs =
-    let o = owner (c .before .before .args .t1) (c .before .before .pre) (c .before .if1 .left) in
-    (o .few, omega (arith, o .room, o .fits .ends), o .fits .zeroed)
+    let o = owner (c .before .before .before .args .self) (c .before .before .before .pre) (c .before .before .if1 .left) in
+    rw (c .numbered .ensures) (o .few, omega (arith, o .room, o .fits .ends), o .fits .zeroed)
 
 with-record-requires : tie.Need-with-record-requires
 with-record-requires c κs =
-    let d = c .before .before .before .args .t1 in
-    let o = owner d (c .before .before .before .pre) (c .before .before .if1 .left) in
+    let d = c .before .before .before .before .args .self in
+    let o = owner d (c .before .before .before .before .pre) (c .before .before .before .if1 .left) in
     (o .number, omega (arith, o .slot))
 
 returns-2 : tie.Need-returns-2
 unfolding flush
-returns-2 c = rw (c .with-record .ensures, c .before .flushed .ensures, ne-eqb _ _ (c .before .before .before .if1 .left))
+returns-2 c = rw (c .with-record .ensures, c .before .flushed .ensures, c .before .before .numbered .ensures, ne-eqb _ _ (c .before .before .before .before .if1 .left))
 
 pub flush-spec : {M : Type 1} → statement M
 flush-spec =
@@ -49,9 +39,7 @@ flush-spec =
     (tie.spec
     returns
     cast-owner
-    sub-f
-    mul-f
-    element-copy-out-f
+    numbered-requires
     flushed-requires
     with-record-requires
     returns-2)

@@ -13,30 +13,20 @@ returns c = rw (eq-eqb _ _ (c .if1 .taken))
 cast-owner : tie.Need-cast-owner
 cast-owner c = search needs
 
-sub-f : tie.Need-sub-f
-sub-f c =
-    let d = c .before .args .t1 in
-    let o = owner d (c .before .pre) (c .if1 .left) in
-    omega (arith, o .number, o .slot)
+numbered-requires : tie.Need-numbered-requires
+numbered-requires c κs =
+    let o = owner (c .before .before .args .self) (c .before .before .pre) (c .before .if1 .left) in
+    (o .number, omega (arith, o .slot))
 
-mul-f : tie.Need-mul-f
-mul-f c = search needs
-
-element-copy-out-f : tie.Need-element-copy-out-f
-element-copy-out-f c =
-    let d = c .before .args .t1 in
-    let o = owner d (c .before .pre) (c .if1 .left) in
-    omega (arith, o .number, o .slot)
-
-add-t13 : tie.Need-add-t13
-add-t13 c =
-    let o = owner (c .before .before .before .args .t1) (c .before .before .before .pre) (c .before .before .if1 .left) in
-    omega (arith, o .fits .ends, o .fits .recorded)
+add-t6 : tie.Need-add-t6
+add-t6 c =
+    let o = owner (c .before .before .before .before .args .self) (c .before .before .before .before .pre) (c .before .before .before .if1 .left) in
+    rw (c .before .numbered .ensures) (omega (arith, o .fits .ends, o .fits .recorded))
 
 returns-2 : tie.Need-returns-2
 unfolding flushPlan
-returns-2 c = rw (ne-eqb _ _ (c .before .before .if1 .left))
+returns-2 c = rw (c .before .numbered .ensures, ne-eqb _ _ (c .before .before .before .if1 .left))
 
 pub flush-plan-spec : {M : Type 1} → statement M
 flush-plan-spec =
-    tie.close (tie.spec returns cast-owner sub-f mul-f element-copy-out-f add-t13 returns-2)
+    tie.close (tie.spec returns cast-owner numbered-requires add-t6 returns-2)

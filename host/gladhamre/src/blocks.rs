@@ -1,6 +1,6 @@
 //! Command blocks from their fields, all other bytes 0, and the lengths that they ask for.
 
-use gladhamre::SECTOR_BYTES;
+use crate::SECTOR_BYTES;
 
 pub type Block = [u8; 12];
 
@@ -117,6 +117,9 @@ pub fn run(block: &Block) -> (u32, u16) {
     let address = u32::from_be_bytes([block[2], block[3], block[4], block[5]]);
     (address, u16::from_be_bytes([block[7], block[8]]))
 }
+
+/// The bytes of data that the longest WRITE takes.
+pub const LONGEST_DATA: usize = u16::MAX as usize * SECTOR_BYTES;
 
 /// How many bytes of data the block asks for.
 pub fn data_length(block: &Block) -> usize {

@@ -1,0 +1,144 @@
+//! What is timed: a command on a state, on a short list and on a full one.
+
+use compare::{Drive, Linked};
+use gladhamre::blocks::{self, Block};
+use gladhamre::{Lent, State, BLOCK_BYTES, RECORD_LIMIT, SECTOR_BYTES};
+
+const CAPACITY: u32 = 300;
+const BLOCK_SECTORS: u32 = 16;
+
+/// Sectors recorded in the tail, enough for the longest READ.
+const READABLE: u16 = 64;
+
+/// A command, and the state on which it is given again and again.
+pub struct Case {
+    pub name: String,
+    pub list: &'static str,
+    pub block: Block,
+    pub start: State,
+    /// The bytes that the command moves.
+    pub bytes: usize,
+}
+
+/// The buffers that both drives share.
+pub struct Buffers {
+    pub data: Vec<u8>,
+    pub medium: Vec<u8>,
+    pub pending: Vec<u8>,
+    pub reply: Vec<u8>,
+}
+
+impl Buffers {
+    pub fn new() -> Buffers {
+        Buffers {
+            data: vec![0x5A; CAPACITY as usize * BLOCK_BYTES],
+            medium: vec![0; CAPACITY as usize * BLOCK_BYTES],
+            pending: vec![0; BLOCK_BYTES],
+            reply: vec![0; 64 * SECTOR_BYTES],
+        }
+    }
+
+    /// What is lent for a command.
+    pub fn lend<'a>(&'a mut self, block: &'a Block) -> Lent<'a> {
+        Lent {
+            block,
+            data: &self.data[..blocks::data_length(block)],
+            medium: &mut self.medium,
+            pending: &mut self.pending,
+            reply: &mut self.reply,
+        }
+    }
+}
+
+/// A disc on its way to a state.
+struct Maker<'a> {
+    state: State,
+    buffers: &'a mut Buffers,
+}
+
+impl Maker<'_> {
+    /// A disc with a blank tail behind so many fragments of one recorded block.
+    fn with_fragments(count: usize, buffers: &mut Buffers) -> Maker<'_> {
+        let state = State::blank(CAPACITY).expect("a capacity");
+        let mut maker = Maker { state, buffers };
+        for number in 1..=count as u16 {
+            maker.write(BLOCK_SECTORS as u16);
+            maker.send(blocks::close(blocks::FRAGMENT, number));
+        }
+        maker
+    }
+
+    fn send(&mut self, block: Block) {
+        let answer = Linked.command(self.state.words_mut(), self.buffers.lend(&block));
+        assert_eq!(answer.number, 0, "{block:02X?} is accepted");
+    }
+
+    fn write(&mut self, sectors: u16) {
+        self.send(blocks::write(self.next(), sectors));
+    }
+
+    fn tail(&self) -> u16 {
+        self.state.records().count() as u16
+    }
+
+    fn tail_start(&self) -> u32 {
+        BLOCK_SECTORS * self.state.record(usize::from(self.tail()) - 1).start
+    }
+
+    /// The tail's next writable address.
+    fn next(&self) -> u32 {
+        let tail = self.state.record(usize::from(self.tail()) - 1);
+        BLOCK_SECTORS * (tail.start + tail.recorded) + self.state.pending_count()
+    }
+}
+
+/// Every case, in the order of the table.
+pub fn cases(buffers: &mut Buffers) -> Vec<Case> {
+    let mut cases = Vec::new();
+    for (list, before_tail) in [("1 record", 0), ("64 records", RECORD_LIMIT - 1)] {
+        let mut add = |name: String, block: Block, start: &State, bytes: usize| {
+            cases.push(Case { name, list, block, start: start.clone(), bytes });
+        };
+        let mut disc = Maker::with_fragments(before_tail, buffers);
+        disc.write(READABLE);
+        let start = disc.state.clone();
+        add("TEST UNIT READY".into(), blocks::opcode_only(blocks::TEST_UNIT_READY), &start, 0);
+        for sectors in [1, 16, 64] {
+            let bytes = usize::from(sectors) * SECTOR_BYTES;
+            add(format!("READ {sectors}"), blocks::read(disc.tail_start(), sectors), &start, bytes);
+        }
+        for sectors in [1, 16, 64] {
+            let bytes = usize::from(sectors) * SECTOR_BYTES;
+            add(format!("WRITE {sectors}"), blocks::write(disc.next(), sectors), &start, bytes);
+        }
+        add("51h".into(), blocks::read_disc_information(34), &start, 0);
+        let by_address = blocks::read_fragment_information(0, disc.tail_start(), 36);
+        add("52h by address".into(), by_address, &start, 0);
+        let by_number = blocks::read_fragment_information(1, disc.tail().into(), 36);
+        add("52h by number".into(), by_number, &start, 0);
+        add("CLOSE 001".into(), blocks::close(blocks::FRAGMENT, disc.tail()), &start, 0);
+        disc.write(4);
+        let bytes = 64 * SECTOR_BYTES;
+        add("WRITE 64, 4 pending".into(), blocks::write(disc.next(), 64), &disc.state, bytes);
+    }
+    cases.extend(list_changes(buffers));
+    cases
+}
+
+/// RESERVE needs a blank tail, and with 63 records makes the 64th; so does CLOSE 010 with 64 of
+/// which the blank tail is dropped.
+fn list_changes(buffers: &mut Buffers) -> Vec<Case> {
+    let mut cases = Vec::new();
+    let close = blocks::close(blocks::SESSION, 0);
+    let reserve = blocks::reserve(BLOCK_SECTORS);
+    for (name, list, block, before_tail) in [
+        ("RESERVE", "1 record", reserve, 0),
+        ("RESERVE", "63 records", reserve, RECORD_LIMIT - 2),
+        ("CLOSE 010", "2 records", close, 1),
+        ("CLOSE 010", "64 records", close, RECORD_LIMIT - 1),
+    ] {
+        let start = Maker::with_fragments(before_tail, buffers).state;
+        cases.push(Case { name: name.into(), list, block, start, bytes: 0 });
+    }
+    cases
+}

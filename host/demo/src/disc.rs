@@ -1,0 +1,95 @@
+//! A disc in memory, with the linked drive over it.
+
+use gladhamre::blocks::{self, Block};
+use gladhamre::{Accepted, Lent, Record, Refusal, State, BLOCK_BYTES};
+
+/// Sectors of a block.
+pub const BLOCK_SECTORS: u32 = 16;
+
+/// What the buffers hold before anything is written.
+const STALE: u8 = 0xA5;
+
+/// A disc: the state image and the two buffers that belong to it.
+pub struct Disc {
+    pub state: State,
+    medium: Vec<u8>,
+    pending: Vec<u8>,
+    /// For each sector whether the drive filled it with zeros by itself.
+    zero_filled: Vec<bool>,
+}
+
+/// A command's answer and reply.
+pub struct Outcome {
+    pub answer: Result<Accepted, Refusal>,
+    pub reply: Vec<u8>,
+}
+
+impl Disc {
+    /// A blank disc over stale bytes.
+    pub fn blank(capacity: u32) -> Result<Disc, Refusal> {
+        let state = State::blank(capacity)?;
+        Ok(Disc {
+            state,
+            medium: vec![STALE; capacity as usize * BLOCK_BYTES],
+            pending: vec![STALE; BLOCK_BYTES],
+            zero_filled: vec![false; (capacity * BLOCK_SECTORS) as usize],
+        })
+    }
+
+    /// Sends a command with a reply buffer of the length that it asks for.
+    pub fn send(&mut self, block: &Block, data: &[u8]) -> Outcome {
+        let before: Vec<Record> = self.state.records().collect();
+        let mut reply = vec![0; blocks::reply_room(block)];
+        let answer = self.state.command(Lent {
+            block,
+            data,
+            medium: &mut self.medium,
+            pending: &mut self.pending,
+            reply: &mut reply,
+        });
+        reply.truncate(answer.map_or(0, |accepted| accepted.reply_count as usize));
+        self.note_zero_filled(&before);
+        Outcome { answer, reply }
+    }
+
+    /// The zeros that a command adds to a fragment are the last of its recorded sectors: behind the
+    /// pending ones of a flushed block, or to the end of a reserved fragment that is closed.
+    fn note_zero_filled(&mut self, before: &[Record]) {
+        for (old, new) in before.iter().zip(self.state.records()) {
+            let added = new.zero_filled.saturating_sub(old.zero_filled);
+            let end = BLOCK_SECTORS * (new.start + new.recorded);
+            self.zero_filled[(end - added) as usize..end as usize].fill(true);
+        }
+    }
+
+    pub fn is_zero_filled(&self, sector: u32) -> bool {
+        self.zero_filled[sector as usize]
+    }
+
+    /// How many sectors are pending in the fragment with an index from 0.
+    pub fn pending_in(&self, index: usize) -> u32 {
+        if self.state.pending_fragment() as usize == index + 1 {
+            self.state.pending_count()
+        } else {
+            0
+        }
+    }
+
+    /// The next writable address of a fragment, if it is incomplete.
+    pub fn next_writable(&self, index: usize) -> Option<u32> {
+        let record = self.state.record(index);
+        let next = BLOCK_SECTORS * (record.start + record.recorded) + self.pending_in(index);
+        (record.recorded < record.length).then_some(next)
+    }
+
+    /// The next writable address of the tail, if there is one.
+    pub fn tail_next(&self) -> Option<u32> {
+        let last = self.state.records().count().checked_sub(1)?;
+        is_tail(&self.state.record(last)).then(|| self.next_writable(last))?
+    }
+}
+
+/// An incomplete appended fragment.
+pub fn is_tail(record: &Record) -> bool {
+    record.kind == 1 && record.recorded < record.length
+}

@@ -1,0 +1,130 @@
+//! Runs of commands, with or without documented answers, played on a disc and shown as a table.
+
+use crate::disc::{Disc, Outcome};
+use crate::{table, words};
+use gladhamre::blocks::{self, Block};
+use gladhamre::{Record, Refusal, SECTOR_BYTES};
+use std::io::{self, Write};
+
+/// Commands from a blank disc on.
+pub struct Run {
+    pub title: String,
+    pub capacity: u32,
+    pub lines: Vec<Line>,
+    /// Whether a map of the disc is wanted.
+    pub mapped: bool,
+}
+
+/// One command.
+pub struct Line {
+    pub block: Block,
+    pub data: Data,
+    pub expected: Option<Expected>,
+}
+
+/// The data that goes with a command.
+#[derive(Clone, Debug, PartialEq, Eq)]
+pub enum Data {
+    /// As much as the command asks for; every sector tells its address.
+    Stamp,
+    /// As much as the command asks for, of one byte.
+    Fill(u8),
+    /// These bytes, whatever the command asks for.
+    Bytes(Vec<u8>),
+}
+
+impl Data {
+    pub fn bytes(&self, block: &Block) -> Vec<u8> {
+        let length = blocks::data_length(block);
+        match self {
+            Data::Stamp => stamped(blocks::run(block).0, length / SECTOR_BYTES),
+            Data::Fill(byte) => vec![*byte; length],
+            Data::Bytes(bytes) => bytes.clone(),
+        }
+    }
+}
+
+/// Sectors that say their addresses over and over.
+pub fn stamped(address: u32, sectors: usize) -> Vec<u8> {
+    (address..)
+        .take(sectors)
+        .flat_map(|at| format!("sector {at:>8}\n").repeat(128).into_bytes())
+        .collect()
+}
+
+/// What document 01 says of a command.
+#[derive(Clone, Debug)]
+pub struct Expected {
+    /// 0 if accepted, else the refusal's number.
+    pub number: u32,
+    /// Blocks recorded.
+    pub recorded: u64,
+    pub reply: Vec<u8>,
+    /// The tail's next writable address.
+    pub next: Option<u32>,
+    /// Pending sectors.
+    pub pending: u32,
+    pub list: Vec<Record>,
+}
+
+impl Expected {
+    /// Everything that is not as documented, in words.
+    pub fn differences(&self, outcome: &Outcome, disc: &Disc) -> Vec<String> {
+        let mut found = Vec::new();
+        let mut compare = |what: &str, is: String, should: String| {
+            if is != should {
+                found.push(format!("{what} {is}, documented {should}"));
+            }
+        };
+        let number = outcome.answer.map_or_else(number_of, |_| 0);
+        compare("answer", format!("{number:06X}"), format!("{:06X}", self.number));
+        let recorded = outcome.answer.map_or(0, |accepted| accepted.recorded);
+        compare("blocks recorded", recorded.to_string(), self.recorded.to_string());
+        let sense = [self.number >> 16, self.number >> 8 & 0xFF, self.number & 0xFF];
+        compare("sense", words::sense(disc.state.sense()), words::sense(sense));
+        compare("next", words::next(disc.tail_next()), words::next(self.next));
+        compare("pending", disc.state.pending_count().to_string(), self.pending.to_string());
+        let list: Vec<Record> = disc.state.records().collect();
+        compare("list", words::list(&list), words::list(&self.list));
+        if outcome.reply != self.reply {
+            found.push(format!(
+                "reply of {} bytes, documented {} bytes{}",
+                outcome.reply.len(),
+                self.reply.len(),
+                first_difference(&outcome.reply, &self.reply)
+            ));
+        }
+        found
+    }
+}
+
+fn number_of(refusal: Refusal) -> u32 {
+    match refusal {
+        Refusal::Link(number) => number.into(),
+        Refusal::Drive { key, code, qualifier } => u32::from_be_bytes([0, key, code, qualifier]),
+    }
+}
+
+fn first_difference(is: &[u8], should: &[u8]) -> String {
+    match is.iter().zip(should).position(|(is, should)| is != should) {
+        Some(at) => format!(", the first other byte at {at}"),
+        None => String::new(),
+    }
+}
+
+/// Plays a run on a blank disc and prints its table. Gives the disc, and how many answers are not as
+/// documented.
+pub fn play(run: &Run, out: &mut impl Write) -> io::Result<(Disc, usize)> {
+    let mut disc = Disc::blank(run.capacity)
+        .map_err(|_| io::Error::other(format!("no disc has {} blocks", run.capacity)))?;
+    let mut wrong = 0;
+    writeln!(out, "\n{}\n", run.title)?;
+    table::heading(out)?;
+    for (index, line) in run.lines.iter().enumerate() {
+        let outcome = disc.send(&line.block, &line.data.bytes(&line.block));
+        let differences = line.expected.as_ref().map(|e| e.differences(&outcome, &disc));
+        wrong += usize::from(differences.as_ref().is_some_and(|found| !found.is_empty()));
+        table::row(out, index + 1, &line.block, &outcome, &disc, differences.as_deref())?;
+    }
+    Ok((disc, wrong))
+}

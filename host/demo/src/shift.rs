@@ -1,0 +1,154 @@
+//! Document 01's "A shift on a 300-block disc", with the answers that it documents: answer and
+//! sense, blocks recorded, reply, next writable address, pending sectors and the list.
+
+use crate::play::stamped;
+use crate::{Data, Expected, Line, Run};
+use gladhamre::blocks::{self, Block};
+use gladhamre::{Record, SECTOR_BYTES};
+
+const CAPACITY: u32 = 300;
+
+const INVALID_ADDRESS_FOR_WRITE: u32 = 0x052102;
+const BLANK_CHECK: u32 = 0x080000;
+const ADDRESS_OUT_OF_RANGE: u32 = 0x052100;
+const INCOMPLETE_TRACK_IN_SESSION: u32 = 0x057203;
+const END_OF_USER_AREA: u32 = 0x056300;
+
+/// The whole shift: the run of all lines but the last, then those of the last line, each a run of
+/// its own.
+pub fn runs() -> Vec<Run> {
+    let mut runs = vec![Run {
+        title: "Document 01's shift on a 300-block disc".into(),
+        capacity: CAPACITY,
+        lines: first_run(),
+        mapped: true,
+    }];
+    let last_line = [
+        ("Another blank disc: CLOSE SESSION with e = 171", session_after(171)),
+        ("Another blank disc: CLOSE SESSION with e = 172", session_after(172)),
+        ("Another blank disc: RESERVE TRACK of 4,768", reserve(4_768)),
+        ("Another blank disc: RESERVE TRACK of 4,769", reserve(4_769)),
+    ];
+    for (title, lines) in last_line {
+        runs.push(Run { title: title.into(), capacity: CAPACITY, lines, mapped: false });
+    }
+    runs
+}
+
+fn appended(session: u32, start: u32, length: u32, recorded: u32, zero_filled: u32) -> Record {
+    Record { session, start, length, recorded, zero_filled, kind: 1 }
+}
+
+fn reserved(start: u32, length: u32, recorded: u32) -> Record {
+    Record { session: 1, start, length, recorded, zero_filled: 0, kind: 0 }
+}
+
+/// A command that is accepted, records nothing and replies nothing.
+fn accepted(block: Block, next: u32, list: &[Record]) -> Line {
+    let expected = Expected {
+        number: 0,
+        recorded: 0,
+        reply: Vec::new(),
+        next: Some(next),
+        pending: 0,
+        list: list.to_vec(),
+    };
+    Line { block, data: Data::Stamp, expected: Some(expected) }
+}
+
+impl Line {
+    fn refused(self, number: u32) -> Line {
+        self.with(|expected| expected.number = number)
+    }
+
+    fn recording(self, blocks: u64) -> Line {
+        self.with(|expected| expected.recorded = blocks)
+    }
+
+    fn pending(self, sectors: u32) -> Line {
+        self.with(|expected| expected.pending = sectors)
+    }
+
+    fn replying(self, reply: Vec<u8>) -> Line {
+        self.with(|expected| expected.reply = reply)
+    }
+
+    fn with(mut self, change: impl FnOnce(&mut Expected)) -> Line {
+        self.expected.as_mut().map(change);
+        self
+    }
+}
+
+fn first_run() -> Vec<Line> {
+    let blank = [appended(1, 0, 300, 0, 0)];
+    let written = [appended(1, 0, 300, 1, 0)];
+    let flushed = [appended(1, 0, 300, 2, 12)];
+    let closed = [appended(1, 0, 2, 2, 12), appended(1, 3, 297, 0, 0)];
+    let tail = appended(1, 7, 293, 0, 0);
+    let open = [closed[0], reserved(3, 3, 0), tail];
+    let complete = [closed[0], reserved(3, 3, 3), tail];
+    let second = [closed[0], reserved(3, 3, 3), appended(2, 134, 166, 0, 0)];
+    let close_session = blocks::close(blocks::SESSION, 0);
+    vec![
+        accepted(blocks::read_disc_information(34), 0, &blank).replying(blank_disc_information()),
+        accepted(blocks::read_fragment_information(1, 1, 36), 0, &blank)
+            .replying(blank_track_information()),
+        accepted(blocks::write(0, 20), 20, &written).recording(1).pending(4),
+        accepted(blocks::write(16, 1), 20, &written).pending(4).refused(INVALID_ADDRESS_FOR_WRITE),
+        accepted(blocks::opcode_only(blocks::SYNCHRONIZE_CACHE), 32, &flushed).recording(1),
+        accepted(blocks::read(16, 16), 32, &flushed).replying(flushed_block()),
+        accepted(blocks::read(32, 1), 32, &flushed).refused(BLANK_CHECK),
+        accepted(blocks::read(4_800, 1), 32, &flushed).refused(ADDRESS_OUT_OF_RANGE),
+        accepted(blocks::read(4_800, 0), 32, &flushed),
+        accepted(blocks::close(blocks::FRAGMENT, 1), 48, &closed),
+        accepted(blocks::reserve(33), 112, &open),
+        accepted(close_session, 112, &open).refused(INCOMPLETE_TRACK_IN_SESSION),
+        accepted(blocks::write(48, 49), 112, &open).refused(END_OF_USER_AREA),
+        accepted(blocks::write(48, 48), 112, &complete).recording(3),
+        accepted(close_session, 2_144, &second),
+    ]
+}
+
+/// 00 20 00 01 01 01 01 and 27 zeros.
+fn blank_disc_information() -> Vec<u8> {
+    let mut reply = vec![0x00, 0x20, 0x00, 0x01, 0x01, 0x01, 0x01];
+    reply.resize(34, 0);
+    reply
+}
+
+/// Fragment 1 of session 1: blank, incomplete, free and length 4,800.
+fn blank_track_information() -> Vec<u8> {
+    let mut reply = vec![0; 36];
+    reply[..8].copy_from_slice(&[0x00, 0x22, 1, 1, 0, 0x04, 0x41, 0x01]);
+    reply[16..20].copy_from_slice(&4_800_u32.to_be_bytes());
+    reply[20..24].copy_from_slice(&16_u32.to_be_bytes());
+    reply[24..28].copy_from_slice(&4_800_u32.to_be_bytes());
+    reply
+}
+
+/// Sectors 16 to 19 as written, 20 to 31 zero.
+fn flushed_block() -> Vec<u8> {
+    let mut reply = stamped(16, 4);
+    reply.resize(16 * SECTOR_BYTES, 0);
+    reply
+}
+
+/// A tail with so many blocks recorded, then 010.
+fn session_after(end: u32) -> Vec<Line> {
+    let written = [appended(1, 0, 300, end, 0)];
+    let write = accepted(blocks::write(0, 16 * end as u16), 16 * end, &written);
+    let close = blocks::close(blocks::SESSION, 0);
+    let closed = match end {
+        171 => accepted(close, 4_784, &[appended(1, 0, 171, 171, 0), appended(2, 299, 1, 0, 0)]),
+        _ => accepted(close, 16 * end, &written).refused(END_OF_USER_AREA),
+    };
+    vec![write.recording(end.into()), closed]
+}
+
+fn reserve(sectors: u32) -> Vec<Line> {
+    let block = blocks::reserve(sectors);
+    vec![match sectors {
+        4_768 => accepted(block, 4_784, &[reserved(0, 298, 0), appended(1, 299, 1, 0, 0)]),
+        _ => accepted(block, 0, &[appended(1, 0, 300, 0, 0)]).refused(END_OF_USER_AREA),
+    }]
+}

@@ -1,0 +1,201 @@
+//! Commands, answers, senses, replies and fragments in words.
+
+use crate::disc::is_tail;
+use gladhamre::blocks::{self, Block};
+use gladhamre::{Record, Refusal};
+
+/// A command block in words.
+pub fn command(block: &Block) -> String {
+    let (value, length) = blocks::run(block);
+    match block[0] {
+        blocks::TEST_UNIT_READY => "TEST UNIT READY".into(),
+        blocks::REQUEST_SENSE => "REQUEST SENSE".into(),
+        blocks::READ_CAPACITY => "READ CAPACITY".into(),
+        blocks::READ => format!("READ {} at {value}", sectors(length.into())),
+        blocks::WRITE => format!("WRITE {} at {value}", sectors(length.into())),
+        blocks::SYNCHRONIZE_CACHE => "SYNCHRONIZE CACHE".into(),
+        blocks::READ_DISC_INFORMATION => "READ DISC INFORMATION".into(),
+        blocks::READ_FRAGMENT_INFORMATION => track_information(block[1] & 0b11, value),
+        blocks::RESERVE => format!("RESERVE TRACK of {}", sectors(number_at(block, 5))),
+        blocks::CLOSE => close(block[2] & 0b111, u16::from_be_bytes([block[4], block[5]])),
+        opcode => format!("opcode {opcode:02X}h, not listed"),
+    }
+}
+
+fn track_information(by: u8, value: u32) -> String {
+    let which = match (by, value) {
+        (0, address) => format!("address {address}"),
+        (1, 0xFF) => "tail".into(),
+        (1, number) => format!("number {number}"),
+        _ => format!("type {by}"),
+    };
+    format!("READ TRACK INFORMATION, {which}")
+}
+
+fn close(function: u8, number: u16) -> String {
+    match function {
+        blocks::FRAGMENT => format!("CLOSE TRACK {number}"),
+        blocks::SESSION => "CLOSE SESSION".into(),
+        blocks::FINALIZE => "CLOSE and finalize".into(),
+        other => format!("CLOSE, function {other:03b}"),
+    }
+}
+
+fn sectors(count: u32) -> String {
+    if count == 1 {
+        "1 sector".into()
+    } else {
+        format!("{count} sectors")
+    }
+}
+
+/// Bytes in hexadecimal.
+pub fn hex(bytes: &[u8]) -> String {
+    bytes.iter().map(|byte| format!("{byte:02X}")).collect::<Vec<_>>().join(" ")
+}
+
+/// An answer in a word.
+pub fn answer<T>(answer: &Result<T, Refusal>) -> String {
+    match answer {
+        Ok(_) => "accepted".into(),
+        Err(Refusal::Link(number)) => format!("L{number}"),
+        Err(Refusal::Drive { .. }) => "refused".into(),
+    }
+}
+
+/// A sense by number and name.
+pub fn sense([key, code, qualifier]: [u32; 3]) -> String {
+    let name = match (key, code, qualifier) {
+        (0x0, 0x00, 0x00) => "no sense",
+        (0x5, 0x20, 0x00) => "invalid operation code",
+        (0x7, 0x27, 0x00) => "write protected",
+        (0x5, 0x24, 0x00) => "invalid field in command",
+        (0x5, 0x21, 0x00) => "address out of range",
+        (0x8, 0x00, 0x00) => "blank check",
+        (0x5, 0x21, 0x02) => "invalid address for write",
+        (0x5, 0x72, 0x03) => "incomplete track in session",
+        (0x5, 0x72, 0x04) => "empty track",
+        (0x5, 0x72, 0x05) => "no more reservations",
+        (0x5, 0x63, 0x00) => "end of user area",
+        _ => "not of this drive",
+    };
+    format!("{key:X}/{code:02X}/{qualifier:02X} {name}")
+}
+
+/// What is wrong on the link.
+pub fn link_refusal(number: u8) -> &'static str {
+    match number {
+        1 => "the command block is not 12 bytes",
+        2 => "medium or pending buffer does not fit",
+        3 => "the state is not sound",
+        _ => "data or reply buffer does not fit",
+    }
+}
+
+/// A fragment's record; its next writable address if it is incomplete.
+pub fn fragment(number: usize, record: &Record, pending: u32, next: Option<u32>) -> String {
+    let kind = match record.kind {
+        0 => "reserved",
+        _ if is_tail(record) => "tail",
+        _ => "appended",
+    };
+    let Record { session, start, length, recorded, zero_filled, .. } = *record;
+    let blocks = match length {
+        1 => format!("block {start}"),
+        _ => format!("blocks {start}-{}", start + length - 1),
+    };
+    let mut text =
+        format!("{number} {kind}, session {session}, {blocks}, {recorded} of {length} recorded");
+    if zero_filled > 0 {
+        text += &format!(", {zero_filled} zero-filled");
+    }
+    if pending > 0 {
+        text += &format!(", {pending} pending");
+    }
+    if let Some(next) = next.filter(|_| record.kind == 0) {
+        text += &format!(", next {next}");
+    }
+    text
+}
+
+/// Fragments in a row.
+pub fn list(records: &[Record]) -> String {
+    let each = records.iter().enumerate();
+    let texts: Vec<String> = each.map(|(at, record)| fragment(at + 1, record, 0, None)).collect();
+    format!("[{}]", texts.join("; "))
+}
+
+/// The tail's next writable address.
+pub fn next(address: Option<u32>) -> String {
+    address.map_or("-".into(), |address| address.to_string())
+}
+
+/// What a reply says; nothing for commands without one.
+pub fn reply(block: &Block, reply: &[u8]) -> Option<String> {
+    let four = |at: usize| number_at(reply, at);
+    let sent = format!("{} bytes", reply.len());
+    let text = match (block[0], reply.len()) {
+        (_, 0) => return None,
+        (blocks::REQUEST_SENSE, 14..) => {
+            sense([reply[2].into(), reply[12].into(), reply[13].into()])
+        }
+        (blocks::READ_CAPACITY, 8) => {
+            format!("last readable address {}, sectors of {} bytes", four(0), four(4))
+        }
+        (blocks::READ_DISC_INFORMATION, 34) => disc_information(reply),
+        (blocks::READ_FRAGMENT_INFORMATION, 36) => format!(
+            "fragment {}, session {}, {}first sector {}, next {}, free {}, length {}",
+            u16::from_be_bytes([reply[32], reply[2]]),
+            u16::from_be_bytes([reply[33], reply[3]]),
+            if reply[6] & 0x40 != 0 { "blank, " } else { "" },
+            four(8),
+            four(12),
+            four(16),
+            four(24)
+        ),
+        (blocks::READ, _) => sector_contents(reply),
+        _ => hex(reply),
+    };
+    Some(format!("{sent}: {text}"))
+}
+
+fn disc_information(reply: &[u8]) -> String {
+    let status = ["blank", "appendable", "finalized", "other"][usize::from(reply[2] & 0b11)];
+    let session = ["empty", "incomplete", "other", "complete"][usize::from(reply[2] >> 2 & 0b11)];
+    let two = |low: usize, high: usize| u16::from_be_bytes([reply[high], reply[low]]);
+    format!(
+        "disc {status}, last session {session}, sessions {}, its fragments {} to {}",
+        two(4, 9),
+        two(5, 10),
+        two(6, 11)
+    )
+}
+
+/// How many sectors are all zero, and how the first one begins.
+fn sector_contents(reply: &[u8]) -> String {
+    let zero = reply
+        .chunks(gladhamre::SECTOR_BYTES)
+        .filter(|sector| sector.iter().all(|&byte| byte == 0))
+        .count() as u32;
+    let first = &reply[..16];
+    let begins = match std::str::from_utf8(first) {
+        Ok(text) if !text.contains(|letter: char| letter.is_control() && letter != '\n') => {
+            format!("{text:?}")
+        }
+        _ => hex(&first[..8]),
+    };
+    format!("begins {begins}, {} all zero", sectors(zero))
+}
+
+/// A reply's bytes, the zeros at its end by their number.
+pub fn reply_bytes(reply: &[u8]) -> String {
+    let used = reply.iter().rposition(|&byte| byte != 0).map_or(0, |last| last + 1);
+    match reply.len() - used {
+        0..=3 => hex(reply),
+        zeros => format!("{} and {zeros} zeros", hex(&reply[..used])),
+    }
+}
+
+fn number_at(bytes: &[u8], at: usize) -> u32 {
+    u32::from_be_bytes([bytes[at], bytes[at + 1], bytes[at + 2], bytes[at + 3]])
+}

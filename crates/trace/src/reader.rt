@@ -1,0 +1,1 @@
+// The record reader: a struct that holds the trace and a position in it.

@@ -1,0 +1,4 @@
+-- What replaying a trace prints. A reader starts at Text.
+pub mod Types
+pub mod Text
+pub mod Line

@@ -1,0 +1,5 @@
+// What replaying a trace prints: a line for each record, and the disc that the records lead to.
+// No sector is kept and no data is needed: the disc decides by lengths alone.
+mod line;
+
+pub use line::Line;

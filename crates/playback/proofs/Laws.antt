@@ -1,3 +1,4 @@
 -- One file a topic, named as in specs/.
 pub mod Texts
 pub mod Lines
+pub mod Replays

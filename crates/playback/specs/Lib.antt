@@ -2,3 +2,4 @@
 pub mod Types
 pub mod Text
 pub mod Line
+pub mod Replay

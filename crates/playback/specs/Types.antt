@@ -4,3 +4,8 @@ pub use Rattle.disc.specs.declared.answer.Sense.{Sense}
 pub use Rattle.disc.specs.declared.state.TailNext.{TailNext}
 pub use Rattle.disc.specs.declared.state.TailNext.the-variants.{Address, NoTail}
 pub use Rattle.playback.specs.declared.line.Line.{Line}
+pub use Rattle.disc.specs.declared.state.Disc.{Disc}
+pub use Rattle.trace.specs.declared.record.Reading.{Reading}
+pub use Rattle.trace.specs.declared.record.Reading.the-variants.{Record, BadMark, CutShort, End}
+pub use Rattle.playback.specs.declared.replay.Replay.{Replay}
+pub use Rattle.playback.specs.declared.replay.Played.{Played}

@@ -1,5 +1,8 @@
 // What replaying a trace prints: a line for each record, and the disc that the records lead to.
 // No sector is kept and no data is needed: the disc decides by lengths alone.
 mod line;
+mod replay;
 
 pub use line::Line;
+pub use replay::Played;
+pub use replay::Replay;

@@ -29,7 +29,7 @@ impl Line {
     pub const LIMIT: usize = 80;
 
     // An empty line.
-    fn new() -> Line
+    pub(crate) fn new() -> Line
         ensures { λ r. ⌜ r ≡ lineOf [] ⌝ }
     {
         let bytes = [0u8; Line::LIMIT];

@@ -1,4 +1,4 @@
 -- One file a topic, named as in specs/.
 pub mod Record
 pub mod Whole
-pub mod Early
+pub mod Parts

@@ -24,12 +24,19 @@ unfoldable pub behind : ℕ → List ℕ → ℕ → ℕ
 behind zero trace at = at
 behind (suc n) trace at = cond (isRecord (stepAt trace at .reading)) (behind n trace (stepAt trace at .next)) at
 
--- every record up to the stop, and where that is; there are no more records than bytes
+-- every record from a position on up to the stop, and where that is; there are no more records than bytes
+abbrev pub allFrom : List ℕ → ℕ → List (List ℕ)
+allFrom trace at = blocks (length trace) trace at
+
+abbrev pub endFrom : List ℕ → ℕ → ℕ
+endFrom trace at = behind (length trace) trace at
+
+-- those of a whole trace
 abbrev pub wholeBlocks : List ℕ → List (List ℕ)
-wholeBlocks trace = blocks (length trace) trace 0
+wholeBlocks trace = allFrom trace 0
 
 abbrev pub wholeEnd : List ℕ → ℕ
-wholeEnd trace = behind (length trace) trace 0
+wholeEnd trace = endFrom trace 0
 
 -- a trace made of blocks, each behind the mark
 unfoldable pub traceOf : List (List ℕ) → List ℕ

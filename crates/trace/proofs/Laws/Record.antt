@@ -3,7 +3,7 @@ use mathlib.Core.Path.{_≡_, refl, sym, ap, _∙_}
 use mathlib.Core.Bool.{Bool, true, false, cond, not, _&&_, _||_, false≢true}
 use Prim.Native.Nat.{ℕ, _+_, _-_, _≤_, _<_}
 use native.Mathlib.Omega.{arith}
-use borrow.Author.Tests.{lt-ltb, le-ltb, eq-eqb, ne-eqb, ltb-false, eqb-true}
+use borrow.Author.Tests.{lt-ltb, le-ltb, eq-eqb, ne-eqb, ltb-true, ltb-false, eqb-true}
 use types.Run.{OneOf, miss}
 use denote.Enum.Declared.{tagOf}
 use mathlib.Core.List.{List, [], _∷_, _++_}
@@ -88,3 +88,17 @@ marked-record left m =
       lt-ltb 0 n (omega (arith, m .long)),
       lt-ltb 1 n (omega (arith, m .long)),
     )
+
+-- neither a record nor a bad mark: fewer than fourteen bytes are left
+short : (e m s : Bool) (n : ℕ) → (e ≡ true → n < 14) → (s ≡ true → n < 14) → (r : Reading)
+    → cond e End (cond m BadMark (cond s CutShort Record)) ≡ r → (r ≡ Record → ⊥) → (r ≡ BadMark → ⊥) → n < 14
+short true m s n f g r h p q = f refl
+short false true s n f g r h p q = absurd (q (sym h))
+short false false true n f g r h p q = g refl
+short false false false n f g r h p q = absurd (p (sym h))
+
+pub few-left : (left : List ℕ) → (readingOf left ≡ Record → ⊥) → (readingOf left ≡ BadMark → ⊥) → length left < 14
+unfolding readingOf
+few-left left p q =
+    let n = length left in
+    short (eqb n 0) (badMark left) (ltb n 14) n (λ e. omega (arith, eqb-true n 0 e)) (λ e. ltb-true n 14 e) (readingOf left) refl p q

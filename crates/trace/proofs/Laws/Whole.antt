@@ -11,7 +11,7 @@ use lib.ListN.{length, getD, take, drop, length-append, length-take, length-drop
 use lib.Seq.{take-at, drop-at, drop-cons, drop-drop}
 use Rattle.trace.specs.Types.{Reading, Record, BadMark, CutShort, End, Step}
 use Rattle.trace.specs.Record.{readingOf, stepOf, stopped, stepAt}
-use Rattle.trace.specs.Whole.{isRecord, blocks, behind, traceOf, allTwelve, wholeBlocks, wholeEnd}
+use Rattle.trace.specs.Whole.{isRecord, blocks, behind, traceOf, allTwelve, allFrom, endFrom, wholeBlocks, wholeEnd}
 use Rattle.trace.proofs.Laws.Record.{Marked, record-marked, marked-record, step-none, step-end}
 
 pub by-cases {ℓ} : {P : Type ℓ} (b : Bool) → (b ≡ true → P) → (b ≡ false → P) → P
@@ -25,12 +25,20 @@ is-record BadMark h = absurd (false≢true h)
 is-record CutShort h = absurd (false≢true h)
 is-record End h = absurd (false≢true h)
 
-reading-step : (r : Reading) (left : List ℕ) (at : ℕ) → stepOf r left at .reading ≡ r
+pub reading-step : (r : Reading) (left : List ℕ) (at : ℕ) → stepOf r left at .reading ≡ r
 unfolding stepOf
 reading-step Record left at = refl
 reading-step BadMark left at = refl
 reading-step CutShort left at = refl
 reading-step End left at = refl
+
+-- the block does not depend on the position that the bytes are said to stand at
+pub block-step : (r : Reading) (left : List ℕ) (at bt : ℕ) → stepOf r left at .block ≡ stepOf r left bt .block
+unfolding stepOf
+block-step Record left at bt = refl
+block-step BadMark left at bt = refl
+block-step CutShort left at bt = refl
+block-step End left at bt = refl
 
 pub record Found (t : List ℕ) (at : ℕ) : Type 0 where
   pub marked : Marked (drop at t)
@@ -147,3 +155,45 @@ read-back bs a = read-from bs (length (traceOf bs)) (traceOf bs) 0 a refl (fewer
 
 pub read-back-end : (bs : List (List ℕ)) → allTwelve bs ≡ true → wholeEnd (traceOf bs) ≡ length (traceOf bs)
 read-back-end bs a = read-from bs (length (traceOf bs)) (traceOf bs) 0 a refl (fewer bs) .1 ∙ omega arith
+
+-- room for one record more changes nothing where there are no more bytes than records to come
+enough :
+    (n : ℕ) (t : List ℕ) (at : ℕ) → length t ≤ at + n → (blocks (suc n) t at ≡ blocks n t at) × (behind (suc n) t at ≡ behind n t at)
+unfolding blocks behind
+enough zero t at h = (rw (step-end t at (omega arith)), rw (step-end t at (omega arith)))
+enough (suc n) t at h =
+    by-cases (isRecord (stepAt t at .reading))
+    (λ r.
+    let f = record-found t at r in
+    let i = enough n t (at + 14) (omega arith) in (
+      rw (r, f .next) (ap (λ (x : List (List ℕ)). stepAt t at .block ∷ x) (i .0)),
+      rw (r, f .next) (i .1),
+    ))
+    (λ r. (rw r, rw r))
+
+-- one record more: the first of those from its position on, and then those behind it
+pub record Next (t : List ℕ) (at : ℕ) : Type 0 where
+  pub more : allFrom t at ≡ stepAt t at .block ∷ allFrom t (stepAt t at .next)
+  pub onward : endFrom t at ≡ endFrom t (stepAt t at .next)
+
+next-of : (t : List ℕ) (at m : ℕ) → isRecord (stepAt t at .reading) ≡ true → length t ≡ suc m → Next t at
+unfolding blocks behind
+next-of t at m h q =
+    let i = enough m t (stepAt t at .next) (omega (arith, record-found t at h .next)) in
+    record {
+      more = rw (q, h) (ap (λ (x : List (List ℕ)). stepAt t at .block ∷ x) (sym (i .0)));
+      onward = rw (q, h) (sym (i .1));
+    }
+
+pub whole-next : (t : List ℕ) (at : ℕ) → isRecord (stepAt t at .reading) ≡ true → Next t at
+whole-next t at h =
+    next-of t at (length t - 1) h (omega (arith, record-found t at h .marked .long, length-drop at t))
+
+-- no record, so none from there on
+none-of : (n : ℕ) (t : List ℕ) (at : ℕ) → isRecord (stepAt t at .reading) ≡ false → (blocks n t at ≡ []) × (behind n t at ≡ at)
+unfolding blocks behind
+none-of zero t at h = (refl, refl)
+none-of (suc n) t at h = (rw h, rw h)
+
+pub whole-stop : (t : List ℕ) (at : ℕ) → isRecord (stepAt t at .reading) ≡ false → (allFrom t at ≡ []) × (endFrom t at ≡ at)
+whole-stop t at h = none-of (length t) t at h

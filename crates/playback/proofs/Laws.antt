@@ -2,3 +2,5 @@
 pub mod Texts
 pub mod Lines
 pub mod Replays
+pub mod Carry
+pub mod Inputs

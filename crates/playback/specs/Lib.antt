@@ -3,3 +3,4 @@ pub mod Types
 pub mod Text
 pub mod Line
 pub mod Replay
+pub mod Input

@@ -19,7 +19,7 @@ unfoldable pub append : Line → List ℕ → Line
 append l [] = l
 append l (b ∷ bs) = append (push l b) bs
 
--- the promise of the code that makes a line: the text, which fits
+-- the promise of the code that makes a line: its text, whole
 pub record Printed (text : List ℕ) (r : Line) : Type 0 where
   pub line : r ≡ lineOf text
-  pub fits : r .length ≤ 80
+  pub fits : r .length ≤ length (r .bytes)

@@ -2,7 +2,7 @@
 use Prim.Native.Nat.{ℕ, _+_, _%_, _^_, _≤_}
 use mathlib.Core.Path.{_≡_}
 use mathlib.Core.List.{List, [], _∷_}
-use lib.ListN.{getD}
+use lib.ListN.{length, getD}
 use Rattle.disc.specs.Blank.{blank}
 use Rattle.disc.specs.Judge.{judgeAsAsked}
 use Rattle.disc.specs.Records.{tailNext}
@@ -41,7 +41,7 @@ unfoldable pub replayed : Replay → List (List ℕ) → Replay
 replayed r [] = r
 replayed r (b ∷ bs) = replayed (onward r b) bs
 
--- the promise of the code that plays a record: the line fits its array
-pub record Plays (replay : Replay) (b : List ℕ) (r : Played) : Type 0 where
-  pub result : r ≡ played replay b
-  pub fits : r .line .length ≤ 80
+-- the promise of the code that plays a record: the line, whole, and the replay after it
+pub record Plays (before : Replay) (b : List ℕ) (r : Played) : Type 0 where
+  pub result : r ≡ played before b
+  pub fits : r .line .length ≤ length (r .line .bytes)

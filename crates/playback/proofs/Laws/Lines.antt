@@ -6,7 +6,7 @@ use native.Mathlib.Omega.{arith}
 use borrow.Author.Tests.{lt-ltb}
 use mathlib.Core.List.{List, [], _∷_, _++_, append-assoc, append-nil}
 use lib.Dec.{ltb}
-use lib.ListN.{length, set, replicate, length-append}
+use lib.ListN.{length, set, replicate, length-append, length-replicate}
 use lib.Seq.{set-append-seam, append-snoc}
 use Rattle.playback.specs.Types.{Line}
 use Rattle.playback.specs.Text.{words}
@@ -75,4 +75,8 @@ two-words a x y z h = rw (← append-new (words a ((x ∷ y ∷ z ∷ []) ∷ []
 -- a line of a text that fits
 pub printed : (text : List ℕ) (r : Line) → length text ≤ 80 → r ≡ lineOf text → Printed text r
 unfolding lineOf
-printed text r h e = record { line = e; fits = rw e h }
+printed text r h e =
+    record {
+      line = e;
+      fits = rw e (omega (arith, length-append text (replicate (80 - length text) 0), length-replicate {A = ℕ} (80 - length text) 0));
+    }

@@ -45,7 +45,7 @@ fn play_held(replay: Replay, held: &[u8]) -> Stop
     let mut replay = replay;
     let mut at: usize = 0;
     loop {
-        let step = trace::find_record(held, at);
+        let step = trace::read_at(held, at);
         let reading = step.reading;
         let block = step.block;
         let Reading::Record = reading else {

@@ -2,3 +2,4 @@
 pub mod Record
 pub mod Whole
 pub mod Parts
+pub mod Reader

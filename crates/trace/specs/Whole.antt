@@ -4,7 +4,7 @@ use mathlib.Core.Bool.{Bool, true, false, cond, _&&_}
 use mathlib.Core.List.{List, [], _∷_, _++_}
 use lib.ListN.{length}
 use lib.Dec.{eqb}
-use Rattle.trace.specs.Types.{Reading, Record, BadMark, CutShort, End, Step}
+use Rattle.trace.specs.Types.{Reading, Record, BadMark, CutShort, End}
 use Rattle.trace.specs.Record.{stepAt}
 
 abbrev pub isRecord : Reading → Bool

@@ -3,7 +3,7 @@
 mod reader;
 mod record;
 
-pub use record::RECORD_LENGTH;
+pub use reader::RecordReader;
+pub use reader::read_at;
 pub use record::Reading;
 pub use record::Step;
-pub use record::find_record;

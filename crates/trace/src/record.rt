@@ -14,7 +14,7 @@ const MARK_LENGTH: usize = 2;
 const BLOCK_LENGTH: usize = 12;
 
 // Bytes of a record: the mark and the command block.
-pub const RECORD_LENGTH: usize = 14;
+const RECORD_LENGTH: usize = 14;
 
 // What stands at a position.
 pub enum Reading {
@@ -85,7 +85,7 @@ fn block_of(left: &[u8]) -> [u8; 12]
 }
 
 // What stands at a position of a trace: the covered part of the reader. A position past the end is the end.
-pub fn find_record(trace: &[u8], at: usize) -> Step
+pub(crate) fn find_record(trace: &[u8], at: usize) -> Step
     ensures { λ r. ⌜ r ≡ stepAt (now (trace .entry)) at ⌝ }
 {
     if trace.len() <= at {

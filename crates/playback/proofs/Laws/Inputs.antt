@@ -1,15 +1,15 @@
 -- An input in parts: what is left of the bytes held, and one turn of the program.
-use mathlib.Core.Path.{_≡_, refl, sym, ap, _∙_}
-use mathlib.Core.Bool.{Bool, true, false, true≢false}
-use Prim.Native.Nat.{ℕ, _+_, _-_, _≤_, _<_}
+use mathlib.Core.Path.{_≡_, sym, ap, _∙_}
+use mathlib.Core.Bool.{true, false, true≢false}
+use Prim.Native.Nat.{ℕ, _-_, _≤_, _<_}
 use native.Mathlib.Omega.{arith}
-use mathlib.Core.List.{List, [], _∷_, _++_}
+use mathlib.Core.List.{List, [], _∷_}
 use types.Run.{OneOf, miss}
 use denote.Enum.Declared.{tagOf}
 use lib.ListN.{length, take, drop, length-take, length-drop}
 use Rattle.trace.proofs.record.Reading as reading
 use Rattle.trace.specs.Record.{readingOf, stepAt}
-use Rattle.trace.specs.Whole.{isRecord, wholeBlocks, wholeEnd}
+use Rattle.trace.specs.Whole.{isRecord, wholeEnd}
 use Rattle.trace.proofs.Laws.Record.{few-left}
 use Rattle.trace.proofs.Laws.Whole.{reading-step, whole-stops}
 use Rattle.trace.proofs.Laws.Parts.{whole-within}

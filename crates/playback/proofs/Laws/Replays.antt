@@ -1,22 +1,21 @@
 -- Replays: the last line, and records one after another.
 use mathlib.Core.Path.{_≡_, refl, sym, ap, _∙_}
-use mathlib.Core.Bool.{Bool, true, false, true≢false}
+use mathlib.Core.Bool.{true, false}
 use Prim.Native.Nat.{ℕ, _+_, _-_, _≤_, _<_}
 use native.Mathlib.Omega.{arith}
 use mathlib.Core.List.{List, [], _∷_, _++_}
-use lib.ListN.{length, take, drop, length-take, length-drop}
+use lib.ListN.{length, drop, length-drop}
 use types.Run.{OneOf, miss}
 use denote.Enum.Declared.{tagOf}
 use Rattle.trace.proofs.record.Reading as reading
-use Rattle.trace.specs.Record.{readingOf, stepAt}
+use Rattle.trace.specs.Record.{stepAt}
 use Rattle.trace.specs.Whole.{isRecord, allFrom, endFrom, wholeBlocks, wholeEnd}
-use Rattle.trace.proofs.Laws.Whole.{reading-step, record-found, whole-next, whole-stop, whole-stops}
-use Rattle.trace.proofs.Laws.Record.{few-left}
-use Rattle.trace.proofs.Laws.Parts.{in-parts, whole-within}
-use Rattle.playback.specs.Types.{Reading, Record, BadMark, CutShort, End, Step, Line, Replay, Played, Stop}
+use Rattle.trace.proofs.Laws.Whole.{record-found, whole-next, whole-stop}
+use Rattle.trace.proofs.Laws.Parts.{in-parts}
+use Rattle.playback.specs.Types.{Reading, Record, BadMark, CutShort, End, Step, Line, Replay, Played}
 use Rattle.playback.specs.Line.{lineOf, Printed}
 use Rattle.playback.specs.Replay.{onward, played, replayed, lastText, Plays}
-use Rattle.playback.specs.Input.{Stopped, Carried}
+use Rattle.playback.specs.Input.{Stopped}
 use Rattle.playback.proofs.Laws.Lines.{printed}
 
 -- nothing is printed last, by the reading's place among the variants

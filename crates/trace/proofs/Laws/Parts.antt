@@ -1,15 +1,15 @@
 -- A trace that comes in parts: a record or a bad mark in the first part stands there in the whole, and where the first part is cut short
 -- or at its end, its last bytes are read again with what comes.
 use mathlib.Core.Path.{_≡_, refl, sym, ap, _∙_}
-use mathlib.Core.Bool.{Bool, true, false, cond, not, _&&_, _||_, and-eq-true-iff, or-true}
-use Prim.Native.Nat.{ℕ, zero, suc, _+_, _-_, _≤_, _<_}
+use mathlib.Core.Bool.{Bool, true, false, cond, not, _||_, and-eq-true-iff, or-true}
+use Prim.Native.Nat.{ℕ, zero, suc, _+_, _≤_, _<_}
 use native.Mathlib.Omega.{arith}
 use borrow.Author.Tests.{lt-ltb, ne-eqb, ltb-true, eqb-false}
-use mathlib.Core.List.{List, [], _∷_, _++_}
+use mathlib.Core.List.{List, _∷_, _++_}
 use lib.Dec.{eqb, ltb}
 use lib.ListN.{length, getD, take, drop, length-append, length-drop, List·getD-append}
 use lib.Seq.{drop-append-le, take-append-le, drop-drop}
-use Rattle.trace.specs.Types.{Reading, Record, BadMark, CutShort, End, Step}
+use Rattle.trace.specs.Types.{Record, BadMark, CutShort, End}
 use Rattle.trace.specs.Record.{isWrong, badMark, readingOf, stepOf, stopped, stepAt}
 use Rattle.trace.specs.Whole.{isRecord, allFrom, endFrom, wholeBlocks, wholeEnd}
 use Rattle.trace.proofs.Laws.Record.{Marked, marked-record, step-end}

@@ -1,17 +1,17 @@
 -- What stands at a position: when it is a record, and what does not matter to it.
-use mathlib.Core.Path.{_≡_, refl, sym, ap, _∙_}
+use mathlib.Core.Path.{_≡_, refl, sym}
 use mathlib.Core.Bool.{Bool, true, false, cond, not, _&&_, _||_, false≢true}
-use Prim.Native.Nat.{ℕ, _+_, _-_, _≤_, _<_}
+use Prim.Native.Nat.{ℕ, _-_, _≤_, _<_}
 use native.Mathlib.Omega.{arith}
 use borrow.Author.Tests.{lt-ltb, le-ltb, eq-eqb, ne-eqb, ltb-true, ltb-false, eqb-true}
 use types.Run.{OneOf, miss}
 use denote.Enum.Declared.{tagOf}
-use mathlib.Core.List.{List, [], _∷_, _++_}
+use mathlib.Core.List.{List, [], _∷_}
 use lib.Dec.{eqb, ltb}
 use lib.ListN.{length, getD, take, drop, length-drop, drop-of-length-le}
 use lib.Seq.{take-all}
 use Rattle.trace.proofs.record.Reading as reading
-use Rattle.trace.specs.Types.{Reading, Record, BadMark, CutShort, End, Step}
+use Rattle.trace.specs.Types.{Reading, Record, BadMark, CutShort, End}
 use Rattle.trace.specs.Record.{badMark, readingOf, stepOf, stopped, stepAt}
 
 -- the part of a trace from a position on

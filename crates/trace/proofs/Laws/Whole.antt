@@ -1,16 +1,16 @@
 -- A whole trace is split exactly into its records: nothing is skipped and nothing read twice.
 use mathlib.Core.Path.{_≡_, refl, sym, ap, _∙_}
-use mathlib.Core.Bool.{Bool, true, false, cond, _&&_, false≢true, and-eq-true-iff}
-use Prim.Native.Nat.{ℕ, zero, suc, _+_, _-_, _≤_, _<_}
+use mathlib.Core.Bool.{Bool, true, false, false≢true, and-eq-true-iff}
+use Prim.Native.Nat.{ℕ, zero, suc, _+_, _-_, _≤_}
 use native.Mathlib.Nat.{not-suc-le-zero, le-of-suc-le-suc}
 use native.Mathlib.Omega.{arith}
-use borrow.Author.Tests.{eqb-true, eq-eqb, lt-ltb}
+use borrow.Author.Tests.{eqb-true, eq-eqb}
 use mathlib.Core.List.{List, [], _∷_, _++_, append-assoc}
 use lib.Dec.{eqb}
-use lib.ListN.{length, getD, take, drop, length-append, length-take, length-drop, take-append-drop, drop-of-length-le}
+use lib.ListN.{length, take, drop, length-append, length-take, length-drop, take-append-drop}
 use lib.Seq.{take-at, drop-at, drop-cons, drop-drop}
-use Rattle.trace.specs.Types.{Reading, Record, BadMark, CutShort, End, Step}
-use Rattle.trace.specs.Record.{readingOf, stepOf, stopped, stepAt}
+use Rattle.trace.specs.Types.{Reading, Record, BadMark, CutShort, End}
+use Rattle.trace.specs.Record.{readingOf, stepOf, stepAt}
 use Rattle.trace.specs.Whole.{isRecord, blocks, behind, traceOf, allTwelve, allFrom, endFrom, wholeBlocks, wholeEnd}
 use Rattle.trace.proofs.Laws.Record.{Marked, record-marked, marked-record, step-none, step-end}
 

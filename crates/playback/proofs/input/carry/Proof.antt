@@ -1,13 +1,10 @@
 use Rattle.playback.proofs.Laws.Carry.{Carrying, carrying-more, carrying-all}
 use borrow.Author.Needs.{needs}
-use mathlib.Core.Path.{_≡_, refl, sym, _∙_, ap}
+use mathlib.Core.Path.{refl}
 use native.Mathlib.Omega.{arith}
-use Prim.Native.Nat.{ℕ, _+_, _-_, _*_, _≤_, _<_}
-use lib.ListN.{length}
+use Prim.Native.Nat.{_-_}
 use Rattle.playback.proofs.input.carry.Statement.{statement}
 use Rattle.playback.proofs.input.carry.Tie as tie
-use Rattle.playback.proofs.input.carry.Reads as reads
-use Rattle.playback.proofs.input.carry.Lts as lts
 
 abbrev Inv-loop : tie.InvT-loop
 Inv-loop buffer₀ from filled count i₀ buffer i = Carrying from count buffer₀ buffer i
@@ -15,46 +12,36 @@ Inv-loop buffer₀ from filled count i₀ buffer i = Carrying from count buffer�
 abbrev μ-loop : tie.MeasureT-loop
 μ-loop buffer₀ from filled count i₀ buffer i = count - i
 
--- src/input.rt:70:17
 sub-count : tie.Need-sub-count Inv-loop μ-loop
 sub-count c = search needs
 
--- src/input.rt:72:5
 loop-holds : tie.Need-loop-holds Inv-loop μ-loop
 loop-holds c = record { some = omega arith; same = refl; front = refl; behind = refl }
 
--- src/input.rt:73:28
 add-buffer : tie.Need-add-buffer Inv-loop μ-loop
 add-buffer c = search needs
 
--- src/input.rt:73:21
 slice-read-buffer : tie.Need-slice-read-buffer Inv-loop μ-loop
 slice-read-buffer c = search needs
 
--- src/input.rt:73:9
 slice-write-buffer : tie.Need-slice-write-buffer Inv-loop μ-loop
 slice-write-buffer c = search needs
 
--- src/input.rt:74:9
 add-i : tie.Need-add-i Inv-loop μ-loop
 add-i c = search needs
 
--- src/input.rt:72:5
 loop-less : tie.Need-loop-less Inv-loop μ-loop
 loop-less c = search needs
 
--- src/input.rt:72:5
 loop-again : tie.Need-loop-again Inv-loop μ-loop
 loop-again c =
     let l = c .before .before in
     let a = l .before .args in
     carrying-more (a .from) (a .filled - a .from) (a .buffer .now) (l .loop .buffer) (l .loop .i) (c .before .loop-test .taken) (omega (arith, l .before .pre)) (l .loop .inv)
 
--- src/input.rt:66:1
 same-length : tie.Need-same-length Inv-loop μ-loop
 same-length c = search needs
 
--- src/input.rt:66:1
 returns : tie.Need-returns Inv-loop μ-loop
 returns c =
     let l = c .before in

@@ -1,27 +1,19 @@
 use borrow.Author.Needs.{needs}
 use Rattle.playback.proofs.input.print.Statement.{statement}
 use Rattle.playback.proofs.input.print.Tie as tie
-use Rattle.playback.proofs.input.print.Reads as reads
-use Rattle.playback.proofs.input.print.Lts as lts
-use Rattle.io.proofs.write_all.Reads as write-all-reads
 
--- src/input.rt:38:34
 sub-write-all : tie.Need-sub-write-all
 sub-write-all c = search needs
 
--- src/input.rt:38:34
 part-write-all-start : tie.Need-part-write-all-start
 part-write-all-start c = search needs
 
--- src/input.rt:38:34
 part-write-all-end : tie.Need-part-write-all-end
 part-write-all-end c = search needs
 
--- src/input.rt:38:5
 write-all-requires : tie.Need-write-all-requires
 write-all-requires c κs = search needs
 
--- src/input.rt:33:1
 returns : tie.Need-returns
 returns c = search needs
 

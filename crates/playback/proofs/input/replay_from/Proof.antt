@@ -1,16 +1,10 @@
 use borrow.Author.Needs.{needs}
-use mathlib.Core.Path.{_≡_, refl, sym, _∙_, ap}
+use mathlib.Core.Path.{_≡_, _∙_}
 use native.Mathlib.Omega.{arith}
-use Prim.Native.Nat.{ℕ, _+_, _-_, _*_, _≤_, _<_}
+use Prim.Native.Nat.{_≤_}
 use lib.ListN.{length}
 use Rattle.playback.proofs.input.replay_from.Statement.{statement}
 use Rattle.playback.proofs.input.replay_from.Tie as tie
-use Rattle.playback.proofs.input.replay_from.Reads as reads
-use Rattle.playback.proofs.input.replay_from.Lts as lts
-use Rattle.io.proofs.buffer.Reads as buffer-reads
-use Rattle.io.proofs.write_all.Reads as write-all-reads
-use Rattle.playback.proofs.input.go_on.Reads as go-on-reads
-use Rattle.playback.proofs.replay.Replay.start.Reads as start-reads
 
 abbrev Inv-loop : tie.InvT-loop
 Inv-loop fd buffer₀ progress₀ turns₀ buffer progress turns = (length buffer ≡ 4096) × (progress .filled ≤ 4096)
@@ -18,54 +12,42 @@ Inv-loop fd buffer₀ progress₀ turns₀ buffer progress turns = (length buffe
 abbrev μ-loop : tie.MeasureT-loop
 μ-loop fd buffer₀ progress₀ turns₀ buffer progress turns = turns
 
--- src/input.rt:143:34
 slice-aggregate-write-all : tie.Need-slice-aggregate-write-all Inv-loop μ-loop
 slice-aggregate-write-all c = search needs
 
--- src/input.rt:143:5
 write-all-requires : tie.Need-write-all-requires Inv-loop μ-loop
 write-all-requires c κs = search needs
 
--- src/input.rt:144:21
 buffer-requires : tie.Need-buffer-requires Inv-loop μ-loop
 buffer-requires c κs = search needs
 
--- src/input.rt:145:9
 slice-aggregate-buffer : tie.Need-slice-aggregate-buffer Inv-loop μ-loop
 slice-aggregate-buffer c = search needs
 
--- src/input.rt:147:17
 start-requires : tie.Need-start-requires Inv-loop μ-loop
 start-requires c κs = search needs
 
--- src/input.rt:153:5
 loop-holds : tie.Need-loop-holds Inv-loop μ-loop
 loop-holds c = search needs
 
--- src/input.rt:154:9
 go-on-requires : tie.Need-go-on-requires Inv-loop μ-loop
 go-on-requires c κs = search needs
 
--- src/input.rt:156:13
 returns : tie.Need-returns Inv-loop μ-loop
 returns c = tt
 
--- src/input.rt:158:9
 sub-turns : tie.Need-sub-turns Inv-loop μ-loop
 sub-turns c = search needs
 
--- src/input.rt:153:5
 loop-less : tie.Need-loop-less Inv-loop μ-loop
 loop-less c = search needs
 
--- src/input.rt:153:5
 loop-again : tie.Need-loop-again Inv-loop μ-loop
 loop-again c =
     let w = c .before .before .before .go-on .ensures in
     let l = c .before .before .before .before .before .before .loop .inv in
     (w .same ∙ l .0, omega (arith, w .within, w .same, l .0))
 
--- src/input.rt:142:1
 returns-2 : tie.Need-returns-2 Inv-loop μ-loop
 returns-2 c = tt
 

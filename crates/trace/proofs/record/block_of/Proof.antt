@@ -1,14 +1,12 @@
 use borrow.Author.Needs.{needs}
-use mathlib.Core.Path.{_≡_, refl, sym, _∙_, ap}
+use mathlib.Core.Path.{_≡_, refl, sym, _∙_}
 use native.Mathlib.Omega.{arith}
-use Prim.Native.Nat.{ℕ, _+_, _-_, _*_, _≤_, _<_}
+use Prim.Native.Nat.{_-_, _≤_}
 use native.Mathlib.Numerals.{add-one}
 use lib.ListN.{length, take, drop, length-drop, length-set}
 use lib.Seq.{take-suc, take-suc-set, getD-drop, take-all}
 use Rattle.trace.proofs.record.block_of.Statement.{statement}
 use Rattle.trace.proofs.record.block_of.Tie as tie
-use Rattle.trace.proofs.record.block_of.Reads as reads
-use Rattle.trace.proofs.record.block_of.Lts as lts
 
 abbrev Inv-loop : tie.InvT-loop
 Inv-loop left block₀ i₀ block i = (i ≤ 12) × (length block ≡ 12) × (take i block ≡ take i (drop 2 left))
@@ -16,31 +14,24 @@ Inv-loop left block₀ i₀ block i = (i ≤ 12) × (length block ≡ 12) × (ta
 abbrev μ-loop : tie.MeasureT-loop
 μ-loop left block₀ i₀ block i = 12 - i
 
--- src/record.rt:80:5
 loop-holds : tie.Need-loop-holds Inv-loop μ-loop
 loop-holds c = (search needs, refl, refl)
 
--- src/record.rt:81:25
 add-block : tie.Need-add-block Inv-loop μ-loop
 add-block c = search needs
 
--- src/record.rt:81:20
 shared-slice-read-block : tie.Need-shared-slice-read-block Inv-loop μ-loop
 shared-slice-read-block c = search needs
 
--- src/record.rt:81:9
 array-write-block : tie.Need-array-write-block Inv-loop μ-loop
 array-write-block c = search needs
 
--- src/record.rt:82:9
 add-i : tie.Need-add-i Inv-loop μ-loop
 add-i c = search needs
 
--- src/record.rt:80:5
 loop-less : tie.Need-loop-less Inv-loop μ-loop
 loop-less c = search needs
 
--- src/record.rt:80:5
 loop-again : tie.Need-loop-again Inv-loop μ-loop
 loop-again c =
     let l = c .before .before in
@@ -57,7 +48,6 @@ loop-again c =
       ),
     )
 
--- src/record.rt:74:1
 returns : tie.Need-returns Inv-loop μ-loop
 returns c =
     let l = c .before in

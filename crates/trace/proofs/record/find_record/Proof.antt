@@ -1,7 +1,6 @@
 use mathlib.Core.Path.{_≡_, sym, ap, _∙_}
-use native.Mathlib.Omega.{arith}
 use borrow.Author.Needs.{needs}
-use lib.ListN.{length, drop}
+use lib.ListN.{drop}
 use Rattle.trace.specs.Types.{Record}
 use Rattle.trace.specs.Record.{readingOf, stepOf, stepAt}
 use Rattle.trace.proofs.Laws.Record.{rest-part, step-end, no-record, record-marked}

@@ -2,10 +2,7 @@ use Rattle.playback.specs.Line.{append}
 use Rattle.playback.proofs.Laws.Texts.{decimal-one, decimal-more}
 use Rattle.playback.proofs.Laws.Lines.{append-push}
 use borrow.Author.Needs.{needs}
-use mathlib.Core.Path.{_≡_, refl, sym, _∙_, ap}
-use native.Mathlib.Omega.{arith}
-use lib.ListN.{length}
-use Prim.Native.Nat.{ℕ, _<_, _+_, _-_, _*_, _≤_}
+use Prim.Native.Nat.{ℕ, _<_}
 use borrow.Fn.Kinds.{In}
 use borrow.Fn.PlainCycle.{Measures, is, falls, and}
 use Rattle.playback.proofs.line.Line.decimal.Reads as decimal
@@ -25,7 +22,6 @@ decimal-at t = and 0 decimal-kinds.ps (is 0 decimal-kinds.ps μ-decimal t) decim
 abbrev decimal-below : ℕ → In 0 decimal-kinds.ps
 decimal-below t = and 0 decimal-kinds.ps (falls 0 decimal-kinds.ps _<_ μ-decimal t) decimal.Pre
 
--- src/line.rt:57:35
 decimal-cast-sign : (t : ℕ) → decimal-lts.Need-cast-sign (
   sign-reads.Asked,
   sign-reads.Learnt,
@@ -36,7 +32,6 @@ decimal-cast-sign : (t : ℕ) → decimal-lts.Need-cast-sign (
 ) (decimal-at t) decimal.Post
 decimal-cast-sign t c = search needs
 
--- src/line.rt:57:30
 decimal-sign-requires : (t : ℕ) → decimal-lts.Need-sign-requires (
   sign-reads.Asked,
   sign-reads.Learnt,
@@ -47,7 +42,6 @@ decimal-sign-requires : (t : ℕ) → decimal-lts.Need-sign-requires (
 ) (decimal-at t) decimal.Post
 decimal-sign-requires t c κs = search needs
 
--- src/line.rt:57:13
 decimal-push-requires : (t : ℕ) → decimal-lts.Need-push-requires (
   sign-reads.Asked,
   sign-reads.Learnt,
@@ -58,7 +52,6 @@ decimal-push-requires : (t : ℕ) → decimal-lts.Need-push-requires (
 ) (decimal-at t) decimal.Post
 decimal-push-requires t c κs = search needs
 
--- src/line.rt:57:13
 decimal-returns : (t : ℕ) → decimal-lts.Need-returns (
   sign-reads.Asked,
   sign-reads.Learnt,
@@ -70,7 +63,6 @@ decimal-returns : (t : ℕ) → decimal-lts.Need-returns (
 unfolding append
 decimal-returns t c = rw (c .push .ensures, c .before .sign .ensures, decimal-one _ (c .before .before .if1 .taken))
 
--- src/line.rt:59:9
 decimal-decimal-requires : (t : ℕ) → decimal-lts.Need-decimal-requires (
   sign-reads.Asked,
   sign-reads.Learnt,
@@ -81,7 +73,6 @@ decimal-decimal-requires : (t : ℕ) → decimal-lts.Need-decimal-requires (
 ) (decimal-at t) decimal.Post
 decimal-decimal-requires t c κs = search needs
 
--- src/line.rt:59:45
 decimal-cast-sign-2 : (t : ℕ) → decimal-lts.Need-cast-sign-2 (
   sign-reads.Asked,
   sign-reads.Learnt,
@@ -92,7 +83,6 @@ decimal-cast-sign-2 : (t : ℕ) → decimal-lts.Need-cast-sign-2 (
 ) (decimal-at t) decimal.Post
 decimal-cast-sign-2 t c = search needs
 
--- src/line.rt:59:40
 decimal-sign-requires-2 : (t : ℕ) → decimal-lts.Need-sign-requires-2 (
   sign-reads.Asked,
   sign-reads.Learnt,
@@ -103,7 +93,6 @@ decimal-sign-requires-2 : (t : ℕ) → decimal-lts.Need-sign-requires-2 (
 ) (decimal-at t) decimal.Post
 decimal-sign-requires-2 t c κs = search needs
 
--- src/line.rt:59:9
 decimal-push-requires-2 : (t : ℕ) → decimal-lts.Need-push-requires-2 (
   sign-reads.Asked,
   sign-reads.Learnt,
@@ -114,7 +103,6 @@ decimal-push-requires-2 : (t : ℕ) → decimal-lts.Need-push-requires-2 (
 ) (decimal-at t) decimal.Post
 decimal-push-requires-2 t c κs = search needs
 
--- src/line.rt:53:5
 decimal-returns-2 : (t : ℕ) → decimal-lts.Need-returns-2 (
   sign-reads.Asked,
   sign-reads.Learnt,

@@ -1,47 +1,31 @@
 use Rattle.playback.specs.Text.{decimal, badText}
 use Rattle.playback.proofs.Laws.Texts.{stop-fits}
 use Rattle.playback.proofs.Laws.Lines.{two-words, printed}
-use mathlib.Core.Path.{_≡_, refl, sym, _∙_, ap}
-use native.Mathlib.Omega.{arith}
 use borrow.Author.Needs.{needs}
 use Rattle.playback.proofs.line.Line.bad.Statement.{statement}
 use Rattle.playback.proofs.line.Line.bad.Tie as tie
-use Rattle.playback.proofs.line.Line.bad.Reads as reads
-use Rattle.playback.proofs.line.Line.bad.Lts as lts
-use Rattle.playback.proofs.line.Line.decimal.Reads as decimal-reads
-use Rattle.playback.proofs.line.Line.new.Reads as new-reads
-use Rattle.playback.proofs.line.Line.push.Reads as push-reads
-use Rattle.playback.proofs.line.Line.space.Reads as space-reads
 
--- src/line.rt:100:9
 new-requires : tie.Need-new-requires
 new-requires c κs = search needs
 
--- src/line.rt:100:9
 decimal-requires : tie.Need-decimal-requires
 decimal-requires c κs = search needs
 
--- src/line.rt:100:9
 space-requires : tie.Need-space-requires
 space-requires c κs = search needs
 
--- src/line.rt:100:9
 push-requires : tie.Need-push-requires
 push-requires c κs = search needs
 
--- src/line.rt:100:9
 push-requires-2 : tie.Need-push-requires-2
 push-requires-2 c κs = search needs
 
--- src/line.rt:100:9
 push-requires-3 : tie.Need-push-requires-3
 push-requires-3 c κs = search needs
 
--- src/line.rt:100:9
 push-requires-4 : tie.Need-push-requires-4
 push-requires-4 c κs = search needs
 
--- src/line.rt:97:5
 returns : tie.Need-returns
 returns c =
     let n = c .before .before .before .before .before .before .before .args .number in

@@ -3,7 +3,6 @@ use Rattle.playback.specs.Line.{lineOf}
 use Rattle.playback.proofs.line.Line.new.Statement.{statement}
 use Rattle.playback.proofs.line.Line.new.Tie as tie
 
--- src/line.rt:32:5
 returns : tie.Need-returns
 unfolding lineOf
 returns c = refl

@@ -1,27 +1,19 @@
 use borrow.Author.Tests.{lt-ltb, le-ltb}
 use Rattle.playback.specs.Line.{push}
-use mathlib.Core.Path.{_≡_, refl, sym, _∙_, ap}
-use native.Mathlib.Omega.{arith}
 use borrow.Author.Needs.{needs}
 use Rattle.playback.proofs.line.Line.push.Statement.{statement}
 use Rattle.playback.proofs.line.Line.push.Tie as tie
-use Rattle.playback.proofs.line.Line.push.Reads as reads
-use Rattle.playback.proofs.line.Line.push.Lts as lts
 
--- src/line.rt:45:13
 element-write-self : tie.Need-element-write-self
 element-write-self c = search needs
 
--- src/line.rt:46:27
 add-self : tie.Need-add-self
 add-self c = search needs
 
--- src/line.rt:47:13
 returns : tie.Need-returns
 unfolding push
 returns c = rw (lt-ltb _ _ (c .if1 .taken))
 
--- src/line.rt:40:5
 returns-2 : tie.Need-returns-2
 unfolding push
 returns-2 c = rw (le-ltb _ _ (c .if1 .left))

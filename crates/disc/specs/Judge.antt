@@ -10,7 +10,7 @@ use Rattle.disc.specs.Types.{Disc, Verdict, Command, TestUnitReady, Requ
 use Rattle.disc.specs.Command.{decode}
 use Rattle.disc.specs.Sound.{allowedState}
 use Rattle.disc.specs.Blank.{inRange}
-use Rattle.disc.specs.Lengths.{lengthsFit}
+use Rattle.disc.specs.Lengths.{dataLength, replyRoom, lengthsFit}
 use Rattle.disc.specs.Verdict.{accept, refuse, refuseLink, noReply, noPlan}
 use Rattle.disc.specs.Flush.{synchronizeCache}
 use Rattle.disc.specs.Read.{read}
@@ -55,3 +55,10 @@ judge d b dataLent replyLent =
 pub record Judged (d : Disc) (b : List ℕ) (dataLent replyLent : ℕ) (r : Verdict) : Type 0 where
   pub verdict : r ≡ judge d b dataLent replyLent
   pub numbered : number (r .answer) ≡ number (judge d b dataLent replyLent .answer)
+
+-- the decision where data and reply buffer have the lengths that the block asks for
+abbrev pub judgeAsAsked : Disc → List ℕ → Verdict
+judgeAsAsked d b = judge d b (dataLength (decode b)) (replyRoom (decode b))
+
+abbrev pub JudgedAsAsked : Disc → List ℕ → Verdict → Type 0
+JudgedAsAsked d b r = Judged d b (dataLength (decode b)) (replyRoom (decode b)) r

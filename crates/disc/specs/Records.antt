@@ -4,7 +4,7 @@ use mathlib.Core.Bool.{Bool, true, false, not, cond, _&&_, _||_}
 use mathlib.Core.List.{List, [], _∷_}
 use lib.ListN.{length, getD, set}
 use lib.Dec.{eqb, leb}
-use Rattle.disc.specs.Types.{Lba, Sense, Fragment, Disc, Found, Number, Nowhere, Last}
+use Rattle.disc.specs.Types.{Lba, Sense, Fragment, Disc, Found, Number, Nowhere, TailNext, Address, NoTail, Last}
 use Rattle.disc.specs.Fragment.{unusedRecord, unused, complete, isTail, isBlank, nextWritable, holds, holdsRecorded, lastRecorded}
 
 -- how many fragments a disc can have, the tail included
@@ -63,8 +63,8 @@ withSense d s =
 abbrev pub hasTail : Disc → Bool
 hasTail d = isTail (lastRecord d)
 
-abbrev pub tailNumber : Disc → Found
-tailNumber d = cond (hasTail d) (Number (used d)) Nowhere
+abbrev pub tailNext : Disc → TailNext
+tailNext d = cond (hasTail d) (Address (nextWritable d (used d) (lastRecord d))) NoTail
 
 abbrev pub hasBlankTail : Disc → Bool
 hasBlankTail d = hasTail d && isBlank d (used d) (lastRecord d)

@@ -16,6 +16,8 @@ pub use Rattle.disc.specs.declared.fragment.Fragment.{Fragment}
 pub use Rattle.disc.specs.declared.state.Disc.{Disc}
 pub use Rattle.disc.specs.declared.state.Found.{Found}
 pub use Rattle.disc.specs.declared.state.Found.the-variants.{Number, Nowhere}
+pub use Rattle.disc.specs.declared.state.TailNext.{TailNext}
+pub use Rattle.disc.specs.declared.state.TailNext.the-variants.{Address, NoTail}
 pub use Rattle.disc.specs.declared.blank.Blank.{Blank}
 pub use Rattle.disc.specs.declared.verdict.Reply.{Reply}
 pub use Rattle.disc.specs.declared.verdict.Flush.{Flush}

@@ -3,13 +3,14 @@ use crate::address::Lba;
 use crate::fragment::Fragment;
 use crate::state::Disc;
 use crate::state::Found;
+use crate::state::TailNext;
 ghost use mathlib.Core.Path.{_≡_};
 ghost use mathlib.Core.Bool.{cond, not, _&&_};
 ghost use Prim.Native.Nat.{_+_, _≤_};
 ghost use lib.Dec.{eqb};
 ghost use Rattle.disc.specs.Address.{lba, firstSector};
 ghost use Rattle.disc.specs.Fragment.{firstUnrecorded, complete, pendingIn, isBlank, nextWritable};
-ghost use Rattle.disc.specs.Records.{limit, used, isListed, numbered, lastRecord, tailNumber, lastOf, atAddress, writableAt, records, firstOfSession, blankTailOnly};
+ghost use Rattle.disc.specs.Records.{limit, used, isListed, numbered, lastRecord, tailNext, lastOf, atAddress, writableAt, records, firstOfSession, blankTailOnly};
 
 // The last record in use and its number.
 pub(crate) struct Last {
@@ -72,15 +73,15 @@ impl Disc {
         Last { number, fragment }
     }
 
-    // The tail's number.
-    pub(crate) fn tail(self) -> Found
-        ensures { λ r. ⌜ r ≡ tailNumber self ⌝ }
+    // The tail's next writable address.
+    pub fn tail_next(self) -> TailNext
+        ensures { λ r. ⌜ r ≡ tailNext self ⌝ }
     {
         let last = self.last();
         if last.fragment.is_tail() {
-            return Found::Number(last.number);
+            return TailNext::Address(self.next_writable(last.number, last.fragment));
         }
-        Found::Nowhere
+        TailNext::NoTail
     }
 
     // The record with a number.

@@ -11,7 +11,7 @@ use crate::verdict::Verdict;
 ghost use mathlib.Core.Path.{_≡_};
 ghost use Rattle.disc.specs.Ready.{Ready};
 ghost use Rattle.disc.specs.Verdict.{refuseLink};
-ghost use Rattle.disc.specs.Judge.{perform, Judged};
+ghost use Rattle.disc.specs.Judge.{perform, Judged, JudgedAsAsked};
 
 impl Verdict {
     // Refused on the link: nothing changes.
@@ -80,5 +80,16 @@ impl Disc {
             return Verdict::refused_link(self, LinkRefusal::TransferLength);
         }
         self.perform(command)
+    }
+
+    // The same with data and a reply buffer of the lengths that the block asks for: no L4.
+    pub fn judge_as_asked(self, block: &[u8]) -> Verdict
+        ensures { λ r. ⌜ JudgedAsAsked self (now (block .entry)) r ⌝ }
+    {
+        if block.len() != lengths::COMMAND_LENGTH {
+            return Verdict::refused_link(self, LinkRefusal::CommandBlockLength);
+        }
+        let command = Command::decode(block);
+        self.judge(block, command.data_length(), command.reply_room())
     }
 }

@@ -37,6 +37,7 @@ pub use lengths::COMMAND_LENGTH;
 pub use lengths::SECTOR_LENGTH;
 pub use state::Disc;
 pub use state::Found;
+pub use state::TailNext;
 pub use verdict::Flush;
 pub use verdict::Plan;
 pub use verdict::Reply;

@@ -1,4 +1,5 @@
 // The disc state. It goes into every command and comes back from it by value.
+use crate::address::Lba;
 use crate::answer::Sense;
 use crate::fragment::Fragment;
 ghost use mathlib.Core.Path.{_≡_};
@@ -34,6 +35,12 @@ impl Disc {
         disc.sense = sense;
         disc
     }
+}
+
+// The next writable address of the tail, or that there is no tail.
+pub enum TailNext {
+    Address(Lba),
+    NoTail,
 }
 
 // What a search along the list finds: a fragment's number, from 1, or that there is none.

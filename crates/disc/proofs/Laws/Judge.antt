@@ -20,7 +20,7 @@ use Rattle.disc.specs.Lengths.{lengthsFit, replyRoom, capacityLength, da
 use Rattle.disc.specs.Verdict.{refuseLink, noPlan, refuse, accepted, accept, report, rise}
 use Rattle.disc.specs.Read.{allReadable, read}
 use Rattle.disc.specs.Reports.{bytes32, senseBytes, requestSense, readCapacity, discInformation, readDiscInformation, trackInformation, trackReport, trackFound, trackNumbered, readTrackInformation}
-use Rattle.disc.specs.Judge.{testUnitReady, perform, judgeCommand, judge, Judged}
+use Rattle.disc.specs.Judge.{judgeAsAsked, testUnitReady, perform, judgeCommand, judge, Judged}
 use mathlib.Core.Logic.{⊎-elim, _⊎_, inl, inr}
 use Rattle.disc.specs.Recorded.{recordsBlock, flushes, transfers}
 use Rattle.disc.specs.Write.{write}
@@ -275,6 +275,15 @@ pub judge-performs :
     → lengthsFit c n m ≡ true → judge d b n m ≡ perform d c
 unfolding judge judgeCommand
 judge-performs d b n m c l e r a f = rw (eq-eqb (length b) 12 l, e, r, a, f)
+
+-- with the lengths that it asks for L4 cannot come up
+pub asked-fit : (c : Command) → lengthsFit c (dataLength c) (replyRoom c) ≡ true
+unfolding lengthsFit
+asked-fit c = and-both (eq-eqb (dataLength c) (dataLength c) refl) (le-leb (replyRoom c) (replyRoom c) (omega arith))
+
+pub as-asked-performs :
+    (d : Disc) (b : List ℕ) → length b ≡ 12 → inRange (d .capacity) ≡ true → allowedState d ≡ true → judgeAsAsked d b ≡ perform d (decode b)
+as-asked-performs d b l r a = judge-performs d b (dataLength (decode b)) (replyRoom (decode b)) (decode b) l refl r a (asked-fit (decode b))
 
 pub judge-writes :
     (d : Disc) (b : List ℕ) (n m : ℕ) (a : Lba) (k : ℕ) → length b ≡ 12 → decode b ≡ Write a k → inRange (d .capacity) ≡ true

@@ -5,7 +5,7 @@ use lib.Dec.{eqb, ltb}
 use Rattle.disc.specs.Types.{Kind, Reserved, Appended, Fragment, Disc, Nothing, Fill, Verdict, InvalidFieldInCommand, IncompleteTrackInSession, EmptyTrack, NoMoreReservations, EndOfUserArea}
 use Rattle.disc.specs.Address.{sectorsIn}
 use Rattle.disc.specs.Fragment.{unusedRecord, end, firstUnrecorded, complete, isBlank, isIncompleteReserved, nextFragmentStart, nextSessionStart, tailFrom}
-use Rattle.disc.specs.Records.{limit, records, used, isListed, numbered, lastRecord, withRecord, hasTail, hasBlankTail, some, blankTailOnly}
+use Rattle.disc.specs.Records.{limit, records, used, isListed, numbered, lastRecord, withRecord, hasTail, hasBlankTail, some, blankTailOnly, isBlankDisc}
 use Rattle.disc.specs.Verdict.{accept, refuse, noReply, noPlan, plan}
 use Rattle.disc.specs.Flush.{flush, flushPlan}
 
@@ -106,7 +106,7 @@ unfoldable pub finalize : Disc → Verdict
 finalize d =
     cond (d .finalized) (accept d d noReply noPlan)
     (cond (hasIncompleteReserved (flush d)) (refuse d IncompleteTrackInSession)
-    (cond (blankTailOnly d && eqb (lastRecord d .session) 1) (refuse d EmptyTrack)
+    (cond (isBlankDisc d) (refuse d EmptyTrack)
     (accept d (finalized (closeTail (flush d))) noReply (plan (flushPlan d) Nothing))))
 
 -- 5Bh by its function

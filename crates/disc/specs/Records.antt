@@ -113,3 +113,7 @@ firstOfSession s n (f ∷ fs) = cond (eqb (f .session) s) n (firstOfSession s (n
 -- the last session has one record, and that is a blank tail
 abbrev pub blankTailOnly : Disc → Bool
 blankTailOnly d = hasBlankTail d && eqb (firstOfSession (lastRecord d .session) 1 (records d)) (used d)
+
+-- so has session 1: nothing was ever written
+abbrev pub isBlankDisc : Disc → Bool
+isBlankDisc d = blankTailOnly d && eqb (lastRecord d .session) 1

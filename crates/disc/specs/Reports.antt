@@ -1,13 +1,13 @@
 -- The reports: 03h REQUEST SENSE, 25h READ CAPACITY, 51h READ DISC INFORMATION, 52h READ TRACK INFORMATION.
 use Prim.Native.Nat.{ℕ, _+_, _-_, _*_, _/_, _%_}
-use mathlib.Core.Bool.{Bool, cond, not, _&&_}
+use mathlib.Core.Bool.{Bool, cond, not}
 use mathlib.Core.List.{List, [], _∷_, _++_}
 use lib.ListN.{replicate}
 use lib.Dec.{eqb}
 use Rattle.disc.specs.Types.{Sense, Disc, Found, Number, Nowhere, Verdict, InvalidFieldInCommand, AddressOutOfRange}
 use Rattle.disc.specs.Address.{lba, sectorsIn, firstSector}
 use Rattle.disc.specs.Fragment.{end, complete, isReserved, isBlank, nextWritable, lastRecorded}
-use Rattle.disc.specs.Records.{records, used, isListed, numbered, lastRecord, hasTail, atAddress, lastReadable, firstOfSession, blankTailOnly}
+use Rattle.disc.specs.Records.{records, used, isListed, numbered, lastRecord, hasTail, atAddress, lastReadable, firstOfSession, blankTailOnly, isBlankDisc}
 use Rattle.disc.specs.Lengths.{capacityLength}
 use Rattle.disc.specs.Verdict.{accept, refuse, report, noPlan}
 
@@ -44,7 +44,7 @@ sessionState d = cond (d .finalized) 3 (cond (blankTailOnly d) 0 1)
 
 -- the disc status: 0 for a blank disc, 2 for a finalized one, else 1
 unfoldable pub discStatus : Disc → ℕ
-discStatus d = cond (d .finalized) 2 (cond (blankTailOnly d && eqb (lastRecord d .session) 1) 0 1)
+discStatus d = cond (d .finalized) 2 (cond (isBlankDisc d) 0 1)
 
 -- the length of what follows, the two states, the disc's first fragment, then of the last session its number, its first and its
 -- last fragment: the low bytes in 4 to 6, the high ones in 9 to 11

@@ -1,4 +1,4 @@
-// Block numbers and sector addresses: two kinds of number, with the factor 16 between them in this file alone.
+// Block numbers and sector addresses: two kinds of number. The conversion between them by 16 stands in this file alone.
 ghost use mathlib.Core.Path.{_≡_};
 ghost use Prim.Native.Nat.{_+_};
 ghost use Rattle.disc.specs.Address.{sectorsIn, blocksFor, block, lba, firstSector};
@@ -28,7 +28,7 @@ pub(crate) fn blocks_for(sectors: u32) -> u32
 
 impl Block {
     // The address of the block's first sector.
-    pub fn first_sector(self) -> Lba
+    pub(crate) fn first_sector(self) -> Lba
         ensures { λ r. ⌜ r ≡ firstSector self ⌝ }
     {
         Lba(sectors_in(self.0))

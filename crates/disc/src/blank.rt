@@ -37,11 +37,7 @@ impl Disc {
     pub(crate) fn zero() -> Disc
         ensures { λ r. ⌜ r ≡ zeroState ⌝ }
     {
-        let sense = Sense {
-            key: 0,
-            asc: 0,
-            ascq: 0,
-        };
+        let sense = Sense::none();
         let fragments = [Fragment::unused(); Disc::LIMIT];
         Disc {
             capacity: 0,

@@ -12,6 +12,9 @@ ghost use Rattle.disc.specs.Records.{limit, every};
 ghost use Rattle.disc.specs.Sound.{isZero, sound, allowedState};
 ghost use Rattle.disc.specs.Check.{within, beginsList, continues, openAfter, endsList, walk, listSound, ownerIncomplete};
 
+// The most sectors that can be pending: with sixteen a block is recorded.
+const MOST_PENDING: u8 = 15;
+
 impl Fragment {
     // Every field is zero.
     pub(crate) fn is_zero(self) -> bool
@@ -141,7 +144,7 @@ impl Disc {
         if self.pending == 0 {
             return owner == 0;
         }
-        if self.pending > 15 {
+        if self.pending > MOST_PENDING {
             return false;
         }
         if owner == 0 {

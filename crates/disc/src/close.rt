@@ -11,7 +11,7 @@ use crate::verdict::Verdict;
 ghost use mathlib.Core.Path.{_≡_};
 ghost use Prim.Native.Nat.{_≤_};
 ghost use Rattle.disc.specs.Types.{Reserved, Appended};
-ghost use Rattle.disc.specs.Records.{limit, used, blankTailOnly};
+ghost use Rattle.disc.specs.Records.{limit, used};
 ghost use Rattle.disc.specs.Ready.{Ready};
 ghost use Rattle.disc.specs.Flush.{flush};
 ghost use Rattle.disc.specs.Close.{appendTail, closeIncomplete, closeFragment, hasIncompleteReserved, closeTail, Opening, openSession, closeSession, finalized, finalize, close};
@@ -189,8 +189,7 @@ impl Disc {
         if flushed.has_incomplete_reserved() {
             return Verdict::refused(self, DriveRefusal::IncompleteTrackInSession);
         }
-        let last = self.last();
-        if self.blank_tail_only() & (last.fragment.session == 1) {
+        if self.is_blank_disc() {
             return Verdict::refused(self, DriveRefusal::EmptyTrack);
         }
         let plan = Plan::new(self.flush_plan(), Transfer::Nothing);

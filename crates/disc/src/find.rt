@@ -10,7 +10,7 @@ ghost use Prim.Native.Nat.{_+_, _≤_};
 ghost use lib.Dec.{eqb};
 ghost use Rattle.disc.specs.Address.{lba, firstSector};
 ghost use Rattle.disc.specs.Fragment.{firstUnrecorded, complete, pendingIn, isBlank, nextWritable};
-ghost use Rattle.disc.specs.Records.{limit, used, isListed, numbered, lastRecord, tailNext, lastOf, atAddress, writableAt, records, firstOfSession, blankTailOnly};
+ghost use Rattle.disc.specs.Records.{limit, used, isListed, numbered, tailNext, lastOf, atAddress, writableAt, records, firstOfSession, hasBlankTail, blankTailOnly, isBlankDisc};
 
 // The last record in use and its number.
 pub(crate) struct Last {
@@ -157,6 +157,7 @@ impl Disc {
         }
         Found::Nowhere
     }
+
     // The number of a session's first record; one more than the last record's where it has none.
     pub(crate) fn first_of_session(self, session: u8) -> usize
         ensures { λ r. ⌜ r ≡ firstOfSession session 1 (records self) ⌝ }
@@ -175,13 +176,28 @@ impl Disc {
         i + 1
     }
 
+    // The last record is a tail with no block recorded and no sector pending.
+    pub(crate) fn has_blank_tail(self) -> bool
+        ensures { λ r. ⌜ r ≡ hasBlankTail self ⌝ }
+    {
+        let last = self.last();
+        let f = last.fragment;
+        f.is_tail() & self.is_blank(last.number, f)
+    }
+
     // The last session has one record, and that is a blank tail.
     pub(crate) fn blank_tail_only(self) -> bool
         ensures { λ r. ⌜ r ≡ blankTailOnly self ⌝ }
     {
         let last = self.last();
-        last.fragment.is_tail()
-            & self.is_blank(last.number, last.fragment)
-            & (self.first_of_session(last.fragment.session) == last.number)
+        self.has_blank_tail() & (self.first_of_session(last.fragment.session) == last.number)
+    }
+
+    // Session 1 has one record, and that is a blank tail.
+    pub(crate) fn is_blank_disc(self) -> bool
+        ensures { λ r. ⌜ r ≡ isBlankDisc self ⌝ }
+    {
+        let last = self.last();
+        self.blank_tail_only() & (last.fragment.session == 1)
     }
 }

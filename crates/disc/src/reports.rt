@@ -23,6 +23,14 @@ ghost use Rattle.disc.specs.Reports.{low, high, when, requestSense, read
 // What 52h calls the blocking factor: the sectors that are recorded at once.
 const BLOCKING_FACTOR: u64 = address::SECTORS_PER_BLOCK as u64;
 
+// Bytes of 51h's and 52h's reports behind the two of the length itself.
+const DISC_INFORMATION_REST: u8 = 0x20;
+
+const TRACK_INFORMATION_REST: u8 = 0x22;
+
+// The number that stands for the tail in 52h.
+const TAIL: usize = 0xFF;
+
 // A number's low byte.
 fn low(n: usize) -> u8
     ensures { λ r. ⌜ r ≡ low n ⌝ }
@@ -151,8 +159,7 @@ impl Disc {
         if self.finalized {
             return 2;
         }
-        let last = self.last();
-        if self.blank_tail_only() & (last.fragment.session == 1) {
+        if self.is_blank_disc() {
             return 0;
         }
         1
@@ -166,7 +173,7 @@ impl Disc {
         let sessions = last.fragment.session as usize;
         let first = self.first_of_session(last.fragment.session);
         let mut bytes = [0u8; Reply::LIMIT];
-        bytes[1] = 0x20;
+        bytes[1] = DISC_INFORMATION_REST;
         bytes[2] = 4 * self.session_state() + self.disc_status();
         bytes[3] = 1;
         bytes[4] = low(sessions);
@@ -230,7 +237,7 @@ impl Disc {
         let f = self.numbered(number);
         let session = f.session as usize;
         let mut bytes = [0u8; Reply::LIMIT];
-        bytes[1] = 0x22;
+        bytes[1] = TRACK_INFORMATION_REST;
         bytes[2] = low(number);
         bytes[3] = low(session);
         bytes[5] = 0x04;
@@ -276,7 +283,7 @@ impl Disc {
         requires { ⌜ Ready self ⌝ }
         ensures { λ r. ⌜ r ≡ trackNumbered self allocation number ⌝ }
     {
-        if number == 0xFF {
+        if number == TAIL {
             let last = self.last();
             if last.fragment.is_tail() {
                 return self.track_report(last.number, allocation);

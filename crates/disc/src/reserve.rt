@@ -8,23 +8,12 @@ use crate::verdict::Plan;
 use crate::verdict::Reply;
 use crate::verdict::Verdict;
 ghost use mathlib.Core.Path.{_≡_};
-ghost use mathlib.Core.Bool.{true};
-ghost use Prim.Native.Nat.{_≤_, _<_};
-ghost use Rattle.disc.specs.Records.{limit, used, lastRecord, hasBlankTail};
-ghost use Rattle.disc.specs.Fragment.{end, nextFragmentStart};
+ghost use Prim.Native.Nat.{_<_};
+ghost use Rattle.disc.specs.Records.{used};
 ghost use Rattle.disc.specs.Ready.{Ready};
-ghost use Rattle.disc.specs.Reserve.{reservedAt, Splitting, splitTail, reserve};
+ghost use Rattle.disc.specs.Reserve.{Splitting, splitTail, reserve};
 
 impl Disc {
-    // The last record is a tail with no block recorded and no sector pending.
-    pub(crate) fn has_blank_tail(self) -> bool
-        ensures { λ r. ⌜ r ≡ hasBlankTail self ⌝ }
-    {
-        let last = self.last();
-        let f = last.fragment;
-        f.is_tail() & self.is_blank(last.number, f)
-    }
-
     // The disc whose blank tail is a reserved fragment of so many blocks with a tail behind it.
     pub(crate) fn split_tail(self, blocks: u32) -> Disc
         requires { ⌜ Splitting self blocks ⌝ }

@@ -100,7 +100,7 @@ impl Verdict {
     pub(crate) fn accepted(after: Disc, recorded: u32, reply: Reply, plan: Plan) -> Verdict
         ensures { λ r. ⌜ r ≡ accepted after recorded reply plan ⌝ }
     {
-        let disc = after.with_sense(Sense::new(0x0, 0x00, 0x00));
+        let disc = after.with_sense(Sense::none());
         Verdict {
             answer: Answer::Accepted,
             disc,

@@ -8,8 +8,7 @@ use borrow.Author.Tests.{eqb-true}
 use types.Run.{OneOf, miss}
 use denote.Enum.Declared.{tagOf}
 use lib.Dec.{eqb}
-use lib.ListN.{length, getD, drop, length-take, length-drop}
-use lib.Seq.{getD-take, getD-drop}
+use lib.ListN.{length, drop, length-take}
 use Rattle.disc.proofs.command.Command as command
 use Rattle.disc.proofs.verdict.Transfer as transfer
 use Rattle.disc.specs.Types.{Lba, Disc, Transfer, Nothing, Send, Gather, Fill, Command, TestUnitReady, RequestSense, ReadCapacity, Read, Write, SynchronizeCache, ReserveTrack, CloseTrackSession, ReadDiscInformation, ReadTrackInformation, Unlisted}
@@ -112,11 +111,3 @@ run-of d b medium r e =
           sent-readable d a n medium k (rw y at h))
           (λ t. absurd (let y : r ≡ [] = rw t at e in let z : 2048 * k < 0 = rw y at h in omega arith));
     }
-
--- a stretch within the medium, by its length and byte by byte
-module _ (a : Lba) (n : ℕ) (medium : List ℕ) (fits : 2048 * (a .0 + n) ≤ length medium) where
-  pub stretch-length : length (stretch a n medium) ≡ 2048 * n
-  stretch-length = simp (length-take, length-drop) (omega arith)
-
-  pub stretch-at : (i : ℕ) → i < 2048 * n → getD (stretch a n medium) i 0 ≡ getD medium (2048 * a .0 + i) 0
-  stretch-at i h = rw (getD-take, getD-drop)

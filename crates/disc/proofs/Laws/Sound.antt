@@ -1,4 +1,4 @@
--- What a sound list gives beyond its rules: fragments lie apart, there is one tail, next writable addresses differ, and the recorded
+-- What a sound list gives beyond its rules: fragments lie apart, next writable addresses differ, and the recorded
 -- blocks fit the disc.
 use Prim.Native.Nat.{ℕ, zero, suc, _+_, _≤_, _<_}
 use mathlib.Core.Path.{_≡_, refl, _∙_, ap}
@@ -12,7 +12,7 @@ use lib.Dec.{eqb, leb}
 use lib.ListN.{length}
 use Rattle.disc.specs.Types.{Fragment, Disc}
 use Rattle.disc.specs.Address.{firstSector}
-use Rattle.disc.specs.Fragment.{end, complete, isTail, pendingIn, nextWritable}
+use Rattle.disc.specs.Fragment.{end, complete, pendingIn, nextWritable}
 use Rattle.disc.specs.Records.{listed, records, used, sumRecorded, every}
 use Rattle.disc.specs.Sound.{isZero, usedFirst, follows, followsFrom, inOrder, endsWithin, recordedWithin}
 use Rattle.disc.specs.Rules.{at, Follows, Sound}
@@ -91,10 +91,6 @@ module _ (d : Disc) (s : Sound d) where
       (λ h. absurd (omega (arith, starts-rise i j h hj)))
       (λ h. h)
       (λ h. absurd (omega (arith, starts-rise j i h hi)))
-
-  -- there is one tail at the most, and it is the last record
-  pub one-tail : (i j : ℕ) → i < used d → j < used d → isTail (at d i) ≡ true → isTail (at d j) ≡ true → i ≡ j
-  one-tail i j hi hj a b = omega (arith, s .tail i hi a .0, s .tail j hj b .0)
 
   -- an incomplete record has a block to record, and fewer sectors pending than that block has
   pub incomplete-room : (i : ℕ) → i < used d → complete (at d i) ≡ false → at d i .recorded < at d i .length

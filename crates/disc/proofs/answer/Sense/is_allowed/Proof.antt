@@ -3,8 +3,8 @@ use borrow.Author.Needs.{needs}
 use Rattle.disc.proofs.answer.Sense.is_allowed.Statement.{statement}
 use Rattle.disc.proofs.answer.Sense.is_allowed.Tie as tie
 
-new-requires : tie.Need-new-requires
-new-requires c κs = search needs
+none-requires : tie.Need-none-requires
+none-requires c κs = search needs
 
 is-requires : tie.Need-is-requires
 is-requires c κs = search needs
@@ -70,13 +70,13 @@ is-requires-11 : tie.Need-is-requires-11
 is-requires-11 c κs = search needs
 
 returns : tie.Need-returns
-returns c = rw (c .is11 .ensures, c .before .sense10 .ensures, c .before .before .is10 .ensures, c .before .before .before .sense9 .ensures, c .before .before .before .before .is9 .ensures, c .before .before .before .before .before .sense8 .ensures, c .before .before .before .before .before .before .is8 .ensures, c .before .before .before .before .before .before .before .sense7 .ensures, c .before .before .before .before .before .before .before .before .is7 .ensures, c .before .before .before .before .before .before .before .before .before .sense6 .ensures, c .before .before .before .before .before .before .before .before .before .before .is6 .ensures, c .before .before .before .before .before .before .before .before .before .before .before .sense5 .ensures, c .before .before .before .before .before .before .before .before .before .before .before .before .is5 .ensures, c .before .before .before .before .before .before .before .before .before .before .before .before .before .sense4 .ensures, c .before .before .before .before .before .before .before .before .before .before .before .before .before .before .is4 .ensures, c .before .before .before .before .before .before .before .before .before .before .before .before .before .before .before .sense3 .ensures, c .before .before .before .before .before .before .before .before .before .before .before .before .before .before .before .before .is3 .ensures, c .before .before .before .before .before .before .before .before .before .before .before .before .before .before .before .before .before .sense2 .ensures, c .before .before .before .before .before .before .before .before .before .before .before .before .before .before .before .before .before .before .is2 .ensures, c .before .before .before .before .before .before .before .before .before .before .before .before .before .before .before .before .before .before .before .sense .ensures, c .before .before .before .before .before .before .before .before .before .before .before .before .before .before .before .before .before .before .before .before .is .ensures, c .before .before .before .before .before .before .before .before .before .before .before .before .before .before .before .before .before .before .before .before .before .new .ensures) (allowed-row (c .before .before .before .before .before .before .before .before .before .before .before .before .before .before .before .before .before .before .before .before .before .before .args .self))
+returns c = rw (c .is11 .ensures, c .before .sense10 .ensures, c .before .before .is10 .ensures, c .before .before .before .sense9 .ensures, c .before .before .before .before .is9 .ensures, c .before .before .before .before .before .sense8 .ensures, c .before .before .before .before .before .before .is8 .ensures, c .before .before .before .before .before .before .before .sense7 .ensures, c .before .before .before .before .before .before .before .before .is7 .ensures, c .before .before .before .before .before .before .before .before .before .sense6 .ensures, c .before .before .before .before .before .before .before .before .before .before .is6 .ensures, c .before .before .before .before .before .before .before .before .before .before .before .sense5 .ensures, c .before .before .before .before .before .before .before .before .before .before .before .before .is5 .ensures, c .before .before .before .before .before .before .before .before .before .before .before .before .before .sense4 .ensures, c .before .before .before .before .before .before .before .before .before .before .before .before .before .before .is4 .ensures, c .before .before .before .before .before .before .before .before .before .before .before .before .before .before .before .sense3 .ensures, c .before .before .before .before .before .before .before .before .before .before .before .before .before .before .before .before .is3 .ensures, c .before .before .before .before .before .before .before .before .before .before .before .before .before .before .before .before .before .sense2 .ensures, c .before .before .before .before .before .before .before .before .before .before .before .before .before .before .before .before .before .before .is2 .ensures, c .before .before .before .before .before .before .before .before .before .before .before .before .before .before .before .before .before .before .before .sense .ensures, c .before .before .before .before .before .before .before .before .before .before .before .before .before .before .before .before .before .before .before .before .is .ensures, c .before .before .before .before .before .before .before .before .before .before .before .before .before .before .before .before .before .before .before .before .before .none .ensures) (allowed-row (c .before .before .before .before .before .before .before .before .before .before .before .before .before .before .before .before .before .before .before .before .before .before .args .self))
 
 pub is-allowed-spec : {M : Type 1} → statement M
 is-allowed-spec =
     tie.close
     (tie.spec
-    new-requires
+    none-requires
     is-requires
     sense-requires
     is-requires-2

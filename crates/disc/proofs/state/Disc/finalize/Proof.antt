@@ -27,17 +27,18 @@ refused-requires c κs = search needs
 returns-2 : tie.Need-returns-2
 returns-2 c = rw (c .refused .ensures) (sym (finalize-incomplete (c .before .before .before .before .before .args .self) (c .before .before .before .before .if1 .left) (rw (c .before .before .before .flush .ensures) at (sym (c .before .before .has-incomplete-reserved .ensures) ∙ c .before .if2 .taken))))
 
-last-requires : tie.Need-last-requires
-last-requires c κs = search needs
-
-blank-tail-only-requires : tie.Need-blank-tail-only-requires
-blank-tail-only-requires c κs = search needs
+is-blank-disc-requires : tie.Need-is-blank-disc-requires
+is-blank-disc-requires c κs = search needs
 
 refused-requires-2 : tie.Need-refused-requires-2
 refused-requires-2 c κs = search needs
 
 returns-3 : tie.Need-returns-3
-returns-3 c = rw (c .refused2 .ensures) (sym (finalize-blank (c .before .before .before .before .before .before .before .before .before .args .self) (c .before .before .before .before .before .before .before .before .if1 .left) (rw (c .before .before .before .before .before .before .before .flush .ensures) at (sym (c .before .before .before .before .before .before .has-incomplete-reserved .ensures) ∙ c .before .before .before .before .before .if2 .left)) (rw (c .before .before .before .blank-tail-only .ensures, c .before .before .before .before .last .ensures) at (c .before .if3 .taken))))
+returns-3 c =
+    rw (c .refused2 .ensures)
+    (sym
+    (finalize-blank (c .before .before .before .before .before .before .before .args .self) (c .before .before .before .before .before .before .if1 .left) (rw (c .before .before .before .before .before .flush .ensures) at (sym (c .before .before .before .before .has-incomplete-reserved .ensures) ∙ c .before .before .before .if2 .left))
+    (sym (c .before .before .is-blank-disc .ensures) ∙ c .before .if3 .taken)))
 
 flush-plan-requires : tie.Need-flush-plan-requires
 flush-plan-requires c κs = search needs
@@ -46,7 +47,7 @@ new-requires : tie.Need-new-requires
 new-requires c κs = search needs
 
 close-tail-requires : tie.Need-close-tail-requires
-close-tail-requires c κs = rw (c .before .before .before .before .before .before .before .before .flush .ensures) (flush-ready (c .before .before .before .before .before .before .before .before .before .before .args .self) (c .before .before .before .before .before .before .before .before .before .before .pre))
+close-tail-requires c κs = rw (c .before .before .before .before .before .before .flush .ensures) (flush-ready (c .before .before .before .before .before .before .before .before .args .self) (c .before .before .before .before .before .before .before .before .pre))
 
 as-finalized-requires : tie.Need-as-finalized-requires
 as-finalized-requires c κs = search needs
@@ -62,8 +63,19 @@ accepted-requires c κs = search needs
 
 returns-4 : tie.Need-returns-4
 returns-4 c =
-    rw (c .accepted .ensures, c .before .none2 .ensures, c .before .before .flush-count .ensures, c .before .before .before .as-finalized .ensures, c .before .before .before .before .close-tail .ensures, c .before .before .before .before .before .new .ensures, c .before .before .before .before .before .before .flush-plan .ensures, c .before .before .before .before .before .before .before .before .before .before .before .before .before .flush .ensures)
-    (sym (finalize-done (c .before .before .before .before .before .before .before .before .before .before .before .before .before .before .before .args .self) (c .before .before .before .before .before .before .before .before .before .before .before .before .before .before .if1 .left) (rw (c .before .before .before .before .before .before .before .before .before .before .before .before .before .flush .ensures) at (sym (c .before .before .before .before .before .before .before .before .before .before .before .before .has-incomplete-reserved .ensures) ∙ c .before .before .before .before .before .before .before .before .before .before .before .if2 .left)) (c .before .before .before .before .before .before .before .before .before .before .before .before .before .before .before .pre) (rw (c .before .before .before .before .before .before .before .before .before .blank-tail-only .ensures, c .before .before .before .before .before .before .before .before .before .before .last .ensures) at (c .before .before .before .before .before .before .before .if3 .left))))
+    rw (
+      c .accepted .ensures,
+      c .before .none2 .ensures,
+      c .before .before .flush-count .ensures,
+      c .before .before .before .as-finalized .ensures,
+      c .before .before .before .before .close-tail .ensures,
+      c .before .before .before .before .before .new .ensures,
+      c .before .before .before .before .before .before .flush-plan .ensures,
+      c .before .before .before .before .before .before .before .before .before .before .before .flush .ensures,
+    )
+    (sym
+    (finalize-done (c .before .before .before .before .before .before .before .before .before .before .before .before .before .args .self) (c .before .before .before .before .before .before .before .before .before .before .before .before .if1 .left) (rw (c .before .before .before .before .before .before .before .before .before .before .before .flush .ensures) at (sym (c .before .before .before .before .before .before .before .before .before .before .has-incomplete-reserved .ensures) ∙ c .before .before .before .before .before .before .before .before .before .if2 .left)) (c .before .before .before .before .before .before .before .before .before .before .before .before .before .pre)
+    (sym (c .before .before .before .before .before .before .before .before .is-blank-disc .ensures) ∙ c .before .before .before .before .before .before .before .if3 .left)))
 
 pub finalize-spec : {M : Type 1} → statement M
 finalize-spec =
@@ -76,8 +88,7 @@ finalize-spec =
     has-incomplete-reserved-requires
     refused-requires
     returns-2
-    last-requires
-    blank-tail-only-requires
+    is-blank-disc-requires
     refused-requires-2
     returns-3
     flush-plan-requires

@@ -2,7 +2,7 @@
 use Prim.Native.Nat.{ℕ, _≤_}
 use mathlib.Core.Path.{_≡_, refl, ap, _∙_}
 use mathlib.Core.Bool.{false}
-use mathlib.Core.List.{List}
+use mathlib.Core.List.{List, []}
 use native.Mathlib.Omega.{arith}
 use Rattle.disc.specs.Answer.{isRefusalSense, allowedSense}
 use Rattle.disc.specs.Address.{lba}
@@ -19,11 +19,12 @@ use Rattle.disc.specs.Reserve.{splitTail, reserve}
 use Rattle.disc.specs.Close.{appendTail, closeIncomplete, closeFragment, close}
 use Rattle.disc.specs.Judge.{perform, judgeCommand, judge}
 use Rattle.disc.specs.Verdict.{accepted, accept, refuse, refuseLink}
+use Rattle.drive.specs.Bytes.{zeros}
 use Rattle.drive.specs.Step.{Drive}
 use Rattle.history.specs.Types.{Disc, Write, SynchronizeCache}
 use Rattle.history.specs.Sequence.{Start, final}
 use Rattle.history.specs.Examples.{steady}
-use Rattle.history.specs.Account.{Extent, Account, opened, written, flushed, credited, account}
+use Rattle.history.specs.Account.{Extent, sectorAt, Account, opened, written, flushed, credited, account}
 use Rattle.history.specs.Kept.{Keeps}
 use Rattle.history.specs.Witness.{Shape, discAfter, firstRun}
 use Rattle.history.proofs.Laws.Served.{start-lent}
@@ -50,6 +51,19 @@ write-figures x = record { accepted = refl; recorded = refl; zeroFilled = refl; 
 pub flush-figures : (x y : List ℕ) → Figures (credited 1 tail SynchronizeCache y (credited 1 tail (Write (lba 0) 20) x opened)) 20 32 12 0
 unfolding credited written flushed
 flush-figures x y = record { accepted = refl; recorded = refl; zeroFilled = refl; pending = refl }
+
+-- what stands at an address then: sector 3 of the data, zeros that the drive put there, and nothing
+pub write-content : (x y : List ℕ) → credited 1 tail SynchronizeCache y (credited 1 tail (Write (lba 0) 20) x opened) .content 3 ≡ sectorAt 3 x
+unfolding credited written flushed
+write-content x y = refl
+
+pub flush-content : (x y : List ℕ) → credited 1 tail SynchronizeCache y (credited 1 tail (Write (lba 0) 20) x opened) .content 25 ≡ zeros 2048
+unfolding credited written flushed
+flush-content x y = refl
+
+pub no-content : (x y : List ℕ) → credited 1 tail SynchronizeCache y (credited 1 tail (Write (lba 0) 20) x opened) .content 32 ≡ []
+unfolding credited written flushed
+no-content x y = refl
 
 -- the list that the example sequence leaves, computed
 abbrev left : Disc

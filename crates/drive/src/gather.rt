@@ -1,31 +1,17 @@
 // A WRITE's sectors: they gather in the pending buffer, and each sixteen of them are recorded.
 use crate::bytes;
 use crate::medium;
-use disc::BLOCK_LENGTH;
 use disc::Block;
 use disc::SECTOR_LENGTH;
 use disc::SECTORS_PER_BLOCK;
 ghost use mathlib.Core.Path.{_≡_};
 ghost use Prim.Native.Nat.{_+_, _*_, _/_, _%_, _^_, _≤_, _<_};
 ghost use lib.ListN.{length, take};
-ghost use Rattle.drive.specs.Bytes.{splice};
 ghost use Rattle.drive.specs.Moves.{gatheredMedium, gatheredPending};
 
-// One more sector behind those held for a block; the sixteenth completes the block, which is then recorded.
-fn gather_sector(medium: &mut [u8], pending: &mut [u8], block: Block, held: usize, sector: &[u8])
-    requires { ⌜ (length (now pending) ≡ 32768) × (held < 16) × (length (now sector) ≡ 2048) × (32768 * (block .0 + (held + 1) / 16) ≤ length (now medium)) ⌝ }
-    ensures medium { λ _. ⌜ now (medium .exit) ≡ gatheredMedium (block .0) held 1 (now (medium .entry)) (now (pending .entry)) (now (sector .entry)) ⌝ }
-    ensures pending { λ _. ⌜ now (pending .exit) ≡ splice (now (pending .entry)) (2048 * held) (now (sector .entry)) ⌝ }
-{
-    bytes::put(pending, SECTOR_LENGTH * held, sector);
-    if held + 1 < SECTORS_PER_BLOCK as usize {
-        return;
-    }
-    medium::record_block(medium, block, pending);
-}
-
-// The next sectors of a WRITE, of those that are left, and how many they are: a whole block that finds the pending buffer empty is recorded
-// from where it stands, and else one sector is gathered. Of the pending bytes only those of the sectors pending then are promised.
+// The next sectors of a WRITE, of those that are left, and how many they are. Where they complete the block, it is recorded: the pending
+// sectors and those of the data, from where they stand. Else all of them are gathered in the pending buffer, of whose bytes only those of
+// the sectors pending then are promised.
 fn gather_next(
     medium: &mut [u8],
     pending: &mut [u8],
@@ -39,15 +25,15 @@ fn gather_next(
     ensures medium { λ r. ⌜ now (medium .exit) ≡ gatheredMedium (block .0) held r (now (medium .entry)) (now (pending .entry)) (take (2048 * r) (now (sectors .entry))) ⌝ }
     ensures pending { λ r. ⌜ take (2048 * ((held + r) % 16)) (now (pending .exit)) ≡ take (2048 * ((held + r) % 16)) (gatheredPending held r (now (pending .entry)) (take (2048 * r) (now (sectors .entry)))) ⌝ }
 {
-    let per_block = SECTORS_PER_BLOCK as usize;
-    if held == 0 {
-        if per_block <= left {
-            medium::record_block(medium, block, &sectors[0..BLOCK_LENGTH]);
-            return per_block;
-        }
+    let held_end = SECTOR_LENGTH * held;
+    let missing = SECTORS_PER_BLOCK as usize - held;
+    if left < missing {
+        bytes::put(pending, held_end, sectors);
+        return left;
     }
-    gather_sector(medium, pending, block, held, &sectors[0..SECTOR_LENGTH]);
-    1
+    let end = SECTOR_LENGTH * missing;
+    medium::record_parts(medium, block, &pending[0..held_end], &sectors[0..end]);
+    missing
 }
 
 // All sectors of a WRITE, behind those held for a block; the pending buffer's bytes past the last one become zero.

@@ -1,10 +1,11 @@
 //! What is timed: a command on a state, on a short list and on a full one.
 
+use crate::buffers::Buffers;
 use compare::{Drive, Linked};
 use gladhamre::blocks::{self, Block};
-use gladhamre::{Lent, State, BLOCK_BYTES, RECORD_LIMIT, SECTOR_BYTES};
+use gladhamre::{State, RECORD_LIMIT, SECTOR_BYTES};
 
-const CAPACITY: u32 = 300;
+pub const CAPACITY: u32 = 300;
 const BLOCK_SECTORS: u32 = 16;
 
 /// Sectors recorded in the tail, enough for the longest READ.
@@ -18,36 +19,6 @@ pub struct Case {
     pub start: State,
     /// The bytes that the command moves.
     pub bytes: usize,
-}
-
-/// The buffers that both drives share.
-pub struct Buffers {
-    pub data: Vec<u8>,
-    pub medium: Vec<u8>,
-    pub pending: Vec<u8>,
-    pub reply: Vec<u8>,
-}
-
-impl Buffers {
-    pub fn new() -> Buffers {
-        Buffers {
-            data: vec![0x5A; CAPACITY as usize * BLOCK_BYTES],
-            medium: vec![0; CAPACITY as usize * BLOCK_BYTES],
-            pending: vec![0; BLOCK_BYTES],
-            reply: vec![0; 64 * SECTOR_BYTES],
-        }
-    }
-
-    /// What is lent for a command.
-    pub fn lend<'a>(&'a mut self, block: &'a Block) -> Lent<'a> {
-        Lent {
-            block,
-            data: &self.data[..blocks::data_length(block)],
-            medium: &mut self.medium,
-            pending: &mut self.pending,
-            reply: &mut self.reply,
-        }
-    }
 }
 
 /// A disc on its way to a state.

@@ -4,10 +4,12 @@
 
 #![forbid(unsafe_code)]
 
+mod buffers;
 mod cases;
 mod measure;
 
-use cases::{cases, Buffers};
+use buffers::Buffers;
+use cases::{cases, CAPACITY};
 use measure::{measure, Spread};
 use std::process::Command;
 
@@ -16,7 +18,7 @@ fn main() {
     println!("{}\n", machine());
     println!("| Command | List | Linked, ns | Ordinary, ns | Ratio | Quartiles | Copy alone, ns |");
     println!("|---|---|---:|---:|---:|---:|---:|");
-    let mut buffers = Buffers::new();
+    let mut buffers = Buffers::new(CAPACITY);
     for case in cases(&mut buffers) {
         if !format!("{} {}", case.name, case.list).contains(&wanted) {
             continue;

@@ -1,6 +1,7 @@
 //! Timing: both drives and a plain copy take turns, so that a disturbance meets all of them.
 
-use crate::cases::{Buffers, Case};
+use crate::buffers::Buffers;
+use crate::cases::Case;
 use compare::{Drive, Linked, Plain};
 use gladhamre::blocks::WRITE;
 use std::hint::black_box;

@@ -37,7 +37,8 @@ fn run() -> Result<ExitCode, String> {
         eprintln!("demo: {wrong} of {answers} answers are not as document 01 says");
         return Ok(ExitCode::FAILURE);
     }
-    println!("All {answers} answers are as document 01 says.");
+    writeln!(io::stdout(), "All {answers} answers are as document 01 says.")
+        .map_err(|error| error.to_string())?;
     Ok(ExitCode::SUCCESS)
 }
 

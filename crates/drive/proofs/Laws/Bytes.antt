@@ -97,6 +97,15 @@ padded-put m x p q hm hx e f =
     let l : length p ≡ 32768 = ap length e ∙ (length-splice m 0 x (omega arith) ∙ hm) in
     f ∙ rw (t, l)
 
+-- the same for what stands in two places
+pub padded-parts :
+    (m x y p p₁ q : List ℕ) → length m ≡ 32768 → length x + length y ≤ 32768 → p ≡ splice m 0 x → p₁ ≡ splice p (length x) y
+    → q ≡ take (length x + length y) p₁ ++ zeros (length p₁ - (length x + length y)) → q ≡ padded (x ++ y)
+padded-parts m x y p p₁ q hm h e d f =
+    let both : p₁ ≡ splice m 0 (x ++ y) = d ∙ (ap (λ (l : List ℕ). splice l (length x) y) e ∙ splice-splice m 0 (length x) x y (omega arith) (omega arith)) in
+    let l : length x + length y ≡ length (x ++ y) = sym (length-append x y) in
+    padded-put m (x ++ y) p₁ q hm (omega (arith, l)) both (rw l at f)
+
 -- one turn of a copy
 copy-suc :
     (s t : List ℕ) (i : ℕ) → i < length s → i < length t → set (take i s ++ drop i t) i (getD s i 0) ≡ take (suc i) s ++ drop (suc i) t

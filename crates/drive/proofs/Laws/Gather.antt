@@ -1,63 +1,47 @@
--- The loop that gathers a WRITE's sectors, a whole block or one of them at a time.
+-- The loop that gathers a WRITE's sectors, a block's or the last ones at a time.
 use mathlib.Core.Path.{_≡_, refl, sym, ap, _∙_}
 use Prim.Native.Nat.{ℕ, _+_, _-_, _*_, _/_, _%_, _≤_, _<_}
-use native.Mathlib.Decide.{decLt}
 use native.Mathlib.Omega.{arith}
 use mathlib.Core.List.{List, [], _++_, append-nil}
 use lib.ListN.{length, take, drop, length-append, length-drop}
 use lib.Seq.{take-add, take-all, length-take-le}
 use Rattle.drive.specs.Bytes.{zeros, splice, padded}
 use Rattle.drive.specs.Moves.{stream, gatheredMedium, gatheredPending}
-use Rattle.drive.proofs.Laws.Bytes.{splice-nil, splice-end, splice-take, padded-whole}
+use Rattle.drive.proofs.Laws.Bytes.{splice-nil, splice-take, padded-whole}
 use Rattle.drive.proofs.Laws.Moves.{length-rest, take-gathered-pending, cut-medium, cut-pending, stale-medium, stale-pending}
 
--- one sector that does not complete the block records nothing
-pub few-medium : (b held : ℕ) (m p x : List ℕ) → held + 1 < 16 → m ≡ gatheredMedium b held 1 m p x
+-- sectors that do not complete the block record nothing
+pub few-medium : (b held k : ℕ) (m p x : List ℕ) → held + k < 16 → m ≡ gatheredMedium b held k m p x
 unfolding gatheredMedium
-few-medium b held m p x few = let e : 32768 * ((held + 1) / 16) ≡ 0 = omega arith in rw e (sym (splice-nil m (32768 * b)))
+few-medium b held k m p x few = let e : 32768 * ((held + k) / 16) ≡ 0 = omega arith in rw e (sym (splice-nil m (32768 * b)))
 
--- the sixteenth records the block
-pub full-medium :
-    (b held : ℕ) (m p x q : List ℕ) → length p ≡ 32768 → length x ≡ 2048 → held < 16 → 16 ≤ held + 1 → q ≡ splice p (2048 * held) x
-    → splice m (32768 * b) (padded q) ≡ gatheredMedium b held 1 m p x
-unfolding gatheredMedium stream
-full-medium b held m p x q hp hx below full e =
-    let whole : q ≡ take (2048 * held) p ++ x = e ∙ splice-end p (2048 * held) x (omega arith) in
-    let l : length (take (2048 * held) p ++ x) ≡ 32768 =
-    length-append (take (2048 * held) p) x ∙ omega (arith, length-take-le (2048 * held) p (omega arith)) in
-    ap (splice m (32768 * b))
-    (padded-whole q (ap length whole ∙ l) ∙ (whole ∙ sym (take-all (32768 * ((held + 1) / 16)) (take (2048 * held) p ++ x) (omega arith))))
-
--- a whole block with none pending is recorded as it stands
-pub block-medium :
-    (b held : ℕ) (m p x : List ℕ) → held ≡ 0 → length x ≡ 32768 → splice m (32768 * b) (padded x) ≡ gatheredMedium b held 16 m p x
-unfolding gatheredMedium stream
-block-medium b held m p x none whole =
-    let k : 32768 * ((held + 16) / 16) ≡ 32768 = omega arith in
-    let z : 2048 * held ≡ 0 = omega arith in
-    ap (splice m (32768 * b)) (padded-whole x whole ∙ rw (k, z) (sym (take-all 32768 x (omega arith))))
-
--- and leaves none pending
-pub block-pending :
-    (held : ℕ) (p q : List ℕ) → held ≡ 0 → take (2048 * ((held + 16) % 16)) p ≡ take (2048 * ((held + 16) % 16)) q
-block-pending held p q none = let z : 2048 * ((held + 16) % 16) ≡ 0 = omega arith in rw z refl
-
--- the sectors pending after one more
-pub sector-pending :
-    (held : ℕ) (p x q : List ℕ) → length p ≡ 32768 → length x ≡ 2048 → held < 16 → q ≡ splice p (2048 * held) x
-    → take (2048 * ((held + 1) % 16)) q ≡ take (2048 * ((held + 1) % 16)) (gatheredPending held 1 p x)
+-- and are pending behind those held
+pub few-pending :
+    (held k : ℕ) (p x q : List ℕ) → 2048 * held ≤ length p → length x ≡ 2048 * k → held + k < 16 → q ≡ splice p (2048 * held) x
+    → take (2048 * ((held + k) % 16)) q ≡ take (2048 * ((held + k) % 16)) (gatheredPending held k p x)
 unfolding stream
-sector-pending held p x q hp hx below e =
-    elim (decLt (held + 1) 16) [
-      | yes few ↦
-          let k : 2048 * ((held + 1) % 16) ≡ 2048 * held + length x = omega arith in
-          let z : 32768 * ((held + 1) / 16) ≡ 0 = omega arith in
-          let t : take (2048 * ((held + 1) % 16)) q ≡ take (2048 * held) p ++ x =
-          rw (k, e) (splice-take p (2048 * held) x (omega arith)) in
-          let d : drop (32768 * ((held + 1) / 16)) (take (2048 * held) p ++ x) ≡ take (2048 * held) p ++ x = rw z refl in
-          t ∙ sym (take-gathered-pending held 1 p x (omega arith) hx ∙ d)
-      | no full ↦ let z : 2048 * ((held + 1) % 16) ≡ 0 = omega arith in rw z refl
-    ]
+few-pending held k p x q hp hx few e =
+    let n : 2048 * ((held + k) % 16) ≡ 2048 * held + length x = omega arith in
+    let z : 32768 * ((held + k) / 16) ≡ 0 = omega arith in
+    let t : take (2048 * ((held + k) % 16)) q ≡ take (2048 * held) p ++ x = rw (n, e) (splice-take p (2048 * held) x hp) in
+    let d : drop (32768 * ((held + k) / 16)) (take (2048 * held) p ++ x) ≡ take (2048 * held) p ++ x = rw z refl in
+    t ∙ sym (take-gathered-pending held k p x hp hx ∙ d)
+
+-- the sectors that complete the block: it is recorded
+pub full-medium :
+    (b held k : ℕ) (m p x : List ℕ) → 2048 * held ≤ length p → length x ≡ 2048 * k → held + k ≡ 16
+    → splice m (32768 * b) (padded (take (2048 * held) p ++ x)) ≡ gatheredMedium b held k m p x
+unfolding gatheredMedium stream
+full-medium b held k m p x hp hx full =
+    let n : 32768 * ((held + k) / 16) ≡ 32768 = omega arith in
+    let l : length (take (2048 * held) p ++ x) ≡ 32768 =
+    length-append (take (2048 * held) p) x ∙ omega (arith, length-take-le (2048 * held) p hp) in
+    ap (splice m (32768 * b)) (padded-whole (take (2048 * held) p ++ x) l ∙ rw n (sym (take-all 32768 (take (2048 * held) p ++ x) (omega arith))))
+
+-- and none are pending
+pub full-pending :
+    (held k : ℕ) (p q : List ℕ) → held + k ≡ 16 → take (2048 * ((held + k) % 16)) p ≡ take (2048 * ((held + k) % 16)) q
+full-pending held k p q full = let z : 2048 * ((held + k) % 16) ≡ 0 = omega arith in rw z refl
 
 -- i of the sectors x are gathered: what is recorded, and which sectors are pending (the bytes past them are free)
 pub record Gathered (b held i : ℕ) (m p x medium pending : List ℕ) : Type 0 where

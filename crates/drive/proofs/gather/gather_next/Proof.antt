@@ -1,86 +1,103 @@
 use mathlib.Core.Path.{_≡_, refl, sym, _∙_, ap}
 use native.Mathlib.Omega.{arith}
+use Prim.Native.Nat.{_-_, _*_}
 use lib.ListN.{length, take}
-use lib.Seq.{length-take-le}
+use lib.Seq.{take-all, length-take-le}
 use Rattle.drive.specs.Moves.{gatheredPending}
-use Rattle.drive.proofs.Laws.Gather.{block-medium, block-pending, sector-pending}
+use Rattle.drive.proofs.Laws.Gather.{few-medium, few-pending, full-medium, full-pending}
 use borrow.Author.Needs.{needs}
 use Rattle.drive.proofs.gather.gather_next.Statement.{statement}
 use Rattle.drive.proofs.gather.gather_next.Tie as tie
 use Rattle.drive.proofs.gather.gather_next.Reads as reads
 use Rattle.drive.proofs.gather.gather_next.Lts as lts
-use Rattle.drive.proofs.gather.gather_sector.Reads as gather-sector-reads
-use Rattle.drive.proofs.medium.record_block.Reads as record-block-reads
+use Rattle.drive.proofs.bytes.put.Reads as put-reads
+use Rattle.drive.proofs.medium.record_parts.Reads as record-parts-reads
 
--- src/gather.rt:42:21
-cast-per-block : tie.Need-cast-per-block
-cast-per-block c = search needs
+-- src/gather.rt:28:20
+mul-held-end : tie.Need-mul-held-end
+mul-held-end c = search needs
 
--- src/gather.rt:45:49
-sub-record-block : tie.Need-sub-record-block
-sub-record-block c = search needs
+-- src/gather.rt:29:19
+cast-missing : tie.Need-cast-missing
+cast-missing c = search needs
 
--- src/gather.rt:45:49
-part-record-block-start : tie.Need-part-record-block-start
-part-record-block-start c = search needs
+-- src/gather.rt:29:19
+sub-missing : tie.Need-sub-missing
+sub-missing c = search needs
 
--- src/gather.rt:45:49
-part-record-block-end : tie.Need-part-record-block-end
-part-record-block-end c = search needs
+-- src/gather.rt:31:9
+put-requires : tie.Need-put-requires
+put-requires c κs = search needs
 
--- src/gather.rt:45:13
-record-block-requires : tie.Need-record-block-requires
-record-block-requires c κs = (omega (arith, length-take-le 32768 (c .before .before .before .before .before .before .before .args .sectors .now) (omega arith)), omega arith)
-
--- src/gather.rt:46:13
+-- src/gather.rt:32:9
 same-length : tie.Need-same-length
 same-length c = search needs
 
--- src/gather.rt:46:13
+-- src/gather.rt:32:9
 returns : tie.Need-returns
 returns c =
-    let s = c .before .before .before .before .before .before .before .before .before .before .args in
-    let l : length (take 32768 (s .sectors .now)) ≡ 32768 = length-take-le 32768 (s .sectors .now) (omega arith) in (
+    let s = c .before .before .before .before .before .before .before .before .args in
+    let all : take (2048 * s .left) (s .sectors .now) ≡ s .sectors .now = take-all (2048 * s .left) (s .sectors .now) (omega arith) in (
       (omega arith, omega arith),
       (
-        c .before .before .record-block .ensures ∙ block-medium (s .block .0) (s .held) (s .medium .now) (s .pending .now) (take 32768 (s .sectors .now)) (omega arith) l,
-        block-pending (s .held) (s .pending .now) (gatheredPending (s .held) 16 (s .pending .now) (take 32768 (s .sectors .now))) (omega arith),
+        few-medium (s .block .0) (s .held) (s .left) (s .medium .now) (s .pending .now) (take (2048 * s .left) (s .sectors .now)) (omega arith),
+        rw all (few-pending (s .held) (s .left) (s .pending .now) (s .sectors .now) (c .before .before .put .last .0) (omega arith) (omega arith) (omega arith) (c .before .before .put .ensures)),
       ),
     )
 
--- src/gather.rt:49:49
-sub-gather-sector : tie.Need-sub-gather-sector
-sub-gather-sector c = search needs
+-- src/gather.rt:34:15
+mul-end : tie.Need-mul-end
+mul-end c = search needs
 
--- src/gather.rt:49:49
-part-gather-sector-start : tie.Need-part-gather-sector-start
-part-gather-sector-start c = search needs
+-- src/gather.rt:35:41
+sub-record-parts : tie.Need-sub-record-parts
+sub-record-parts c = search needs
 
--- src/gather.rt:49:49
-part-gather-sector-end : tie.Need-part-gather-sector-end
-part-gather-sector-end c = search needs
+-- src/gather.rt:35:41
+part-record-parts-start : tie.Need-part-record-parts-start
+part-record-parts-start c = search needs
 
--- src/gather.rt:49:5
-gather-sector-requires : tie.Need-gather-sector-requires
-gather-sector-requires c κs = search needs
+-- src/gather.rt:35:41
+part-record-parts-end : tie.Need-part-record-parts-end
+part-record-parts-end c = search needs
 
--- src/gather.rt:29:1
+-- src/gather.rt:35:64
+sub-record-parts-2 : tie.Need-sub-record-parts-2
+sub-record-parts-2 c = search needs
+
+-- src/gather.rt:35:64
+part-record-parts-start-2 : tie.Need-part-record-parts-start-2
+part-record-parts-start-2 c = search needs
+
+-- src/gather.rt:35:64
+part-record-parts-end-2 : tie.Need-part-record-parts-end-2
+part-record-parts-end-2 c = search needs
+
+-- src/gather.rt:35:5
+record-parts-requires : tie.Need-record-parts-requires
+record-parts-requires c κs = search needs
+
+-- src/gather.rt:15:1
 same-length-2 : tie.Need-same-length-2
 same-length-2 c = search needs
 
--- src/gather.rt:29:1
+-- src/gather.rt:15:1
 same-length-3 : tie.Need-same-length-3
 same-length-3 c = search needs
 
--- src/gather.rt:29:1
+-- src/gather.rt:15:1
 returns-2 : tie.Need-returns-2
 returns-2 c =
-    let s = c .before .before .before .before .before .before .before .before .before .before .before .before .args in
-    let l : length (take 2048 (s .sectors .now)) ≡ 2048 = length-take-le 2048 (s .sectors .now) (omega arith) in (
+    let s = c .before .before .before .before .before .before .before .before .before .before .before .args in
+    let k = 16 - s .held in
+    let x = take (2048 * k) (s .sectors .now) in
+    let f : 2048 * s .held - 0 ≡ 2048 * s .held = omega arith in
+    let g : 2048 * k - 0 ≡ 2048 * k = omega arith in
+    let l : length x ≡ 2048 * k = length-take-le (2048 * k) (s .sectors .now) (omega arith) in (
       (omega arith, omega arith),
       (
-        c .before .before .before .before .gather-sector .ensures .0,
-        sector-pending (s .held) (s .pending .now) (take 2048 (s .sectors .now)) (c .before .before .before .before .gather-sector .last .1 .0) (omega arith) l (omega arith) (c .before .before .before .before .gather-sector .ensures .1),
+        (rw (f, g) at (c .before .before .record-parts .ensures)) ∙ full-medium (s .block .0) (s .held) k (s .medium .now) (s .pending .now) x (omega arith) l (omega arith),
+        full-pending (s .held) k (s .pending .now) (gatheredPending (s .held) k (s .pending .now) x) (omega arith),
       ),
     )
 
@@ -88,17 +105,20 @@ pub gather-next-spec : {M : Type 1} → statement M
 gather-next-spec =
     tie.close
     (tie.spec
-    cast-per-block
-    sub-record-block
-    part-record-block-start
-    part-record-block-end
-    record-block-requires
+    mul-held-end
+    cast-missing
+    sub-missing
+    put-requires
     same-length
     returns
-    sub-gather-sector
-    part-gather-sector-start
-    part-gather-sector-end
-    gather-sector-requires
+    mul-end
+    sub-record-parts
+    part-record-parts-start
+    part-record-parts-end
+    sub-record-parts-2
+    part-record-parts-start-2
+    part-record-parts-end-2
+    record-parts-requires
     same-length-2
     same-length-3
     returns-2)

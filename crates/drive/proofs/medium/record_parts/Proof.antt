@@ -1,0 +1,66 @@
+use mathlib.Core.Path.{_≡_, refl, sym, _∙_, ap}
+use native.Mathlib.Omega.{arith}
+use Rattle.drive.proofs.Laws.Bytes.{put-splice, length-padded}
+use mathlib.Core.List.{_++_}
+use lib.ListN.{length-append}
+use Prim.Native.Nat.{_+_, _*_}
+use borrow.Author.Needs.{needs}
+use Rattle.drive.proofs.medium.record_parts.Statement.{statement}
+use Rattle.drive.proofs.medium.record_parts.Tie as tie
+use Rattle.drive.proofs.medium.record_parts.Reads as reads
+use Rattle.drive.proofs.medium.record_parts.Lts as lts
+use Rattle.drive.proofs.medium.write_block.Reads as write-block-reads
+
+-- src/medium.rt:31:32
+cast-from : tie.Need-cast-from
+cast-from c = search needs
+
+-- src/medium.rt:31:16
+mul-from : tie.Need-mul-from
+mul-from c = search needs
+
+-- src/medium.rt:32:14
+add-to : tie.Need-add-to
+add-to c = search needs
+
+-- src/medium.rt:33:17
+sub-write-block : tie.Need-sub-write-block
+sub-write-block c = search needs
+
+-- src/medium.rt:33:17
+part-write-block-start : tie.Need-part-write-block-start
+part-write-block-start c = search needs
+
+-- src/medium.rt:33:17
+part-write-block-end : tie.Need-part-write-block-end
+part-write-block-end c = search needs
+
+-- src/medium.rt:33:5
+write-block-requires : tie.Need-write-block-requires
+write-block-requires c κs = search needs
+
+-- src/medium.rt:27:1
+same-length : tie.Need-same-length
+same-length c = search needs
+
+-- src/medium.rt:27:1
+returns : tie.Need-returns
+returns c =
+    let s = c .before .before .before .before .before .before .before .before .args in
+    let x = s .front .now ++ s .rest .now in
+    let l = length-padded x (omega (arith, length-append (s .front .now) (s .rest .now))) in
+    put-splice (s .medium .now) (32768 * s .block .0) (32768 * s .block .0 + 32768) (c .before .before .write-block .ensures) (omega (arith, l))
+
+pub record-parts-spec : {M : Type 1} → statement M
+record-parts-spec =
+    tie.close
+    (tie.spec
+    cast-from
+    mul-from
+    add-to
+    sub-write-block
+    part-write-block-start
+    part-write-block-end
+    write-block-requires
+    same-length
+    returns)

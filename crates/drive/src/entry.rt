@@ -50,7 +50,10 @@ fn carry_out(
     reply: &mut [u8],
 ) -> Response
     requires { ⌜ Feasible verdict (drive disc (now medium) (now pending)) (request (now block) (now «data») (now reply)) ⌝ }
-    ensures { λ r. ⌜ CarriedOut verdict (drive disc (now (medium .entry)) (now (pending .entry))) (request (now (block .entry)) (now («data» .entry)) (now (reply .entry))) r (now (medium .exit)) (now (pending .exit)) (now (reply .exit)) ⌝ }
+    ensures { λ r.
+        ⌜ CarriedOut verdict (drive disc (now (medium .entry)) (now (pending .entry)))
+        (request (now (block .entry)) (now («data» .entry)) (now (reply .entry)))
+        r (now (medium .exit)) (now (pending .exit)) (now (reply .exit)) ⌝ }
 {
     let plan = verdict.plan;
     let sent = plan.transfer;
@@ -75,7 +78,10 @@ pub fn command(
     pending: &mut [u8],
     reply: &mut [u8],
 ) -> Response
-    ensures { λ r. ⌜ Answered (drive disc (now (medium .entry)) (now (pending .entry))) (request (now (block .entry)) (now («data» .entry)) (now (reply .entry))) r (now (medium .exit)) (now (pending .exit)) (now (reply .exit)) ⌝ }
+    ensures { λ r.
+        ⌜ Answered (drive disc (now (medium .entry)) (now (pending .entry)))
+        (request (now (block .entry)) (now («data» .entry)) (now (reply .entry)))
+        r (now (medium .exit)) (now (pending .exit)) (now (reply .exit)) ⌝ }
 {
     if block.len() != COMMAND_LENGTH {
         return Response::refused(disc, LinkRefusal::CommandBlockLength);

@@ -73,7 +73,11 @@ pub extern "C" fn gladhamre_command(
     count: &mut u64,
     recorded: &mut u64,
 ) -> u32
-    ensures { λ r. ⌜ Faced (lending (now (state .entry)) (now (medium .entry)) (now (pending .entry))) (request (now (block .entry)) (now («data» .entry)) (now (reply .entry))) r (now (count .exit)) (now (recorded .exit)) (now (state .exit)) (now (medium .exit)) (now (pending .exit)) (now (reply .exit)) ⌝ }
+    ensures { λ r.
+        ⌜ Faced (lending (now (state .entry)) (now (medium .entry)) (now (pending .entry)))
+        (request (now (block .entry)) (now («data» .entry)) (now (reply .entry)))
+        r (now (count .exit)) (now (recorded .exit))
+        (now (state .exit)) (now (medium .exit)) (now (pending .exit)) (now (reply .exit)) ⌝ }
 {
     *count = 0;
     *recorded = 0;

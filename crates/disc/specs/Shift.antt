@@ -20,7 +20,7 @@ use Rattle.disc.specs.Write.{flushOthers, flushOthersPlan, gather, write
 use Rattle.disc.specs.Reserve.{splitTail, reserve}
 use Rattle.disc.specs.Close.{appendTail, closeIncomplete, closeFragment, closeTail, openSession, closeSession, finalize, close}
 use Rattle.disc.specs.Reports.{senseBytes, requestSense, readCapacity, sessionState, discStatus, discInformation, readDiscInformation, nextWritableOrZero, freeSectors, trackInformation, trackReport, trackFound, trackNumbered, readTrackInformation}
-use Rattle.disc.specs.Judge.{testUnitReady, perform, judgeCommand, judge}
+use Rattle.disc.specs.Judge.{testUnitReady, perform, judgeCommand, judge, judgeAsAsked}
 
 -- what a command shows: the answer's number, the blocks recorded, the reply, and of the disc after it the sense, the tail's next
 -- writable address (0 without a tail), the pending count and the records in use
@@ -50,7 +50,7 @@ shown v =
 unfoldable pub run : Disc → List (List ℕ) → List Shown
 run d [] = []
 run d (b ∷ bs) =
-    let v = judge d b (dataLength (decode b)) (replyRoom (decode b)) in
+    let v = judgeAsAsked d b in
     shown v ∷ run (v .disc) bs
 
 -- a line of the table: the command block and what it must show

@@ -4,3 +4,4 @@ pub mod Text
 pub mod Line
 pub mod Replay
 pub mod Input
+pub mod Transcript

@@ -3,7 +3,7 @@ use mathlib.Core.Path.{_≡_, refl, sym, ap, _∙_}
 use mathlib.Core.Bool.{true, false}
 use Prim.Native.Nat.{ℕ, _+_, _-_, _≤_, _<_}
 use native.Mathlib.Omega.{arith}
-use mathlib.Core.List.{List, [], _∷_, _++_}
+use mathlib.Core.List.{List, [], _∷_, _++_, append-assoc}
 use lib.ListN.{length, drop, length-drop}
 use types.Run.{OneOf, miss}
 use denote.Enum.Declared.{tagOf}
@@ -14,7 +14,8 @@ use Rattle.trace.proofs.Laws.Whole.{record-found, whole-next, whole-stop}
 use Rattle.trace.proofs.Laws.Parts.{in-parts}
 use Rattle.playback.specs.Types.{Reading, Record, BadMark, CutShort, End, Step, Line, Replay, Played}
 use Rattle.playback.specs.Line.{lineOf, Printed}
-use Rattle.playback.specs.Replay.{onward, played, replayed, lastText, Plays}
+use Rattle.playback.specs.Replay.{lineText, onward, played, replayed, lastText, Plays}
+use Rattle.playback.specs.Transcript.{lines}
 use Rattle.playback.specs.Input.{Stopped}
 use Rattle.playback.proofs.Laws.Lines.{printed}
 
@@ -41,6 +42,21 @@ pub replayed-parts :
     → replayed r (wholeBlocks (a ++ b)) ≡ replayed (replayed r (wholeBlocks a)) (wholeBlocks (drop (wholeEnd a) a ++ b))
 replayed-parts r a b =
     ap (replayed r) (in-parts a b .blocks) ∙ replayed-append r (wholeBlocks a) (wholeBlocks (drop (wholeEnd a) a ++ b))
+
+-- and their lines
+lines-append : (r : Replay) (bs cs : List (List ℕ)) → lines r (bs ++ cs) ≡ lines r bs ++ lines (replayed r bs) cs
+unfolding lines replayed
+lines-append r [] cs = refl
+lines-append r (b ∷ bs) cs =
+    ap (λ (x : List ℕ). lineText r b ++ x) (lines-append (onward r b) bs cs)
+    ∙ sym (append-assoc (lineText r b) (lines (onward r b) bs) (lines (replayed (onward r b) bs) cs))
+
+pub lines-parts :
+    (r : Replay) (a b : List ℕ)
+    → lines r (wholeBlocks (a ++ b))
+    ≡ lines r (wholeBlocks a) ++ lines (replayed r (wholeBlocks a)) (wholeBlocks (drop (wholeEnd a) a ++ b))
+lines-parts r a b =
+    ap (lines r) (in-parts a b .blocks) ∙ lines-append r (wholeBlocks a) (wholeBlocks (drop (wholeEnd a) a ++ b))
 
 -- some records of the bytes held are played, and these are to come
 pub record Playing (held : List ℕ) (before now : Replay) (at : ℕ) : Type 0 where

@@ -4,3 +4,4 @@ pub mod Lines
 pub mod Replays
 pub mod Carry
 pub mod Inputs
+pub mod Served

@@ -32,7 +32,7 @@ impl Replay {
     }
 
     // The command of a record, with data and a reply buffer of the lengths that it asks for.
-    pub fn play(self, block: [u8; 12]) -> Played
+    pub fn play(self, block: [u8; trace::BLOCK_LENGTH]) -> Played
         ensures { λ r. ⌜ Plays self block r ⌝ }
     {
         let verdict = self.disc.judge_as_asked(&block);

@@ -1,7 +1,7 @@
 // The record that stands at a position of a trace.
 ghost use mathlib.Core.Path.{_≡_};
 ghost use Prim.Native.Nat.{_≤_};
-ghost use lib.ListN.{length, take, drop};
+ghost use lib.ListN.{length};
 ghost use Rattle.trace.specs.Record.{readingOf, blockOf, stopped, stepAt};
 
 // The two bytes in front of a command block.
@@ -11,10 +11,11 @@ const SECOND_MARK: u8 = 0x5A;
 
 const MARK_LENGTH: usize = 2;
 
-const BLOCK_LENGTH: usize = 12;
+// Bytes of a command block.
+pub const BLOCK_LENGTH: usize = 12;
 
 // Bytes of a record: the mark and the command block.
-const RECORD_LENGTH: usize = 14;
+const RECORD_LENGTH: usize = MARK_LENGTH + BLOCK_LENGTH;
 
 // What stands at a position.
 pub enum Reading {
@@ -30,7 +31,7 @@ pub enum Reading {
 // What stands at a position, the command block of a record, else zeros, and the position to go on from: behind a record, else the same.
 pub struct Step {
     pub reading: Reading,
-    pub block: [u8; 12],
+    pub block: [u8; BLOCK_LENGTH],
     pub next: usize,
 }
 
@@ -39,7 +40,7 @@ impl Step {
     fn stopped(reading: Reading, at: usize) -> Step
         ensures { λ r. ⌜ r ≡ stopped reading at ⌝ }
     {
-        let block = [0u8; 12];
+        let block = [0u8; BLOCK_LENGTH];
         Step {
             reading,
             block,
@@ -71,11 +72,11 @@ fn classify(left: &[u8]) -> Reading
 }
 
 // The command block of the record at the front.
-fn block_of(left: &[u8]) -> [u8; 12]
+fn block_of(left: &[u8]) -> [u8; BLOCK_LENGTH]
     requires { ⌜ 14 ≤ length (now left) ⌝ }
     ensures { λ r. ⌜ r ≡ blockOf (now (left .entry)) ⌝ }
 {
-    let mut block = [0u8; 12];
+    let mut block = [0u8; BLOCK_LENGTH];
     let mut i = 0;
     while i < BLOCK_LENGTH {
         block[i] = left[MARK_LENGTH + i];

@@ -6,7 +6,7 @@ use disc::Kind;
 use disc::Sense;
 ghost use mathlib.Core.Path.{_≡_};
 ghost use mathlib.Core.Bool.{true};
-ghost use Prim.Native.Nat.{_+_, _≤_};
+ghost use Prim.Native.Nat.{_+_};
 ghost use lib.ListN.{length, drop};
 ghost use Rattle.gladhamre.specs.Image.{kindOf, kindWord, flagWord, recordOf, recordWords, recordFits, listOf, listWords, listFits, headFits, headWords, decode, encode, isState, StateWords};
 ghost use Rattle.disc.specs.Records.{limit};

@@ -6,7 +6,7 @@ use mathlib.Core.List.{List, [], _∷_}
 use lib.ListN.{length}
 use Rattle.disc.specs.Command.{decode}
 use Rattle.disc.specs.Sound.{allowedState}
-use Rattle.disc.specs.Blank.{inRange, blank}
+use Rattle.disc.specs.Blank.{inRange}
 use Rattle.disc.specs.Lengths.{dataLength, replyRoom}
 use Rattle.disc.specs.Judge.{perform, judgeAsAsked}
 use Rattle.disc.proofs.Laws.Blank.{blank-allowed, blank-capacity}

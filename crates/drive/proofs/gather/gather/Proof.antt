@@ -1,6 +1,6 @@
 use Rattle.drive.proofs.Laws.Gather.{Gathered, gathered-none, gathered-more, gathered-all}
 use borrow.Author.Needs.{needs}
-use mathlib.Core.Path.{_≡_, refl, sym, _∙_, ap}
+use mathlib.Core.Path.{_≡_, refl, _∙_}
 use native.Mathlib.Omega.{arith}
 use Prim.Native.Nat.{_-_, _≤_}
 use lib.ListN.{length}

@@ -1,5 +1,4 @@
-use mathlib.Core.Path.{_≡_, refl, sym, _∙_, ap}
-use native.Mathlib.Omega.{arith}
+use mathlib.Core.Path.{_∙_, ap}
 use Prim.Native.Nat.{ℕ, _*_}
 use mathlib.Core.List.{List, append-nil}
 use Rattle.drive.specs.Bytes.{splice, padded}

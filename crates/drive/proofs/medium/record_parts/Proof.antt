@@ -1,4 +1,3 @@
-use mathlib.Core.Path.{_≡_, refl, sym, _∙_, ap}
 use native.Mathlib.Omega.{arith}
 use Rattle.drive.proofs.Laws.Bytes.{put-splice, length-padded}
 use mathlib.Core.List.{_++_}

@@ -12,7 +12,7 @@ use crate::verdict::Verdict;
 ghost use mathlib.Core.Path.{_≡_};
 ghost use Rattle.disc.specs.Records.{some, records};
 ghost use Rattle.disc.specs.Ready.{Ready};
-ghost use Rattle.disc.specs.Read.{read};
+ghost use Rattle.disc.specs.Read.{sends, read};
 ghost use Rattle.disc.specs.Run.{passes, holdsRun};
 
 impl Lba {
@@ -53,6 +53,16 @@ impl Disc {
             i += 1;
         }
         false
+    }
+
+    // Whether a READ sends the run: it has sectors, ends within the disc and is recorded.
+    pub(crate) fn sends(self, address: Lba, sectors: u32) -> bool
+        requires { ⌜ Ready self ⌝ }
+        ensures { λ r. ⌜ r ≡ sends self address sectors ⌝ }
+    {
+        (sectors != 0)
+            & !address.passes(sectors, Lba(address::sectors_in(self.capacity)))
+            & self.holds_run(address, sectors)
     }
 
     // The run must end within the disc and be recorded.

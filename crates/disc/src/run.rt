@@ -3,7 +3,6 @@ use crate::address::Lba;
 use crate::command::Command;
 use crate::lengths;
 use crate::state::Disc;
-use crate::verdict::Transfer;
 ghost use mathlib.Core.Path.{_≡_};
 ghost use Prim.Native.Nat.{_+_, _*_, _≤_};
 ghost use lib.ListN.{length};
@@ -33,18 +32,15 @@ impl Disc {
             & self.is_allowed()
     }
 
-    // What a READ sends.
+    // What a READ sends: the run, or nothing.
     fn run<'a>(self, address: Lba, sectors: u32, medium: &'a [u8]) -> &'a [u8]
         requires { ⌜ Ready self × (length (now medium) ≡ 32768 * self .capacity) ⌝ }
         ensures { λ r. ⌜ now r ≡ sent (read self address sectors .plan .transfer) (now (medium .entry)) ⌝ }
     {
-        let verdict = self.read(address, sectors);
-        let plan = verdict.plan;
-        let transfer = plan.transfer;
-        match transfer {
-            Transfer::Send { address, sectors } => stretch(address, sectors, medium),
-            _ => &medium[0..0],
+        if self.sends(address, sectors) {
+            return stretch(address, sectors, medium);
         }
+        &medium[0..0]
     }
 
     // The recorded run of an accepted 28h of length 1 up, in place; an empty part for every other input.

@@ -1,39 +1,32 @@
 -- What a READ hands out of the medium: a stretch within it, each of whose sectors is readable.
 use Prim.Native.Nat.{ℕ, _+_, _*_, _≤_, _<_, min}
 use mathlib.Core.Path.{_≡_, refl}
-use mathlib.Core.Bool.{true, _&&_}
+use mathlib.Core.Bool.{Bool, true, cond, not, _&&_}
 use mathlib.Core.List.{List, [], _∷_}
 use native.Mathlib.Omega.{arith}
-use borrow.Author.Tests.{eqb-true}
+use borrow.Author.Tests.{eqb-true, eq-eqb, ltb-false, not-true}
 use types.Run.{OneOf, miss}
 use denote.Enum.Declared.{tagOf}
-use lib.Dec.{eqb}
+use lib.Dec.{eqb, ltb}
 use lib.ListN.{length, drop, length-take}
 use Rattle.disc.proofs.command.Command as command
 use Rattle.disc.proofs.verdict.Transfer as transfer
-use Rattle.disc.specs.Types.{Lba, Disc, Transfer, Nothing, Send, Gather, Fill, Command, TestUnitReady, RequestSense, ReadCapacity, Read, Write, SynchronizeCache, ReserveTrack, CloseTrackSession, ReadDiscInformation, ReadTrackInformation, Unlisted}
+use Rattle.disc.specs.Types.{Lba, Disc, Command, TestUnitReady, RequestSense, ReadCapacity, Read, Write, SynchronizeCache, ReserveTrack, CloseTrackSession, ReadDiscInformation, ReadTrackInformation, Unlisted}
 use Rattle.disc.specs.Address.{lba, sectorsIn}
-use Rattle.disc.specs.Records.{readable}
+use Rattle.disc.specs.Records.{some, records, readable}
+use Rattle.disc.specs.Rules.{Sound}
 use Rattle.disc.specs.Sound.{sound, allowedState}
 use Rattle.disc.specs.Answer.{allowedSense}
 use Rattle.disc.specs.Blank.{inRange}
 use Rattle.disc.specs.Ready.{Ready}
-use Rattle.disc.specs.Read.{read}
-use Rattle.disc.specs.Run.{stretch, sent, sentBy, served, recordedRun, RunOf}
+use Rattle.disc.specs.Read.{allReadable, sends, read}
+use Rattle.disc.specs.Verdict.{accepted, accept, refuse}
+use Rattle.disc.specs.Run.{holdsRun, stretch, sent, sentBy, served, recordedRun, RunOf}
 use Rattle.disc.proofs.Laws.Bool.{and-left, and-right, by-cases}
-use Rattle.disc.proofs.Laws.Read.{all-readable-at, transfer-cases}
+use Rattle.disc.proofs.Laws.Read.{all-readable-at, run-test, transfer-cases}
+use Rattle.disc.proofs.Laws.Numbers.{equal-cases}
 
--- transfers and commands that send nothing, by their places among the variants
-abbrev pub withoutSending : List ℕ
-withoutSending = 0 ∷ 2 ∷ 3 ∷ []
-
-pub no-sending : (t : Transfer) (medium : List ℕ) → OneOf withoutSending (tagOf transfer.the-type t) → sent t medium ≡ []
-unfolding sent
-no-sending Nothing medium h = refl
-no-sending (Send a n) medium h = absurd (miss withoutSending 1 tt h)
-no-sending (Gather b p n) medium h = refl
-no-sending (Fill b n) medium h = refl
-
+-- commands that send nothing, by their places among the variants
 abbrev pub withoutRun : List ℕ
 withoutRun = 0 ∷ 1 ∷ 2 ∷ 4 ∷ 5 ∷ 6 ∷ 7 ∷ 8 ∷ 9 ∷ 10 ∷ []
 
@@ -77,13 +70,29 @@ module _ (d : Disc) (b m : ℕ) (e : served d b m ≡ true) where
             (and-left (eqb b 12 && inRange (d .capacity)) (eqb m (32768 * d .capacity)) served-whole);
       }
 
--- what it sends lies on the medium
-pub sends-within :
-    (d : Disc) (a b : Lba) (n m : ℕ) → read d a n .plan .transfer ≡ Send b m → b .0 + m ≤ sectorsIn (d .capacity)
-sends-within d a b n m e =
-    transfer-cases d a n
-    (λ h. absurd (let z : _≡_ {A = ℕ} 0 1 = cc in omega arith))
-    (λ h l r. let p : a ≡ b = cc in let q : n ≡ m = cc in rw (← p, ← q) l)
+-- what it sends, by the test that the code makes; the run then lies on the medium
+pub sent-by : (d : Disc) (a : Lba) (n : ℕ) (medium : List ℕ) → sent (read d a n .plan .transfer) medium ≡ cond (sends d a n) (stretch a n medium) []
+unfolding read accept accepted refuse sent
+sent-by d a n medium =
+    by-cases (eqb n 0) (λ z. rw z)
+    (λ z.
+    by-cases (ltb (sectorsIn (d .capacity)) (a .0 + n)) (λ p. rw (z, p))
+    (λ p. by-cases (allReadable d a n) (λ r. rw (z, p, r)) (λ r. rw (z, p, r))))
+
+-- the code's test: one fragment has the whole run
+pub test-sends :
+    (d : Disc) (a : Lba) (n : ℕ) (p h : Bool) → Sound d → p ≡ ltb (sectorsIn (d .capacity)) (a .0 + n) → h ≡ some (holdsRun a n) (records d)
+    → (not (eqb n 0) && not p && h) ≡ sends d a n
+test-sends d a n p h s e f =
+    equal-cases n 0 (λ z. rw (eq-eqb n 0 z)) (λ z. rw (e, f, run-test d s a n (below-one z)))
+  where
+    below-one : {k : ℕ} → (k ≡ 0 → ⊥) → 1 ≤ k
+    below-one z = omega arith
+
+pub sends-within : (d : Disc) (a : Lba) (n : ℕ) → sends d a n ≡ true → a .0 + n ≤ sectorsIn (d .capacity)
+sends-within d a n t =
+    let p = ltb (sectorsIn (d .capacity)) (a .0 + n) in
+    ltb-false _ _ (not-true p (and-right (not (eqb n 0)) (not p) (and-left (not (eqb n 0) && not p) (allReadable d a n) t)))
 
 -- every sector of what it sends is readable
 pub sent-readable :

@@ -1,29 +1,23 @@
-use mathlib.Core.Path.{_≡_, sym}
-use Rattle.disc.specs.Types.{Send}
-use Rattle.disc.specs.Read.{read}
-use Rattle.disc.specs.Run.{sent}
-use Rattle.disc.proofs.Laws.Run.{sends-within, no-sending}
+use mathlib.Core.Path.{sym, _∙_}
+use Rattle.disc.specs.Read.{sends}
+use Rattle.disc.specs.Run.{stretch}
+use Rattle.disc.proofs.Laws.Bool.{cond-yes, cond-no}
+use Rattle.disc.proofs.Laws.Run.{sent-by, sends-within}
 use native.Mathlib.Omega.{arith}
 use borrow.Author.Needs.{needs}
 use Rattle.disc.proofs.state.Disc.run.Statement.{statement}
 use Rattle.disc.proofs.state.Disc.run.Tie as tie
 
-read-requires : tie.Need-read-requires
-read-requires c κs = search needs
-
-enum-known-transfer : tie.Need-enum-known-transfer
-enum-known-transfer c = search needs
+sends-requires : tie.Need-sends-requires
+sends-requires c κs = search needs
 
 stretch-requires : tie.Need-stretch-requires
 stretch-requires c κs =
-    let start = c .before .before .before .before .before .before in
-    let d = start .args .self in
-    let a = start .args .address in
-    let n = start .args .sectors in
-    let b = c .before .transfer .given .0 .0 in
-    let m = c .before .transfer .given .0 .1 .0 in
-    let e : read d a n .plan .transfer ≡ Send b m = rw (← c .before .before .before .before .read .ensures) (c .before .transfer .given .1) in
-    omega (arith, start .pre .1, sends-within d a b n m e)
+    omega (arith, c .before .before .before .pre .1, sends-within (c .before .before .before .args .self) (c .before .before .before .args .address) (c .before .before .before .args .sectors) (sym (c .before .sends .ensures) ∙ c .if1 .taken))
+
+returns : tie.Need-returns
+returns c =
+    rw (c .stretch .ensures) (sym (sent-by _ _ _ _ ∙ cond-yes _ _ _ (sym (c .before .before .sends .ensures) ∙ c .before .if1 .taken)))
 
 sub-result : tie.Need-sub-result
 sub-result c = search needs
@@ -34,22 +28,10 @@ part-result-start c = search needs
 part-result-end : tie.Need-part-result-end
 part-result-end c = search needs
 
-returns : tie.Need-returns
-unfolding sent
-returns c = simp (c .stretch .ensures, ← c .before .before .before .before .before .read .ensures, c .before .before .transfer .given .1)
-
 returns-2 : tie.Need-returns-2
-returns-2 c = rw (← c .before .before .before .read .ensures) (sym (no-sending _ _ (c .before .match .keys2)))
+returns-2 c = sym (sent-by _ _ _ _ ∙ cond-no _ _ _ (sym (c .before .before .sends .ensures) ∙ c .before .if1 .left))
 
 pub run-spec : {M : Type 1} → statement M
 run-spec =
     tie.close
-    (tie.spec
-    read-requires
-    enum-known-transfer
-    stretch-requires
-    sub-result
-    part-result-start
-    part-result-end
-    returns
-    returns-2)
+    (tie.spec sends-requires stretch-requires returns sub-result part-result-start part-result-end returns-2)

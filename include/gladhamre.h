@@ -94,6 +94,8 @@ uint32_t gladhamre_command(
  * Buffers. All belong to the caller and are lent for the call alone. No two of them may overlap, reply_count and recorded included. A
  * pointer is never null and is aligned for its type, also where the length is 0. Nothing else may touch them during a call.
  *
+ * Linking. The archive calls memcpy and memset. A call takes about 27 KB of stack, as measured with every command; no proof bounds it.
+ *
  * Across power loss. Image, medium and pending buffer together are the disc. Keep all three as a call leaves them before its answer goes
  * out on the bus: a command that was answered must be found again. First the medium: to the old image the new blocks are unrecorded,
  * so a loss here leaves the old disc, and the command can be given again. Then image and pending buffer, which belong together, as one:

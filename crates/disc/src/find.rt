@@ -9,7 +9,7 @@ ghost use mathlib.Core.Bool.{cond, not, _&&_};
 ghost use Prim.Native.Nat.{_+_, _≤_};
 ghost use lib.Dec.{eqb};
 ghost use Rattle.disc.specs.Address.{lba, firstSector};
-ghost use Rattle.disc.specs.Fragment.{firstUnrecorded, complete, pendingIn, isBlank, nextWritable};
+ghost use Rattle.disc.specs.Fragment.{firstUnrecorded, complete, isTail, pendingIn, isBlank, nextWritable};
 ghost use Rattle.disc.specs.Records.{limit, used, isListed, numbered, tailNext, lastOf, atAddress, writableAt, records, firstOfSession, hasBlankTail, blankTailOnly, isBlankDisc};
 
 // The last record in use and its number.
@@ -176,13 +176,19 @@ impl Disc {
         i + 1
     }
 
-    // The last record is a tail with no block recorded and no sector pending.
+    // The last record, given with its number, is a tail with no block recorded and no sector pending.
+    fn is_blank_tail(self, last: Last) -> bool
+        ensures { λ r. ⌜ r ≡ (isTail (last .fragment) && isBlank self (last .number) (last .fragment)) ⌝ }
+    {
+        let f = last.fragment;
+        f.is_tail() & self.is_blank(last.number, f)
+    }
+
+    // There is such a record.
     pub(crate) fn has_blank_tail(self) -> bool
         ensures { λ r. ⌜ r ≡ hasBlankTail self ⌝ }
     {
-        let last = self.last();
-        let f = last.fragment;
-        f.is_tail() & self.is_blank(last.number, f)
+        self.is_blank_tail(self.last())
     }
 
     // The last session has one record, and that is a blank tail.
@@ -190,7 +196,7 @@ impl Disc {
         ensures { λ r. ⌜ r ≡ blankTailOnly self ⌝ }
     {
         let last = self.last();
-        self.has_blank_tail() & (self.first_of_session(last.fragment.session) == last.number)
+        self.is_blank_tail(last) & (self.first_of_session(last.fragment.session) == last.number)
     }
 
     // Session 1 has one record, and that is a blank tail.

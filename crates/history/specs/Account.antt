@@ -1,5 +1,5 @@
 -- What the history says of each fragment: a fold over the commands that were accepted, by document 01's rules. Of the disc it is told where
--- the fragments lie; recorded blocks, zero-filled sectors and the pending count of the state it never sees.
+-- the fragments lie and nothing else: not W, not F, not the pending count.
 use Prim.Native.Nat.{ℕ, _+_, _-_, _*_, _/_, _%_}
 use mathlib.Core.Bool.{Bool, false, cond, _&&_}
 use mathlib.Core.List.{List, [], _∷_}

@@ -22,5 +22,3 @@ pub mod Reports
 pub mod Judge
 pub mod Recorded
 pub mod Lent
-pub mod Shift
-pub mod Examples

@@ -4,15 +4,15 @@ use mathlib.Core.Path.{_≡_, refl}
 use mathlib.Core.Bool.{Bool, true, false}
 use mathlib.Core.List.{List, [], _∷_, _++_, map}
 use lib.ListN.{length, replicate, set}
-use Rattle.disc.specs.Types.{Reserved, Appended, Fragment, Disc, Verdict}
+use Rattle.examples.specs.Types.{Reserved, Appended, Fragment, Disc, Verdict}
 use Rattle.disc.specs.Answer.{sense, noSense, number, isRefusalSense, allowedSense}
 use Rattle.disc.specs.Fragment.{fragment, unusedRecord}
 use Rattle.disc.specs.Records.{limit, listed, records, used, lastRecord, some, every, sumRecorded, firstOfSession}
 use Rattle.disc.specs.Sound.{usedFirst, firstAtZero, followsFrom, inOrder, endsWithin, recordedWithin, zeroedWithin, incompleteLast, tailLast, tailOrFull, pendingNamed, finalizedComplete, sound, allowedState}
 use Rattle.disc.specs.Verdict.{accepted, accept, refuse}
 use Rattle.disc.specs.Flush.{flush, flushPlan, flushCount, synchronizeCache}
 use Rattle.disc.specs.Reserve.{splitTail, reserve}
 use Rattle.disc.specs.Close.{appendTail, closeIncomplete, closeFragment, closeTail, openSession, closeSession}
 
 -- every rule of L3 by itself, in the order of `sound`, and last the sense
 unfoldable pub rules : Disc → List Bool

@@ -5,22 +5,22 @@ use mathlib.Core.Path.{_≡_, refl}
 use mathlib.Core.Bool.{cond}
 use mathlib.Core.List.{List, [], _∷_, map}
 use lib.ListN.{take, replicate}
-use Rattle.disc.specs.Types.{Sense, Reserved, Appended, Fragment, Disc, Verdict}
+use Rattle.examples.specs.Types.{Sense, Reserved, Appended, Fragment, Disc, Verdict}
 use Rattle.disc.specs.Answer.{sense, number, isRefusalSense, allowedSense}
 use Rattle.disc.specs.Command.{decode}
 use Rattle.disc.specs.Fragment.{fragment, nextWritable}
 use Rattle.disc.specs.Records.{records, used, lastRecord, hasTail, listed, some, every, find, sumRecorded, lastReadable, firstOfSession}
 use Rattle.disc.specs.Sound.{usedFirst, firstAtZero, followsFrom, inOrder, endsWithin, recordedWithin, zeroedWithin, incompleteLast, tailLast, tailOrFull, pendingNamed, finalizedComplete, sound, allowedState}
 use Rattle.disc.specs.Blank.{blank}
 use Rattle.disc.specs.Lengths.{dataLength, replyRoom, lengthsFit}
 use Rattle.disc.specs.Verdict.{accepted, accept, refuse, refuseLink}
 use Rattle.disc.specs.Flush.{flush, flushPlan, synchronizeCache}
 use Rattle.disc.specs.Read.{allReadable, read}
 use Rattle.disc.specs.Write.{flushOthers, flushOthersPlan, gather, writeTo, writeFound, write}
 use Rattle.disc.specs.Reserve.{splitTail, reserve}
 use Rattle.disc.specs.Close.{appendTail, closeIncomplete, closeFragment, closeTail, openSession, closeSession, finalize, close}
 use Rattle.disc.specs.Reports.{senseBytes, requestSense, readCapacity, sessionState, discStatus, discInformation, readDiscInformation, nextWritableOrZero, freeSectors, trackInformation, trackReport, trackFound, trackNumbered, readTrackInformation}
 use Rattle.disc.specs.Judge.{testUnitReady, perform, judgeCommand, judge, judgeAsAsked}
 
 -- what a command shows: the answer's number, the blocks recorded, the reply, and of the disc after it the sense, the tail's next
 -- writable address (0 without a tail), the pending count and the records in use

@@ -1,0 +1,4 @@
+-- Examples that the definitions of `disc` compute. A reader starts at Shift, document 01's own.
+pub mod Types
+pub mod Shift
+pub mod States

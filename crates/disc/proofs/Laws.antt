@@ -1,7 +1,4 @@
 -- One file a topic, named as in specs/.
-pub mod Bool
-pub mod Numbers
-pub mod Answer
 pub mod Records
 pub mod Check
 pub mod Rules
@@ -12,7 +9,6 @@ pub mod Onward
 pub mod Blank
 pub mod Recorded
 pub mod Plan
-pub mod Lengths
 pub mod Verdict
 pub mod Flush
 pub mod Write

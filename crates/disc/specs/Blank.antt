@@ -6,10 +6,10 @@ use mathlib.Core.List.{_∷_}
 use lib.ListN.{replicate}
 use lib.Dec.{leb}
 use Rattle.disc.specs.Types.{Disc, Blank, Accepted, Link, MediumSize}
-use Rattle.disc.specs.Answer.{number, noSense}
-use Rattle.disc.specs.Address.{block}
-use Rattle.disc.specs.Fragment.{unusedRecord, tailFrom}
-use Rattle.disc.specs.Records.{limit}
+use Rattle.protocol.specs.Answer.{number, noSense}
+use Rattle.fragments.specs.Address.{block}
+use Rattle.fragments.specs.Fragment.{unusedRecord, tailFrom}
+use Rattle.fragments.specs.List.{limit}
 
 -- the capacities that a disc can have
 abbrev pub inRange : ℕ → Bool

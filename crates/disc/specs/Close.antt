@@ -3,10 +3,12 @@ use Prim.Native.Nat.{ℕ, _+_, _-_, _≤_, _<_}
 use mathlib.Core.Bool.{Bool, true, cond, not, _&&_, _||_}
 use lib.Dec.{eqb, ltb}
 use Rattle.disc.specs.Types.{Kind, Reserved, Appended, Fragment, Disc, Nothing, Fill, Verdict, InvalidFieldInCommand, IncompleteTrackInSession, EmptyTrack, NoMoreReservations, EndOfUserArea}
-use Rattle.disc.specs.Address.{sectorsIn}
-use Rattle.disc.specs.Fragment.{unusedRecord, end, firstUnrecorded, complete, isBlank, isIncompleteReserved, nextFragmentStart, nextSessionStart, tailFrom}
-use Rattle.disc.specs.Records.{limit, records, used, isListed, numbered, lastRecord, withRecord, hasTail, hasBlankTail, some, blankTailOnly, isBlankDisc}
-use Rattle.disc.specs.Verdict.{accept, refuse, noReply, noPlan, plan}
+use Rattle.fragments.specs.Address.{sectorsIn}
+use Rattle.fragments.specs.Fragment.{unusedRecord, end, firstUnrecorded, complete, isIncompleteReserved, nextFragmentStart, nextSessionStart, tailFrom}
+use Rattle.disc.specs.Records.{isBlank, records, used, isListed, numbered, lastRecord, withRecord, hasTail, hasBlankTail, blankTailOnly, isBlankDisc}
+use Rattle.fragments.specs.List.{limit, some}
+use Rattle.disc.specs.Verdict.{accept, refuse, noPlan, plan}
+use Rattle.protocol.specs.Reply.{noReply}
 use Rattle.disc.specs.Flush.{flush, flushPlan}
 
 -- every block not yet recorded is recorded as zeros

@@ -3,10 +3,12 @@ use Prim.Native.Nat.{ℕ, _+_, _-_}
 use mathlib.Core.Bool.{cond}
 use lib.ListN.{set}
 use lib.Dec.{eqb}
-use Rattle.disc.specs.Types.{Fragment, Disc, Flush, Skip, Record, Nothing, Verdict}
-use Rattle.disc.specs.Fragment.{firstUnrecorded}
+use Rattle.disc.specs.Types.{Fragment, Disc, Flush, Skip, Record, Nothing, Flushed, Verdict}
+use Rattle.fragments.specs.Address.{missing}
+use Rattle.fragments.specs.Fragment.{firstUnrecorded}
 use Rattle.disc.specs.Records.{numbered}
-use Rattle.disc.specs.Verdict.{accept, noReply, plan}
+use Rattle.disc.specs.Verdict.{accept, plan}
+use Rattle.protocol.specs.Reply.{noReply}
 
 -- the record whose pending block, n sectors of it given, is recorded with zeros for the missing ones
 abbrev pub flushedRecord : ℕ → Fragment → Fragment
@@ -16,7 +18,7 @@ flushedRecord n f =
       start = f .start;
       length = f .length;
       recorded = f .recorded + 1;
-      zeroed = f .zeroed + (16 - n);
+      zeroed = f .zeroed + missing n;
       kind = f .kind;
     }
 
@@ -40,6 +42,10 @@ flushPlan d = cond (eqb (d .pending) 0) Skip (Record (firstUnrecorded (numbered 
 -- and the number of blocks that it records
 unfoldable pub flushCount : Disc → ℕ
 flushCount d = cond (eqb (d .pending) 0) 0 1
+
+-- the three together
+abbrev pub afterFlush : Disc → Flushed
+afterFlush d = record { disc = flush d; plan = flushPlan d; recorded = flushCount d }
 
 -- 35h flushes and does nothing else
 unfoldable pub synchronizeCache : Disc → Verdict

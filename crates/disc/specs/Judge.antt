@@ -5,13 +5,14 @@ use mathlib.Core.Path.{_≡_}
 use mathlib.Core.List.{List}
 use lib.ListN.{length}
 use lib.Dec.{eqb}
-use Rattle.disc.specs.Answer.{number}
+use Rattle.protocol.specs.Answer.{number}
 use Rattle.disc.specs.Types.{Disc, Verdict, Command, TestUnitReady, RequestSense, ReadCapacity, Read, Write, SynchronizeCache, ReserveTrack, CloseTrackSession, ReadDiscInformation, ReadTrackInformation, Unlisted, InvalidOperationCode, CommandBlockLength, MediumSize, UnsoundState, TransferLength}
-use Rattle.disc.specs.Command.{decode}
+use Rattle.protocol.specs.Command.{decode}
 use Rattle.disc.specs.Sound.{allowedState}
 use Rattle.disc.specs.Blank.{inRange}
-use Rattle.disc.specs.Lengths.{dataLength, replyRoom, lengthsFit}
-use Rattle.disc.specs.Verdict.{accept, refuse, refuseLink, noReply, noPlan}
+use Rattle.protocol.specs.Lengths.{dataLength, replyRoom, lengthsFit}
+use Rattle.disc.specs.Verdict.{accept, refuse, refuseLink, noPlan}
+use Rattle.protocol.specs.Reply.{noReply}
 use Rattle.disc.specs.Flush.{synchronizeCache}
 use Rattle.disc.specs.Read.{read}
 use Rattle.disc.specs.Write.{write}

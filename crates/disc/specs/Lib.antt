@@ -1,16 +1,10 @@
 -- Document 01's disc as definitions, one topic a file. A reader starts at Judge and follows the names.
 pub mod Types
-pub mod Address
-pub mod Answer
-pub mod Command
-pub mod Fragment
 pub mod Records
 pub mod Sound
-pub mod Check
 pub mod Rules
 pub mod Blank
 pub mod Ready
-pub mod Lengths
 pub mod Verdict
 pub mod Flush
 pub mod Read

@@ -3,9 +3,10 @@ use Prim.Native.Nat.{ℕ, zero, suc, _+_}
 use mathlib.Core.Bool.{Bool, true, cond, not, _&&_}
 use lib.Dec.{eqb, ltb}
 use Rattle.disc.specs.Types.{Lba, Disc, Skip, Send, Verdict, AddressOutOfRange, BlankCheck}
-use Rattle.disc.specs.Address.{lba, sectorsIn}
+use Rattle.fragments.specs.Address.{lba, sectorsIn}
 use Rattle.disc.specs.Records.{readable}
-use Rattle.disc.specs.Verdict.{accept, refuse, noReply, noPlan, plan}
+use Rattle.disc.specs.Verdict.{accept, refuse, noPlan, plan}
+use Rattle.protocol.specs.Reply.{noReply}
 
 -- every one of n sectors from an address on is readable
 unfoldable pub allReadable : Disc → Lba → ℕ → Bool

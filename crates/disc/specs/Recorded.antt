@@ -3,7 +3,7 @@ use Prim.Native.Nat.{ℕ, _+_, _/_, _%_}
 use mathlib.Core.Bool.{Bool, false, _&&_, _||_}
 use lib.Dec.{eqb, leb, ltb}
 use Rattle.disc.specs.Types.{Flush, Skip, Record, Transfer, Nothing, Send, Gather, Fill, Plan, Disc}
-use Rattle.disc.specs.Fragment.{firstUnrecorded}
+use Rattle.fragments.specs.Fragment.{firstUnrecorded}
 use Rattle.disc.specs.Records.{numbered}
 
 -- k is one of n blocks from block b on

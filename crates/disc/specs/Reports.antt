@@ -4,12 +4,14 @@ use mathlib.Core.Bool.{Bool, cond, not}
 use mathlib.Core.List.{List, [], _∷_, _++_}
 use lib.ListN.{replicate}
 use lib.Dec.{eqb}
-use Rattle.disc.specs.Types.{Sense, Disc, Found, Number, Nowhere, Verdict, InvalidFieldInCommand, AddressOutOfRange}
-use Rattle.disc.specs.Address.{lba, sectorsIn, firstSector}
-use Rattle.disc.specs.Fragment.{end, complete, isReserved, isBlank, nextWritable, lastRecorded}
-use Rattle.disc.specs.Records.{records, used, isListed, numbered, lastRecord, hasTail, atAddress, lastReadable, firstOfSession, blankTailOnly, isBlankDisc}
-use Rattle.disc.specs.Lengths.{capacityLength}
-use Rattle.disc.specs.Verdict.{accept, refuse, report, noPlan}
+use Rattle.disc.specs.Types.{Lba, Sense, Disc, Found, Number, Nowhere, Verdict, InvalidFieldInCommand, AddressOutOfRange}
+use Rattle.fragments.specs.Address.{lba, sectorsIn, firstSector}
+use Rattle.fragments.specs.Fragment.{end, complete, isReserved, lastRecorded}
+use Rattle.disc.specs.Records.{isBlank, nextWritable, records, used, isListed, numbered, lastRecord, hasTail, atAddress, blankTailOnly, isBlankDisc}
+use Rattle.fragments.specs.List.{lastReadable, firstOfSession}
+use Rattle.protocol.specs.Lengths.{capacityLength}
+use Rattle.disc.specs.Verdict.{accept, refuse, noPlan}
+use Rattle.protocol.specs.Reply.{report}
 
 -- a number's low byte and the one above it
 abbrev pub low : ℕ → ℕ
@@ -36,7 +38,7 @@ requestSense d allocation = accept d d (report (senseBytes (d .sense)) allocatio
 
 -- 25h: the last readable address, or 0, and the size of a sector
 unfoldable pub readCapacity : Disc → Verdict
-readCapacity d = accept d d (report (bytes32 (lastReadable (records d)) ++ bytes32 2048) capacityLength) noPlan
+readCapacity d = accept d d (report (bytes32 (lastReadable (records d) .0) ++ bytes32 2048) capacityLength) noPlan
 
 -- 51h: the state of the last session: 0 with only a blank tail, 3 on a finalized disc, else 1
 unfoldable pub sessionState : Disc → ℕ
@@ -62,8 +64,8 @@ readDiscInformation d dataType allocation =
     cond (eqb dataType 0) (accept d d (report (discInformation d) allocation) noPlan) (refuse d InvalidFieldInCommand)
 
 -- 52h, of the fragment n: its next writable address and the sectors from there to its end, each 0 if it is complete
-unfoldable pub nextWritableOrZero : Disc → ℕ → ℕ
-nextWritableOrZero d n = cond (complete (numbered d n)) 0 (nextWritable d n (numbered d n) .0)
+unfoldable pub nextWritableOrZero : Disc → ℕ → Lba
+nextWritableOrZero d n = cond (complete (numbered d n)) (lba 0) (nextWritable d n (numbered d n))
 
 unfoldable pub freeSectors : Disc → ℕ → ℕ
 freeSectors d n =
@@ -76,8 +78,8 @@ trackInformation d n =
     let f = numbered d n in
     (0x00 ∷ 0x22 ∷ low n ∷ low (f .session) ∷ 0 ∷ 0x04 ∷ (0x01 + when (isReserved (f .kind)) 0x80 + when (isBlank d n f) 0x40)
     ∷ (when (not (eqb (f .recorded) 0)) 0x02 + when (not (complete f)) 0x01) ∷ [])
-    ++ bytes32 (firstSector (f .start) .0) ++ bytes32 (nextWritableOrZero d n) ++ bytes32 (freeSectors d n) ++ bytes32 16
-    ++ bytes32 (sectorsIn (f .length)) ++ bytes32 (lastRecorded f) ++ (high n ∷ high (f .session) ∷ 0 ∷ 0 ∷ [])
+    ++ bytes32 (firstSector (f .start) .0) ++ bytes32 (nextWritableOrZero d n .0) ++ bytes32 (freeSectors d n) ++ bytes32 (sectorsIn 1)
+    ++ bytes32 (sectorsIn (f .length)) ++ bytes32 (lastRecorded f .0) ++ (high n ∷ high (f .session) ∷ 0 ∷ 0 ∷ [])
 
 unfoldable pub trackReport : Disc → ℕ → ℕ → Verdict
 trackReport d allocation n = accept d d (report (trackInformation d n) allocation) noPlan

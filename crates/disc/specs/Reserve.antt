@@ -3,10 +3,12 @@ use Prim.Native.Nat.{ℕ, _+_, _≤_, _<_}
 use mathlib.Core.Bool.{cond, not}
 use lib.Dec.{eqb, leb}
 use Rattle.disc.specs.Types.{Fragment, Reserved, Disc, Verdict, WriteProtected, InvalidFieldInCommand, NoMoreReservations, EndOfUserArea}
-use Rattle.disc.specs.Address.{blocksFor}
-use Rattle.disc.specs.Fragment.{end, nextFragmentStart, tailFrom}
-use Rattle.disc.specs.Records.{limit, used, lastRecord, withRecord, hasBlankTail}
-use Rattle.disc.specs.Verdict.{accept, refuse, noReply, noPlan}
+use Rattle.fragments.specs.Address.{blocksFor}
+use Rattle.fragments.specs.Fragment.{end, nextFragmentStart, tailFrom}
+use Rattle.fragments.specs.List.{limit}
+use Rattle.disc.specs.Records.{used, lastRecord, withRecord, hasBlankTail}
+use Rattle.disc.specs.Verdict.{accept, refuse, noPlan}
+use Rattle.protocol.specs.Reply.{noReply}
 
 -- the reserved fragment of b blocks in the place of the tail f
 abbrev pub reservedAt : Fragment → ℕ → Fragment

@@ -6,9 +6,10 @@ use mathlib.Core.Bool.{true, false}
 use mathlib.Core.Logic.{_⊎_}
 use lib.ListN.{length, getD}
 use Rattle.disc.specs.Types.{Fragment, Disc}
-use Rattle.disc.specs.Address.{sectorsIn}
-use Rattle.disc.specs.Fragment.{unusedRecord, end, complete, isTail, nextFragmentStart, nextSessionStart}
-use Rattle.disc.specs.Records.{limit, used, numbered, lastRecord, hasTail}
+use Rattle.fragments.specs.Address.{sectorsIn}
+use Rattle.fragments.specs.Fragment.{unusedRecord, end, complete, isTail, nextFragmentStart, nextSessionStart}
+use Rattle.fragments.specs.List.{limit}
+use Rattle.disc.specs.Records.{used, numbered, lastRecord, hasTail}
 
 -- the record at an index
 abbrev pub at : Disc → ℕ → Fragment

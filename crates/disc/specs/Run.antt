@@ -6,9 +6,9 @@ use mathlib.Core.List.{List, []}
 use lib.ListN.{length, take, drop}
 use lib.Dec.{eqb, leb, ltb}
 use Rattle.disc.specs.Types.{Lba, Fragment, Disc, Transfer, Nothing, Send, Gather, Fill, Command, TestUnitReady, RequestSense, ReadCapacity, Read, Write, SynchronizeCache, ReserveTrack, CloseTrackSession, ReadDiscInformation, ReadTrackInformation, Unlisted}
-use Rattle.disc.specs.Address.{lba, firstSector}
-use Rattle.disc.specs.Command.{decode}
-use Rattle.disc.specs.Fragment.{firstUnrecorded}
+use Rattle.fragments.specs.Address.{lba, firstSector}
+use Rattle.protocol.specs.Command.{decode}
+use Rattle.fragments.specs.Fragment.{firstUnrecorded}
 use Rattle.disc.specs.Records.{readable}
 use Rattle.disc.specs.Sound.{allowedState}
 use Rattle.disc.specs.Blank.{inRange}

@@ -5,17 +5,13 @@ use mathlib.Core.List.{List, [], _∷_}
 use lib.ListN.{length}
 use lib.Dec.{eqb, leb, ltb}
 use Rattle.disc.specs.Types.{Fragment, Disc}
-use Rattle.disc.specs.Answer.{allowedSense}
-use Rattle.disc.specs.Address.{sectorsIn}
-use Rattle.disc.specs.Fragment.{unused, end, complete, isReserved, isTail, nextFragmentStart, nextSessionStart}
-use Rattle.disc.specs.Records.{limit, records, used, isListed, numbered, lastRecord, hasTail, every}
+use Rattle.protocol.specs.Answer.{allowedSense}
+use Rattle.fragments.specs.Address.{sectorsIn}
+use Rattle.fragments.specs.Fragment.{unused, isZero, end, complete, isTail, nextFragmentStart, nextSessionStart}
+use Rattle.fragments.specs.List.{limit, every}
+use Rattle.disc.specs.Records.{records, used, isListed, numbered, lastRecord, hasTail}
 
--- every field is zero
-abbrev pub isZero : Fragment → Bool
-isZero f =
-    eqb (f .session) 0 && eqb (f .start .0) 0 && eqb (f .length) 0 && eqb (f .recorded) 0 && eqb (f .zeroed) 0 && isReserved (f .kind)
-
--- the records in use come first, and those behind them are all zero
+-- the records in use come first, and those after them are all zero
 unfoldable pub usedFirst : List Fragment → Bool
 usedFirst [] = true
 usedFirst (f ∷ fs) = cond (unused f) (every isZero (f ∷ fs)) (usedFirst fs)
@@ -83,6 +79,14 @@ sound d =
     usedFirst (d .fragments) && firstAtZero (records d) && inOrder (records d) && endsWithin (d .capacity) (records d)
     && recordedWithin (records d) && zeroedWithin (records d) && incompleteLast (lastRecord d .session) (records d)
     && tailLast (d .capacity) (records d) && tailOrFull d && pendingNamed d && finalizedComplete d && isArray d
+
+-- the rule of the pending sectors as the code tests it
+unfoldable pub ownerIncomplete : Disc → Bool
+ownerIncomplete d =
+    cond (eqb (d .pending) 0) (eqb (d .owner) 0)
+    (cond (ltb 15 (d .pending)) false
+    (cond (eqb (d .owner) 0) false
+    (cond (ltb limit (d .owner)) false (not (complete (numbered d (d .owner)))))))
 
 -- what L3 tests
 unfoldable pub allowedState : Disc → Bool

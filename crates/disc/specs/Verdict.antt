@@ -1,22 +1,10 @@
 -- The three kinds of verdict: accepted, refused by the drive, refused on the link.
-use Prim.Native.Nat.{ℕ, _-_, min}
-use mathlib.Core.List.{List, [], _++_}
-use lib.ListN.{length, replicate}
+use Prim.Native.Nat.{ℕ, _-_}
 use Rattle.disc.specs.Types.{Disc, DriveRefusal, LinkRefusal, Accepted, Link, Drive, Reply, Flush, Skip, Transfer, Nothing, Plan, Verdict}
-use Rattle.disc.specs.Answer.{noSense, refusalSense}
-use Rattle.disc.specs.Records.{sumRecorded, withSense}
-
--- a reply whose first `whole` bytes are a report, of which at most `allocation` are sent: the one place where replies are cut
-abbrev pub cutReply : List ℕ → ℕ → ℕ → Reply
-cutReply bytes whole allocation = record { bytes = bytes; length = min whole allocation }
-
--- a report, with zeros behind it up to 36 bytes
-abbrev pub report : List ℕ → ℕ → Reply
-report bytes allocation = cutReply (bytes ++ replicate (36 - length bytes) 0) (length bytes) allocation
-
--- a reply of no bytes
-abbrev pub noReply : Reply
-noReply = report [] 0
+use Rattle.protocol.specs.Answer.{noSense, refusalSense}
+use Rattle.protocol.specs.Reply.{noReply}
+use Rattle.fragments.specs.List.{sumRecorded}
+use Rattle.disc.specs.Records.{withSense}
 
 abbrev pub plan : Flush → Transfer → Plan
 plan f t = record { flush = f; transfer = t }

@@ -1,14 +1,16 @@
 -- 2Ah WRITE: the decision, the new list and the plan.
-use Prim.Native.Nat.{ℕ, _+_, _-_, _/_, _%_, _^_, _≤_, _<_}
+use Prim.Native.Nat.{ℕ, _+_, _-_, _/_, _^_, _≤_, _<_}
 use mathlib.Core.Path.{_≡_}
 use mathlib.Core.Bool.{false, cond}
 use lib.ListN.{set}
 use lib.Dec.{eqb, ltb}
-use Rattle.disc.specs.Types.{Lba, Fragment, Disc, Found, Number, Nowhere, Flush, Skip, Gather, Verdict, WriteProtected, InvalidAddressForWrite, EndOfUserArea}
-use Rattle.disc.specs.Address.{firstSector}
-use Rattle.disc.specs.Fragment.{end, firstUnrecorded, complete, pendingIn, nextWritable}
-use Rattle.disc.specs.Records.{limit, used, numbered, writableAt}
-use Rattle.disc.specs.Verdict.{accept, refuse, noReply, noPlan, plan}
+use Rattle.disc.specs.Types.{Lba, Fragment, Disc, Found, Number, Nowhere, Flush, Skip, Gather, Flushed, Verdict, WriteProtected, InvalidAddressForWrite, EndOfUserArea}
+use Rattle.fragments.specs.Address.{firstSector, wholeBlocks, leftOver}
+use Rattle.fragments.specs.Fragment.{end, firstUnrecorded, complete}
+use Rattle.disc.specs.Records.{pendingIn, nextWritable, used, numbered, writableAt}
+use Rattle.fragments.specs.List.{limit}
+use Rattle.disc.specs.Verdict.{accept, refuse, noPlan, plan}
+use Rattle.protocol.specs.Reply.{noReply}
 use Rattle.disc.specs.Flush.{flush, flushPlan, flushCount}
 
 -- sectors pending in another fragment are flushed first: the disc after that, and the plan for it
@@ -20,6 +22,10 @@ flushOthersPlan d n = cond (eqb (d .owner) n) Skip (flushPlan d)
 
 unfoldable pub flushOthersCount : Disc → ℕ → ℕ
 flushOthersCount d n = cond (eqb (d .owner) n) 0 (flushCount d)
+
+-- the three together
+abbrev pub afterFlushOthers : Disc → ℕ → Flushed
+afterFlushOthers d n = record { disc = flushOthers d n; plan = flushOthersPlan d n; recorded = flushOthersCount d n }
 
 abbrev pub grownRecord : ℕ → Fragment → Fragment
 grownRecord blocks f =
@@ -40,9 +46,9 @@ gather d number n =
       capacity = d .capacity;
       finalized = d .finalized;
       sense = d .sense;
-      pending = held % 16;
-      owner = cond (eqb (held % 16) 0) 0 number;
-      fragments = set (d .fragments) (number - 1) (grownRecord (held / 16) (numbered d number));
+      pending = leftOver held;
+      owner = cond (eqb (leftOver held) 0) 0 number;
+      fragments = set (d .fragments) (number - 1) (grownRecord (wholeBlocks held) (numbered d number));
     }
 
 -- what the code that gathers asks: the number is a record's, and its counts do not overflow

@@ -1,35 +1,18 @@
 // The blank disc.
-use crate::address::Block;
-use crate::answer::Answer;
-use crate::answer::LinkRefusal;
-use crate::answer::Sense;
-use crate::fragment::Fragment;
-use crate::fragment::Kind;
 use crate::state::Disc;
+use fragments::Block;
+use fragments::Fragment;
+use fragments::Kind;
+use protocol::Answer;
+use protocol::LinkRefusal;
+use protocol::Sense;
 ghost use mathlib.Core.Path.{_≡_};
-ghost use Rattle.disc.specs.Fragment.{unusedRecord};
 ghost use Rattle.disc.specs.Blank.{inRange, zeroState, Blanked};
 
 // A new disc with the answer beside it.
 pub struct Blank {
     pub answer: Answer,
     pub disc: Disc,
-}
-
-impl Fragment {
-    // An unused record.
-    pub(crate) fn unused() -> Fragment
-        ensures { λ r. ⌜ r ≡ unusedRecord ⌝ }
-    {
-        Fragment {
-            session: 0,
-            start: Block(0),
-            length: 0,
-            recorded: 0,
-            zeroed: 0,
-            kind: Kind::Reserved,
-        }
-    }
 }
 
 impl Disc {

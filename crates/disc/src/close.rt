@@ -1,77 +1,80 @@
-// 5Bh: closing a fragment (001), the session (010) or the disc (110).
-use crate::address::Block;
-use crate::answer::DriveRefusal;
-use crate::fragment::Fragment;
-use crate::fragment::Kind;
+// CLOSE TRACK/SESSION (5Bh): of a fragment (001), of the session (010) or of the disc (110).
+use crate::change;
+use crate::flush::Flushed;
 use crate::state::Disc;
 use crate::verdict::Plan;
-use crate::verdict::Reply;
 use crate::verdict::Transfer;
 use crate::verdict::Verdict;
+use fragments::Block;
+use fragments::Fragment;
+use fragments::Kind;
+use protocol::DriveRefusal;
+use protocol::Reply;
 ghost use mathlib.Core.Path.{_≡_};
 ghost use Prim.Native.Nat.{_≤_};
 ghost use Rattle.disc.specs.Types.{Reserved, Appended};
-ghost use Rattle.disc.specs.Records.{limit, used};
+ghost use Rattle.fragments.specs.List.{limit};
+ghost use Rattle.disc.specs.Records.{used};
 ghost use Rattle.disc.specs.Ready.{Ready};
-ghost use Rattle.disc.specs.Flush.{flush};
+ghost use Rattle.disc.specs.Flush.{flush, afterFlush};
 ghost use Rattle.disc.specs.Close.{appendTail, closeIncomplete, closeFragment, hasIncompleteReserved, closeTail, Opening, openSession, closeSession, finalized, finalize, close};
 
 impl Disc {
-    // The disc with a new tail behind the fragment with a number, its last one, if a block is left for it and a record.
+    // The disc with a new tail after the fragment with a number, its last one, if a block is left for it and a record.
     pub(crate) fn append_tail(self, number: usize) -> Disc
         requires { ⌜ (1 ≤ number) × (number ≤ limit) ⌝ }
         ensures { λ r. ⌜ r ≡ appendTail self number ⌝ }
     {
         let f = self.fragments[number - 1];
         let start = f.next_start();
-        if start < self.capacity as u64 {
+        if start.0 < self.capacity as u64 {
             if number < Disc::LIMIT {
-                let tail = Fragment::tail_from(self.capacity, f.session, Block(start as u32));
+                let tail = change::tail_from(self.capacity, f.session, Block(start.0 as u32));
                 return self.with_record(number + 1, tail);
             }
         }
         self
     }
 
-    // 001 on an incomplete reserved fragment; `flushed` is the disc after the flush.
-    pub(crate) fn close_reserved(self, flushed: Disc, number: usize) -> Verdict
+    // An incomplete reserved fragment is closed; `flushed` is what the flush leaves.
+    pub(crate) fn close_reserved(self, flushed: Flushed, number: usize) -> Verdict
         requires { ⌜ Ready self ⌝ }
-        requires { ⌜ flushed ≡ flush self ⌝ }
-        requires { ⌜ (1 ≤ number) × (number ≤ used flushed) ⌝ }
-        ensures { λ r. ⌜ r ≡ closeIncomplete self flushed number Reserved ⌝ }
+        requires { ⌜ flushed ≡ afterFlush self ⌝ }
+        requires { ⌜ (1 ≤ number) × (number ≤ used (flush self)) ⌝ }
+        ensures { λ r. ⌜ r ≡ closeIncomplete self (flush self) number Reserved ⌝ }
     {
-        let f = flushed.fragments[number - 1];
+        let disc = flushed.disc;
+        let f = disc.fragments[number - 1];
         let blocks = f.length - f.recorded;
-        let transfer = Transfer::Fill {
-            block: Block(f.start.0 + f.recorded),
-            blocks,
-        };
-        let plan = Plan::new(self.flush_plan(), transfer);
-        let recorded = self.flush_count() + blocks;
+        let block = change::first_unrecorded(f);
+        let transfer = Transfer::Fill { block, blocks };
+        let flush = flushed.plan;
+        let plan = Plan::new(flush, transfer);
         Verdict::accepted(
-            flushed.with_record(number, f.filled()),
-            recorded,
+            disc.with_record(number, change::filled(f)),
+            flushed.recorded + blocks,
             Reply::none(),
             plan,
         )
     }
 
-    // 001 on a written tail.
-    pub(crate) fn close_appended(self, flushed: Disc, number: usize) -> Verdict
+    // A written tail is closed; `flushed` is what the flush leaves.
+    pub(crate) fn close_appended(self, flushed: Flushed, number: usize) -> Verdict
         requires { ⌜ Ready self ⌝ }
-        requires { ⌜ flushed ≡ flush self ⌝ }
-        requires { ⌜ number ≡ used flushed ⌝ }
-        ensures { λ r. ⌜ r ≡ closeIncomplete self flushed number Appended ⌝ }
+        requires { ⌜ flushed ≡ afterFlush self ⌝ }
+        requires { ⌜ number ≡ used (flush self) ⌝ }
+        ensures { λ r. ⌜ r ≡ closeIncomplete self (flush self) number Appended ⌝ }
     {
-        let f = flushed.fragments[number - 1];
-        let plan = Plan::new(self.flush_plan(), Transfer::Nothing);
-        let after = flushed
-            .with_record(number, f.shortened())
+        let disc = flushed.disc;
+        let f = disc.fragments[number - 1];
+        let flush = flushed.plan;
+        let plan = Plan::new(flush, Transfer::Nothing);
+        let after = disc.with_record(number, change::shortened(f))
             .append_tail(number);
-        Verdict::accepted(after, self.flush_count(), Reply::none(), plan)
+        Verdict::accepted(after, flushed.recorded, Reply::none(), plan)
     }
 
-    // 001.
+    // CLOSE of a fragment (001).
     pub(crate) fn close_fragment(self, number: usize) -> Verdict
         requires { ⌜ Ready self ⌝ }
         ensures { λ r. ⌜ r ≡ closeFragment self number ⌝ }
@@ -83,16 +86,18 @@ impl Disc {
         if self.is_blank(number, before) {
             return Verdict::refused(self, DriveRefusal::EmptyTrack);
         }
-        let flushed = self.flush();
-        let f = flushed.fragments[number - 1];
+        let after = self.flush();
+        let disc = after.disc;
+        let f = disc.fragments[number - 1];
         if f.is_complete() {
-            let plan = Plan::new(self.flush_plan(), Transfer::Nothing);
-            return Verdict::accepted(flushed, self.flush_count(), Reply::none(), plan);
+            let flush = after.plan;
+            let plan = Plan::new(flush, Transfer::Nothing);
+            return Verdict::accepted(disc, after.recorded, Reply::none(), plan);
         }
         let kind = f.kind;
         match kind {
-            Kind::Reserved => self.close_reserved(flushed, number),
-            Kind::Appended => self.close_appended(flushed, number),
+            Kind::Reserved => self.close_reserved(after, number),
+            Kind::Appended => self.close_appended(after, number),
         }
     }
 }
@@ -102,18 +107,8 @@ impl Disc {
     pub(crate) fn has_incomplete_reserved(self) -> bool
         ensures { λ r. ⌜ r ≡ hasIncompleteReserved self ⌝ }
     {
-        let mut i: usize = 0;
-        while i < Disc::LIMIT {
-            let f = self.fragments[i];
-            if f.length == 0 {
-                return false;
-            }
-            if f.is_incomplete_reserved() {
-                return true;
-            }
-            i += 1;
-        }
-        false
+        let records = self.fragments;
+        fragments::has_incomplete_reserved(records)
     }
 
     // The disc without its blank tail, or with a written tail that ends with its recorded blocks.
@@ -127,24 +122,24 @@ impl Disc {
         }
         let f = last.fragment;
         if f.is_tail() {
-            return self.with_record(last.number, f.shortened());
+            return self.with_record(last.number, change::shortened(f));
         }
         self
     }
 
-    // The disc with a tail of the next session behind its last record.
+    // The disc with a tail of the next session after its last record.
     pub(crate) fn open_session(self) -> Disc
         requires { ⌜ Opening self ⌝ }
         ensures { λ r. ⌜ r ≡ openSession self ⌝ }
     {
         let last = self.last();
         let f = last.fragment;
-        let start = Block(f.next_session_start() as u32);
-        let tail = Fragment::tail_from(self.capacity, f.session + 1, start);
+        let start = Block(f.next_session_start().0 as u32);
+        let tail = change::tail_from(self.capacity, f.session + 1, start);
         self.with_record(last.number + 1, tail)
     }
 
-    // 010.
+    // CLOSE of the session (010).
     pub(crate) fn close_session(self) -> Verdict
         requires { ⌜ Ready self ⌝ }
         ensures { λ r. ⌜ r ≡ closeSession self ⌝ }
@@ -152,21 +147,23 @@ impl Disc {
         if self.finalized | self.blank_tail_only() {
             return Verdict::unchanged(self, Reply::none());
         }
-        let flushed = self.flush();
-        if flushed.has_incomplete_reserved() {
+        let after = self.flush();
+        let disc = after.disc;
+        if disc.has_incomplete_reserved() {
             return Verdict::refused(self, DriveRefusal::IncompleteTrackInSession);
         }
-        let kept = flushed.close_tail();
+        let kept = disc.close_tail();
         let last = kept.last();
         if last.number == Disc::LIMIT {
             return Verdict::refused(self, DriveRefusal::NoMoreReservations);
         }
         let f = last.fragment;
-        if (self.capacity as u64) < f.next_session_start() + 1 {
+        if (self.capacity as u64) < f.next_session_start().0 + 1 {
             return Verdict::refused(self, DriveRefusal::EndOfUserArea);
         }
-        let plan = Plan::new(self.flush_plan(), Transfer::Nothing);
-        Verdict::accepted(kept.open_session(), self.flush_count(), Reply::none(), plan)
+        let flush = after.plan;
+        let plan = Plan::new(flush, Transfer::Nothing);
+        Verdict::accepted(kept.open_session(), after.recorded, Reply::none(), plan)
     }
 
     // The same disc, finalized.
@@ -177,7 +174,7 @@ impl Disc {
         self
     }
 
-    // 110.
+    // CLOSE of the disc (110): finalized.
     pub(crate) fn finalize(self) -> Verdict
         requires { ⌜ Ready self ⌝ }
         ensures { λ r. ⌜ r ≡ finalize self ⌝ }
@@ -185,23 +182,25 @@ impl Disc {
         if self.finalized {
             return Verdict::unchanged(self, Reply::none());
         }
-        let flushed = self.flush();
-        if flushed.has_incomplete_reserved() {
+        let after = self.flush();
+        let disc = after.disc;
+        if disc.has_incomplete_reserved() {
             return Verdict::refused(self, DriveRefusal::IncompleteTrackInSession);
         }
         if self.is_blank_disc() {
             return Verdict::refused(self, DriveRefusal::EmptyTrack);
         }
-        let plan = Plan::new(self.flush_plan(), Transfer::Nothing);
+        let flush = after.plan;
+        let plan = Plan::new(flush, Transfer::Nothing);
         Verdict::accepted(
-            flushed.close_tail().as_finalized(),
-            self.flush_count(),
+            disc.close_tail().as_finalized(),
+            after.recorded,
             Reply::none(),
             plan,
         )
     }
 
-    // 5Bh.
+    // CLOSE TRACK/SESSION by its function.
     pub(crate) fn close(self, function: u8, number: usize) -> Verdict
         requires { ⌜ Ready self ⌝ }
         ensures { λ r. ⌜ r ≡ close self function number ⌝ }

@@ -1,13 +1,12 @@
 // What the drive decides about a command, from the disc, the command block and the lengths of data and reply buffer alone.
-use crate::answer::Answer;
-use crate::answer::DriveRefusal;
-use crate::answer::LinkRefusal;
-use crate::command::Command;
-use crate::lengths;
 use crate::state::Disc;
 use crate::verdict::Plan;
-use crate::verdict::Reply;
 use crate::verdict::Verdict;
+use protocol::Answer;
+use protocol::Command;
+use protocol::DriveRefusal;
+use protocol::LinkRefusal;
+use protocol::Reply;
 ghost use mathlib.Core.Path.{_≡_};
 ghost use Rattle.disc.specs.Ready.{Ready};
 ghost use Rattle.disc.specs.Verdict.{refuseLink};
@@ -66,7 +65,7 @@ impl Disc {
     pub fn judge(self, block: &[u8], data_length: usize, reply_length: usize) -> Verdict
         ensures { λ r. ⌜ Judged self (now (block .entry)) «data_length» «reply_length» r ⌝ }
     {
-        if block.len() != lengths::COMMAND_LENGTH {
+        if block.len() != protocol::COMMAND_LENGTH {
             return Verdict::refused_link(self, LinkRefusal::CommandBlockLength);
         }
         let command = Command::decode(block);
@@ -86,7 +85,7 @@ impl Disc {
     pub fn judge_as_asked(self, block: &[u8]) -> Verdict
         ensures { λ r. ⌜ JudgedAsAsked self (now (block .entry)) r ⌝ }
     {
-        if block.len() != lengths::COMMAND_LENGTH {
+        if block.len() != protocol::COMMAND_LENGTH {
             return Verdict::refused_link(self, LinkRefusal::CommandBlockLength);
         }
         let command = Command::decode(block);

@@ -1,49 +1,30 @@
 // The reports: 03h REQUEST SENSE, 25h READ CAPACITY, 51h READ DISC INFORMATION, 52h READ TRACK INFORMATION.
 // Each fills an array of zeros at the places that document 01 names.
-use crate::address;
-use crate::address::Lba;
-use crate::answer::DriveRefusal;
-use crate::fragment::Fragment;
-use crate::lengths;
 use crate::state::Disc;
-use crate::state::Found;
-use crate::verdict::Reply;
 use crate::verdict::Verdict;
+use fragments::Found;
+use fragments::Fragment;
+use fragments::Lba;
+use protocol::DriveRefusal;
+use protocol::Reply;
 ghost use mathlib.Core.Path.{_≡_};
 ghost use mathlib.Core.Bool.{not};
 ghost use mathlib.Core.List.{_++_};
-ghost use Prim.Native.Nat.{_+_, _/_, _%_, _≤_, max};
+ghost use Prim.Native.Nat.{_+_, _/_, _%_, _≤_, _<_};
 ghost use lib.Dec.{eqb};
 ghost use lib.ListN.{set, replicate};
-ghost use Rattle.disc.specs.Fragment.{complete, isReserved, isBlank, lastRecorded};
-ghost use Rattle.disc.specs.Records.{records, used, atAddress, lastReadable};
+ghost use Rattle.fragments.specs.Fragment.{complete, isReserved};
+ghost use Rattle.disc.specs.Records.{isBlank, used, atAddress};
 ghost use Rattle.disc.specs.Ready.{Ready};
 ghost use Rattle.disc.specs.Reports.{low, high, when, requestSense, readCapacity, sessionState, discStatus, discInformation, readDiscInformation, nextWritableOrZero, freeSectors, trackInformation, trackReport, trackFound, trackNumbered, readTrackInformation};
 
-// What 52h calls the blocking factor: the sectors that are recorded at once.
-const BLOCKING_FACTOR: u64 = address::SECTORS_PER_BLOCK as u64;
-
-// Bytes of 51h's and 52h's reports behind the two of the length itself.
+// Bytes of the reports of 51h and 52h after the two of the length itself.
 const DISC_INFORMATION_REST: u8 = 0x20;
 
 const TRACK_INFORMATION_REST: u8 = 0x22;
 
-// The number that stands for the tail in 52h.
+// The number that stands for the tail in READ TRACK INFORMATION.
 const TAIL: usize = 0xFF;
-
-// A number's low byte.
-fn low(n: usize) -> u8
-    ensures { λ r. ⌜ r ≡ low n ⌝ }
-{
-    (n % 0x100) as u8
-}
-
-// The byte above it.
-fn high(n: usize) -> u8
-    ensures { λ r. ⌜ r ≡ high n ⌝ }
-{
-    (n / 0x100 % 0x100) as u8
-}
 
 // A number that counts where a test holds.
 fn when(test: bool, n: u8) -> u8
@@ -53,15 +34,6 @@ fn when(test: bool, n: u8) -> u8
         return n;
     }
     0
-}
-
-fn larger(a: u64, b: u64) -> u64
-    ensures { λ r. ⌜ r ≡ max a b ⌝ }
-{
-    if a <= b {
-        return b;
-    }
-    a
 }
 
 // The bytes with a number's low four bytes from a place on, the highest first.
@@ -77,44 +49,31 @@ fn put_word(bytes: [u8; Reply::LIMIT], at: usize, n: u64) -> [u8; Reply::LIMIT]
     bytes
 }
 
-impl Fragment {
-    // The address of the last recorded sector, or 0.
-    pub(crate) fn last_recorded(self) -> u64
-        ensures { λ r. ⌜ r ≡ lastRecorded self ⌝ }
-    {
-        if self.recorded == 0 {
-            return 0;
-        }
-        self.recorded_end().0 - 1
-    }
+// The bytes with a number's low byte at one place and the byte above it at another.
+fn put_halves(
+    bytes: [u8; Reply::LIMIT],
+    low_at: usize,
+    high_at: usize,
+    n: usize,
+) -> [u8; Reply::LIMIT]
+    requires { ⌜ («low_at» < 36) × («high_at» < 36) ⌝ }
+    ensures { λ r. ⌜ r ≡ set (set bytes «low_at» (low n)) «high_at» (high n) ⌝ }
+{
+    let mut bytes = bytes;
+    bytes[low_at] = (n % 0x100) as u8;
+    bytes[high_at] = (n / 0x100 % 0x100) as u8;
+    bytes
+}
 
-    // 52h's byte 7: whether the last recorded address and whether the next writable one is valid.
-    fn valid_flags(self) -> u8
-        ensures { λ r. ⌜ r ≡ when (not (eqb (self .recorded) 0)) 0x02 + when (not (complete self)) 0x01 ⌝ }
-    {
-        when(self.recorded != 0, 0x02) + when(!self.is_complete(), 0x01)
-    }
+// READ TRACK INFORMATION's byte 7: whether the last recorded address and whether the next writable one is valid.
+fn valid_flags(f: Fragment) -> u8
+    ensures { λ r. ⌜ r ≡ when (not (eqb (f .recorded) 0)) 0x02 + when (not (complete f)) 0x01 ⌝ }
+{
+    when(f.recorded != 0, 0x02) + when(!f.is_complete(), 0x01)
 }
 
 impl Disc {
-    // The highest readable address, or 0.
-    pub(crate) fn last_readable(self) -> u64
-        ensures { λ r. ⌜ r ≡ lastReadable (records self) ⌝ }
-    {
-        let mut highest: u64 = 0;
-        let mut i: usize = 0;
-        while i < Disc::LIMIT {
-            let f = self.fragments[i];
-            if f.length == 0 {
-                return highest;
-            }
-            highest = larger(highest, f.last_recorded());
-            i += 1;
-        }
-        highest
-    }
-
-    // 03h: the sense as the command finds it.
+    // REQUEST SENSE (03h): the sense as the command finds it.
     pub(crate) fn request_sense(self, allocation: u8) -> Verdict
         ensures { λ r. ⌜ r ≡ requestSense self allocation ⌝ }
     {
@@ -124,18 +83,19 @@ impl Disc {
         bytes[7] = 0x0A;
         bytes[12] = self.sense.asc;
         bytes[13] = self.sense.ascq;
-        let reply = Reply::report(bytes, lengths::SENSE_LENGTH, allocation as usize);
+        let reply = Reply::report(bytes, protocol::SENSE_LENGTH, allocation as usize);
         Verdict::unchanged(self, reply)
     }
 
-    // 25h: the last readable address and the size of a sector.
+    // READ CAPACITY (25h): the last readable address and the size of a sector.
     pub(crate) fn read_capacity(self) -> Verdict
         ensures { λ r. ⌜ r ≡ readCapacity self ⌝ }
     {
         let bytes = [0u8; Reply::LIMIT];
-        let bytes = put_word(bytes, 0, self.last_readable());
-        let bytes = put_word(bytes, 4, lengths::SECTOR_LENGTH as u64);
-        let reply = Reply::report(bytes, lengths::CAPACITY_LENGTH, lengths::CAPACITY_LENGTH);
+        let records = self.fragments;
+        let bytes = put_word(bytes, 0, fragments::last_readable(records).0);
+        let bytes = put_word(bytes, 4, protocol::SECTOR_LENGTH as u64);
+        let reply = Reply::report(bytes, protocol::CAPACITY_LENGTH, protocol::CAPACITY_LENGTH);
         Verdict::unchanged(self, reply)
     }
 
@@ -165,7 +125,7 @@ impl Disc {
         1
     }
 
-    // 51h's bytes: the two states, and the numbers of the last session, its first and its last fragment.
+    // READ DISC INFORMATION's bytes: the two states, and the numbers of the last session, its first and its last fragment.
     fn disc_information(self) -> [u8; Reply::LIMIT]
         ensures { λ r. ⌜ r ≡ discInformation self ++ replicate 2 0 ⌝ }
     {
@@ -176,37 +136,37 @@ impl Disc {
         bytes[1] = DISC_INFORMATION_REST;
         bytes[2] = 4 * self.session_state() + self.disc_status();
         bytes[3] = 1;
-        bytes[4] = low(sessions);
-        bytes[5] = low(first);
-        bytes[6] = low(last.number);
-        bytes[9] = high(sessions);
-        bytes[10] = high(first);
-        bytes[11] = high(last.number);
-        bytes
+        let bytes = put_halves(bytes, 4, 9, sessions);
+        let bytes = put_halves(bytes, 5, 10, first);
+        put_halves(bytes, 6, 11, last.number)
     }
 
-    // 51h: data type 0 alone is served.
+    // READ DISC INFORMATION (51h): data type 0 alone is served.
     pub(crate) fn read_disc_information(self, data_type: u8, allocation: u16) -> Verdict
         ensures { λ r. ⌜ r ≡ readDiscInformation self «data_type» allocation ⌝ }
     {
         if data_type == 0 {
             let bytes = self.disc_information();
-            let reply = Reply::report(bytes, lengths::DISC_INFORMATION_LENGTH, allocation as usize);
+            let reply = Reply::report(
+                bytes,
+                protocol::DISC_INFORMATION_LENGTH,
+                allocation as usize,
+            );
             return Verdict::unchanged(self, reply);
         }
         Verdict::refused(self, DriveRefusal::InvalidFieldInCommand)
     }
 
     // The next writable address of the fragment with a number, or 0 if it is complete.
-    fn next_writable_or_zero(self, number: usize) -> u64
+    fn next_writable_or_zero(self, number: usize) -> Lba
         requires { ⌜ (1 ≤ number) × (number ≤ used self) ⌝ }
         ensures { λ r. ⌜ r ≡ nextWritableOrZero self number ⌝ }
     {
         let f = self.numbered(number);
         if f.is_complete() {
-            return 0;
+            return Lba(0);
         }
-        self.next_writable(number, f).0
+        self.next_writable(number, f)
     }
 
     // The sectors from there to the fragment's end, or 0 if it is complete.
@@ -221,7 +181,7 @@ impl Disc {
         f.end_address().0 - self.next_writable(number, f).0
     }
 
-    // 52h's byte 6: data mode 1, and whether the fragment is reserved and whether blank.
+    // READ TRACK INFORMATION's byte 6: data mode 1, and whether the fragment is reserved and whether blank.
     fn track_flags(self, number: usize, f: Fragment) -> u8
         ensures { λ r. ⌜ r ≡ 0x01 + when (isReserved (f .kind)) 0x80 + when (isBlank self number f) 0x40 ⌝ }
     {
@@ -229,7 +189,7 @@ impl Disc {
         0x01 + when(kind.is_reserved(), 0x80) + when(self.is_blank(number, f), 0x40)
     }
 
-    // 52h's bytes of the fragment with a number.
+    // READ TRACK INFORMATION's bytes of the fragment with a number.
     fn track_information(self, number: usize) -> [u8; Reply::LIMIT]
         requires { ⌜ Ready self × (1 ≤ number) × (number ≤ used self) ⌝ }
         ensures { λ r. ⌜ r ≡ trackInformation self number ⌝ }
@@ -238,21 +198,20 @@ impl Disc {
         let session = f.session as usize;
         let mut bytes = [0u8; Reply::LIMIT];
         bytes[1] = TRACK_INFORMATION_REST;
-        bytes[2] = low(number);
-        bytes[3] = low(session);
         bytes[5] = 0x04;
         bytes[6] = self.track_flags(number, f);
-        bytes[7] = f.valid_flags();
-        bytes[32] = high(number);
-        bytes[33] = high(session);
+        bytes[7] = valid_flags(f);
+        let bytes = put_halves(bytes, 2, 32, number);
+        let bytes = put_halves(bytes, 3, 33, session);
         let bytes = put_word(bytes, 8, f.start.first_sector().0);
-        let bytes = put_word(bytes, 12, self.next_writable_or_zero(number));
+        let bytes = put_word(bytes, 12, self.next_writable_or_zero(number).0);
         let bytes = put_word(bytes, 16, self.free_sectors(number));
-        let bytes = put_word(bytes, 20, BLOCKING_FACTOR);
-        let bytes = put_word(bytes, 24, address::sectors_in(f.length));
-        put_word(bytes, 28, f.last_recorded())
+        let bytes = put_word(bytes, 20, fragments::sectors_in(1));
+        let bytes = put_word(bytes, 24, fragments::sectors_in(f.length));
+        put_word(bytes, 28, f.last_recorded().0)
     }
 
+    // The report of the fragment with a number.
     fn track_report(self, number: usize, allocation: u16) -> Verdict
         requires { ⌜ Ready self × (1 ≤ number) × (number ≤ used self) ⌝ }
         ensures { λ r. ⌜ r ≡ trackReport self allocation number ⌝ }
@@ -260,7 +219,7 @@ impl Disc {
         let bytes = self.track_information(number);
         let reply = Reply::report(
             bytes,
-            lengths::TRACK_INFORMATION_LENGTH,
+            protocol::TRACK_INFORMATION_LENGTH,
             allocation as usize,
         );
         Verdict::unchanged(self, reply)
@@ -296,7 +255,7 @@ impl Disc {
         Verdict::refused(self, DriveRefusal::InvalidFieldInCommand)
     }
 
-    // 52h by its address type: 0 for an address, 1 for a number.
+    // READ TRACK INFORMATION (52h) by its address type: 0 for an address, 1 for a number.
     pub(crate) fn read_track_information(
         self,
         address_type: u8,

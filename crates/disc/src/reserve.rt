@@ -1,12 +1,11 @@
 // 53h.
-use crate::address;
-use crate::address::Block;
-use crate::answer::DriveRefusal;
-use crate::fragment::Fragment;
+use crate::change;
 use crate::state::Disc;
 use crate::verdict::Plan;
-use crate::verdict::Reply;
 use crate::verdict::Verdict;
+use fragments::Block;
+use protocol::DriveRefusal;
+use protocol::Reply;
 ghost use mathlib.Core.Path.{_≡_};
 ghost use Prim.Native.Nat.{_<_};
 ghost use Rattle.disc.specs.Records.{used};
@@ -21,9 +20,9 @@ impl Disc {
     {
         let number = self.used();
         let tail = self.fragments[number - 1];
-        let f = tail.reserved(blocks);
-        let start = Block(f.next_start() as u32);
-        let rest = Fragment::tail_from(self.capacity, f.session, start);
+        let f = change::reserved(tail, blocks);
+        let start = Block(f.next_start().0 as u32);
+        let rest = change::tail_from(self.capacity, f.session, start);
         self.with_record(number, f).with_record(number + 1, rest)
     }
 
@@ -45,9 +44,9 @@ impl Disc {
         if number == Disc::LIMIT {
             return Verdict::refused(self, DriveRefusal::NoMoreReservations);
         }
-        let blocks = address::blocks_for(size);
+        let blocks = fragments::blocks_for(size);
         let tail = self.fragments[number - 1];
-        if self.capacity as u64 <= tail.reserved(blocks).next_start() {
+        if self.capacity as u64 <= change::reserved(tail, blocks).next_start().0 {
             return Verdict::refused(self, DriveRefusal::EndOfUserArea);
         }
         Verdict::accepted(self.split_tail(blocks), 0, Reply::none(), Plan::none())

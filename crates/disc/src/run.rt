@@ -1,8 +1,7 @@
 // The recorded run that a READ hands out: a part of the lent medium, whose bytes are not looked at.
-use crate::address::Lba;
-use crate::command::Command;
-use crate::lengths;
 use crate::state::Disc;
+use fragments::Lba;
+use protocol::Command;
 ghost use mathlib.Core.Path.{_≡_};
 ghost use Prim.Native.Nat.{_+_, _*_, _≤_};
 ghost use lib.ListN.{length};
@@ -15,8 +14,8 @@ fn stretch<'a>(address: Lba, sectors: u32, medium: &'a [u8]) -> &'a [u8]
     requires { ⌜ 2048 * (address .0 + sectors) ≤ length (now medium) ⌝ }
     ensures { λ r. ⌜ now r ≡ stretch address sectors (now (medium .entry)) ⌝ }
 {
-    let from = lengths::SECTOR_LENGTH * (address.0 as usize);
-    let to = from + lengths::SECTOR_LENGTH * (sectors as usize);
+    let from = protocol::SECTOR_LENGTH * (address.0 as usize);
+    let to = from + protocol::SECTOR_LENGTH * (sectors as usize);
     &medium[from..to]
 }
 
@@ -25,8 +24,8 @@ impl Disc {
     fn serves(self, block: usize, medium: usize) -> bool
         ensures { λ r. ⌜ r ≡ served self «block» medium ⌝ }
     {
-        let whole = medium == lengths::BLOCK_LENGTH * (self.capacity as usize);
-        (block == lengths::COMMAND_LENGTH)
+        let whole = medium == protocol::BLOCK_LENGTH * (self.capacity as usize);
+        (block == protocol::COMMAND_LENGTH)
             & Disc::in_range(self.capacity)
             & whole
             & self.is_allowed()

@@ -1,7 +1,7 @@
 // The disc state. It goes into every command and comes back from it by value.
-use crate::address::Lba;
-use crate::answer::Sense;
-use crate::fragment::Fragment;
+use fragments::Fragment;
+use fragments::Lba;
+use protocol::Sense;
 ghost use mathlib.Core.Path.{_≡_};
 ghost use Rattle.disc.specs.Records.{withSense};
 
@@ -20,7 +20,7 @@ pub struct Disc {
 
 impl Disc {
     // How many fragments a disc can have, the tail included.
-    pub const LIMIT: usize = 64;
+    pub const LIMIT: usize = fragments::LIMIT;
 
     // The smallest and the largest capacity in blocks.
     pub const SMALLEST: u32 = 256;
@@ -41,10 +41,4 @@ impl Disc {
 pub enum TailNext {
     Address(Lba),
     NoTail,
-}
-
-// What a search along the list finds: a fragment's number, from 1, or that there is none.
-pub enum Found {
-    Number(usize),
-    Nowhere,
 }

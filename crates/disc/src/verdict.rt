@@ -1,40 +1,14 @@
 // What the lower layer decides about a command, and what it has the upper layer do to the bytes.
-use crate::address::Block;
-use crate::address::Lba;
-use crate::answer::Answer;
-use crate::answer::DriveRefusal;
-use crate::answer::Sense;
-use crate::lengths;
 use crate::state::Disc;
+use fragments::Block;
+use fragments::Lba;
+use protocol::Answer;
+use protocol::DriveRefusal;
+use protocol::Reply;
+use protocol::Sense;
 ghost use mathlib.Core.Path.{_≡_};
-ghost use Rattle.disc.specs.Verdict.{cutReply, noReply, plan, noPlan, accepted, accept, refuse};
-
-// A report's bytes by value: the whole report, zeros after it, and how many bytes of it are sent.
-pub struct Reply {
-    pub bytes: [u8; Reply::LIMIT],
-    pub length: usize,
-}
-
-impl Reply {
-    // The longest report's bytes.
-    pub const LIMIT: usize = 36;
-
-    // The report of the first `length` bytes, of which at most the allocation length is sent.
-    pub(crate) fn report(bytes: [u8; Reply::LIMIT], length: usize, allocation: usize) -> Reply
-        ensures { λ r. ⌜ r ≡ cutReply bytes length allocation ⌝ }
-    {
-        let length = lengths::cut(length, allocation);
-        Reply { bytes, length }
-    }
-
-    // No bytes.
-    pub(crate) fn none() -> Reply
-        ensures { λ r. ⌜ r ≡ noReply ⌝ }
-    {
-        let bytes = [0u8; Reply::LIMIT];
-        Reply { bytes, length: 0 }
-    }
-}
+ghost use Rattle.protocol.specs.Reply.{cutReply, noReply};
+ghost use Rattle.disc.specs.Verdict.{plan, noPlan, accepted, accept, refuse};
 
 // Whether the pending block is recorded before anything else, its missing sectors zero.
 pub enum Flush {

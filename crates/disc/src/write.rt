@@ -1,25 +1,25 @@
-// 2Ah: the decision, the new list and the plan.
-use crate::address;
-use crate::address::Block;
-use crate::address::Lba;
-use crate::answer::DriveRefusal;
+// WRITE (2Ah): the decision, the new list and the plan.
+use crate::change;
+use crate::flush::Flushed;
 use crate::state::Disc;
-use crate::state::Found;
 use crate::verdict::Flush;
 use crate::verdict::Plan;
-use crate::verdict::Reply;
 use crate::verdict::Transfer;
 use crate::verdict::Verdict;
+use fragments::Found;
+use fragments::Lba;
+use protocol::DriveRefusal;
+use protocol::Reply;
 ghost use mathlib.Core.Path.{_≡_};
 ghost use mathlib.Core.Bool.{cond};
 ghost use lib.Dec.{eqb};
 ghost use Prim.Native.Nat.{_≤_};
 ghost use Rattle.disc.specs.Ready.{Ready};
-ghost use Rattle.disc.specs.Records.{limit};
-ghost use Rattle.disc.specs.Write.{flushOthers, flushOthersPlan, flushOthersCount, gather, Gathering, writeTo, Writable, write};
+ghost use Rattle.fragments.specs.List.{limit};
+ghost use Rattle.disc.specs.Write.{afterFlushOthers, gather, Gathering, writeTo, Writable, write};
 
 // The number beside a pending count: the fragment's, or 0 with none pending.
-fn owner_of(pending: u32, number: usize) -> u8
+fn owner_of(pending: usize, number: usize) -> u8
     requires { ⌜ number ≤ limit ⌝ }
     ensures { λ r. ⌜ r ≡ cond (eqb pending 0) 0 number ⌝ }
 {
@@ -30,36 +30,19 @@ fn owner_of(pending: u32, number: usize) -> u8
 }
 
 impl Disc {
-    // The disc after sectors pending in any other fragment are flushed.
-    pub(crate) fn flush_others(self, number: usize) -> Disc
+    // Sectors pending in any other fragment are flushed.
+    pub(crate) fn flush_others(self, number: usize) -> Flushed
         requires { ⌜ Ready self ⌝ }
-        ensures { λ r. ⌜ r ≡ flushOthers self number ⌝ }
+        ensures { λ r. ⌜ r ≡ afterFlushOthers self number ⌝ }
     {
         if self.owner as usize == number {
-            return self;
+            return Flushed {
+                disc: self,
+                plan: Flush::Skip,
+                recorded: 0,
+            };
         }
         self.flush()
-    }
-
-    // What that does to the bytes.
-    pub(crate) fn flush_others_plan(self, number: usize) -> Flush
-        requires { ⌜ Ready self ⌝ }
-        ensures { λ r. ⌜ r ≡ flushOthersPlan self number ⌝ }
-    {
-        if self.owner as usize == number {
-            return Flush::Skip;
-        }
-        self.flush_plan()
-    }
-
-    // How many blocks it records.
-    pub(crate) fn flush_others_count(self, number: usize) -> u32
-        ensures { λ r. ⌜ r ≡ flushOthersCount self number ⌝ }
-    {
-        if self.owner as usize == number {
-            return 0;
-        }
-        self.flush_count()
     }
 
     // The disc with more sectors gathered in the fragment with a number.
@@ -67,11 +50,12 @@ impl Disc {
         requires { ⌜ Gathering self number sectors ⌝ }
         ensures { λ r. ⌜ r ≡ gather self number sectors ⌝ }
     {
-        let held = self.pending_in(number) as u32 + sectors;
+        let held = self.pending_in(number) as usize + sectors as usize;
+        let left = fragments::left_over(held);
         let f = self.fragments[number - 1];
-        let mut after = self.with_record(number, f.grown(held / address::SECTORS_PER_BLOCK));
-        after.pending = (held % address::SECTORS_PER_BLOCK) as u8;
-        after.owner = owner_of(held % address::SECTORS_PER_BLOCK, number);
+        let mut after = self.with_record(number, change::grown(f, held));
+        after.pending = left as u8;
+        after.owner = owner_of(left, number);
         after
     }
 
@@ -86,19 +70,21 @@ impl Disc {
             return Verdict::refused(self, DriveRefusal::EndOfUserArea);
         }
         let pending = self.pending_in(number);
+        let block = change::first_unrecorded(f);
         let transfer = Transfer::Gather {
-            block: Block(f.start.0 + f.recorded),
+            block,
             pending,
             sectors,
         };
-        let plan = Plan::new(self.flush_others_plan(number), transfer);
-        let gathered = (pending as u32 + sectors) / address::SECTORS_PER_BLOCK;
-        let recorded = self.flush_others_count(number) + gathered;
-        let after = self.flush_others(number).gather(number, sectors);
-        Verdict::accepted(after, recorded, Reply::none(), plan)
+        let gathered = fragments::whole_blocks(pending as usize + sectors as usize) as u32;
+        let after = self.flush_others(number);
+        let flush = after.plan;
+        let plan = Plan::new(flush, transfer);
+        let disc = after.disc.gather(number, sectors);
+        Verdict::accepted(disc, after.recorded + gathered, Reply::none(), plan)
     }
 
-    // 2Ah.
+    // WRITE.
     pub(crate) fn write(self, address: Lba, sectors: u32) -> Verdict
         requires { ⌜ Ready self ⌝ }
         ensures { λ r. ⌜ r ≡ write self address sectors ⌝ }

@@ -4,7 +4,7 @@ use mathlib.Core.Bool.{Bool, true}
 use mathlib.Core.Path.{_≡_}
 use mathlib.Core.List.{List}
 use lib.ListN.{length, getD, take}
-use Rattle.disc.specs.Address.{lba}
+use Rattle.fragments.specs.Address.{lba}
 use Rattle.disc.specs.Records.{readable}
 use Rattle.drive.specs.Types.{Disc}
 use Rattle.drive.specs.Step.{Drive}

@@ -2,7 +2,7 @@
 use Prim.Native.Nat.{ℕ, _*_, _≤_}
 use mathlib.Core.Path.{_≡_}
 use lib.ListN.{length}
-use Rattle.disc.specs.Command.{decode}
+use Rattle.protocol.specs.Command.{decode}
 use Rattle.drive.specs.Types.{Lba, Read, Write}
 use Rattle.drive.specs.Step.{Request}
 

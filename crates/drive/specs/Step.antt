@@ -6,8 +6,8 @@ use mathlib.Core.List.{List, []}
 use lib.ListN.{length}
 use lib.Dec.{eqb}
 use Rattle.drive.specs.Types.{Lba, Disc, Answer, LinkRefusal, Verdict, Write, CommandBlockLength, MediumSize, Response}
-use Rattle.disc.specs.Answer.{number}
-use Rattle.disc.specs.Command.{decode}
+use Rattle.protocol.specs.Answer.{number}
+use Rattle.protocol.specs.Command.{decode}
 use Rattle.disc.specs.Verdict.{refuseLink, rise}
 use Rattle.disc.specs.Judge.{judge}
 use Rattle.disc.specs.Lent.{FlushFits, TransferFits}

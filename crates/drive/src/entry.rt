@@ -1,12 +1,12 @@
 // One command: the link's tests of what is lent, the decision, and the bytes moved by its plan.
 use crate::reply;
 use crate::transfer;
-use disc::Answer;
-use disc::BLOCK_LENGTH;
-use disc::COMMAND_LENGTH;
 use disc::Disc;
-use disc::LinkRefusal;
 use disc::Verdict;
+use protocol::Answer;
+use protocol::BLOCK_LENGTH;
+use protocol::COMMAND_LENGTH;
+use protocol::LinkRefusal;
 ghost use mathlib.Core.Path.{_≡_};
 ghost use Rattle.drive.specs.Step.{drive, request, lent, refused, Feasible, CarriedOut, Answered};
 

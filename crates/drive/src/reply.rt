@@ -1,8 +1,8 @@
 // The reply's bytes, copied to the beginning of the lent reply buffer; the bytes past them stay.
 use crate::bytes;
 use disc::Disc;
-use disc::Reply;
 use disc::Transfer;
+use protocol::Reply;
 ghost use mathlib.Core.Path.{_≡_};
 ghost use Prim.Native.Nat.{_≤_};
 ghost use lib.ListN.{length, take};

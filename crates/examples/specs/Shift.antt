@@ -6,13 +6,14 @@ use mathlib.Core.Bool.{cond}
 use mathlib.Core.List.{List, [], _∷_, map}
 use lib.ListN.{take, replicate}
 use Rattle.examples.specs.Types.{Sense, Reserved, Appended, Fragment, Disc, Verdict}
-use Rattle.disc.specs.Answer.{sense, number, isRefusalSense, allowedSense}
-use Rattle.disc.specs.Command.{decode}
-use Rattle.disc.specs.Fragment.{fragment, nextWritable}
-use Rattle.disc.specs.Records.{records, used, lastRecord, hasTail, listed, some, every, find, sumRecorded, lastReadable, firstOfSession}
+use Rattle.protocol.specs.Answer.{sense, number, isRefusalSense, allowedSense}
+use Rattle.protocol.specs.Command.{decode}
+use Rattle.fragments.specs.Fragment.{fragment}
+use Rattle.disc.specs.Records.{nextWritable, records, used, lastRecord, hasTail}
+use Rattle.fragments.specs.List.{listed, some, every, find, sumRecorded, lastReadable, firstOfSession}
 use Rattle.disc.specs.Sound.{usedFirst, firstAtZero, followsFrom, inOrder, endsWithin, recordedWithin, zeroedWithin, incompleteLast, tailLast, tailOrFull, pendingNamed, finalizedComplete, sound, allowedState}
 use Rattle.disc.specs.Blank.{blank}
-use Rattle.disc.specs.Lengths.{dataLength, replyRoom, lengthsFit}
+use Rattle.protocol.specs.Lengths.{dataLength, replyRoom, lengthsFit}
 use Rattle.disc.specs.Verdict.{accepted, accept, refuse, refuseLink}
 use Rattle.disc.specs.Flush.{flush, flushPlan, synchronizeCache}
 use Rattle.disc.specs.Read.{allReadable, read}

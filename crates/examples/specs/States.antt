@@ -5,9 +5,10 @@ use mathlib.Core.Bool.{Bool, true, false}
 use mathlib.Core.List.{List, [], _∷_, _++_, map}
 use lib.ListN.{length, replicate, set}
 use Rattle.examples.specs.Types.{Reserved, Appended, Fragment, Disc, Verdict}
-use Rattle.disc.specs.Answer.{sense, noSense, number, isRefusalSense, allowedSense}
-use Rattle.disc.specs.Fragment.{fragment, unusedRecord}
-use Rattle.disc.specs.Records.{limit, listed, records, used, lastRecord, some, every, sumRecorded, firstOfSession}
+use Rattle.protocol.specs.Answer.{sense, noSense, number, isRefusalSense, allowedSense}
+use Rattle.fragments.specs.Fragment.{fragment, unusedRecord}
+use Rattle.fragments.specs.List.{limit, listed, some, every, sumRecorded, firstOfSession}
+use Rattle.disc.specs.Records.{records, used, lastRecord}
 use Rattle.disc.specs.Sound.{usedFirst, firstAtZero, followsFrom, inOrder, endsWithin, recordedWithin, zeroedWithin, incompleteLast, tailLast, tailOrFull, pendingNamed, finalizedComplete, sound, allowedState}
 use Rattle.disc.specs.Verdict.{accepted, accept, refuse}
 use Rattle.disc.specs.Flush.{flush, flushPlan, flushCount, synchronizeCache}

@@ -5,7 +5,7 @@ use mathlib.Core.Path.{_≡_}
 use mathlib.Core.List.{List}
 use lib.ListN.{length}
 use lib.Dec.{eqb, ltb}
-use Rattle.disc.specs.Answer.{number}
+use Rattle.protocol.specs.Answer.{number}
 use Rattle.disc.specs.Blank.{inRange, made}
 use Rattle.drive.specs.Step.{drive, Request, Result, step}
 use Rattle.gladhamre.specs.Types.{LinkRefusal, CommandBlockLength, MediumSize, UnsoundState, Accepted, Link}

@@ -5,9 +5,9 @@ use mathlib.Core.Bool.{Bool, true, cond, _&&_}
 use mathlib.Core.List.{List, [], _∷_, _++_}
 use lib.ListN.{length, getD, drop}
 use lib.Dec.{eqb, ltb}
-use Rattle.disc.specs.Address.{block}
-use Rattle.disc.specs.Answer.{sense}
-use Rattle.disc.specs.Records.{limit}
+use Rattle.fragments.specs.Address.{block}
+use Rattle.protocol.specs.Answer.{sense}
+use Rattle.fragments.specs.List.{limit}
 use Rattle.gladhamre.specs.Types.{Kind, Reserved, Appended, Fragment, Disc}
 
 -- 0 for no and for a reserved fragment, 1 for yes and for an appended one

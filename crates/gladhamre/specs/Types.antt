@@ -1,10 +1,10 @@
 -- The types of the layers below by their short names.
-pub use Rattle.disc.specs.declared.fragment.Kind.{Kind}
-pub use Rattle.disc.specs.declared.fragment.Kind.the-variants.{Reserved, Appended}
-pub use Rattle.disc.specs.declared.fragment.Fragment.{Fragment}
+pub use Rattle.fragments.specs.declared.fragment.Kind.{Kind}
+pub use Rattle.fragments.specs.declared.fragment.Kind.the-variants.{Reserved, Appended}
+pub use Rattle.fragments.specs.declared.fragment.Fragment.{Fragment}
 pub use Rattle.disc.specs.declared.state.Disc.{Disc}
-pub use Rattle.disc.specs.declared.answer.LinkRefusal.{LinkRefusal}
-pub use Rattle.disc.specs.declared.answer.LinkRefusal.the-variants.{CommandBlockLength, MediumSize, UnsoundState}
-pub use Rattle.disc.specs.declared.answer.Answer.the-variants.{Accepted, Link}
+pub use Rattle.protocol.specs.declared.answer.LinkRefusal.{LinkRefusal}
+pub use Rattle.protocol.specs.declared.answer.LinkRefusal.the-variants.{CommandBlockLength, MediumSize, UnsoundState}
+pub use Rattle.protocol.specs.declared.answer.Answer.the-variants.{Accepted, Link}
 pub use Rattle.disc.specs.declared.blank.Blank.{Blank}
 pub use Rattle.drive.specs.declared.entry.Response.{Response}

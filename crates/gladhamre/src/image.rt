@@ -1,15 +1,15 @@
 // The state image: a disc state as 391 words of 32 bits.
-use disc::Block;
 use disc::Disc;
-use disc::Fragment;
-use disc::Kind;
-use disc::Sense;
+use fragments::Block;
+use fragments::Fragment;
+use fragments::Kind;
+use protocol::Sense;
 ghost use mathlib.Core.Path.{_≡_};
 ghost use mathlib.Core.Bool.{true};
 ghost use Prim.Native.Nat.{_+_};
 ghost use lib.ListN.{length, drop};
 ghost use Rattle.gladhamre.specs.Image.{kindOf, kindWord, flagWord, recordOf, recordWords, recordFits, listOf, listWords, listFits, headFits, headWords, decode, encode, isState, StateWords};
-ghost use Rattle.disc.specs.Records.{limit};
+ghost use Rattle.fragments.specs.List.{limit};
 ghost use Rattle.drive.specs.Bytes.{splice};
 
 // Words before the records, and words of a record.

@@ -3,13 +3,13 @@
 // number.
 mod image;
 
-use disc::Answer;
-use disc::BLOCK_LENGTH;
-use disc::COMMAND_LENGTH;
 use disc::Disc;
-use disc::LinkRefusal;
+use protocol::Answer;
+use protocol::BLOCK_LENGTH;
+use protocol::COMMAND_LENGTH;
+use protocol::LinkRefusal;
 ghost use mathlib.Core.Path.{_≡_};
-ghost use Rattle.disc.specs.Answer.{number};
+ghost use Rattle.protocol.specs.Answer.{number};
 ghost use Rattle.drive.specs.Step.{request};
 ghost use Rattle.gladhamre.specs.Types.{Link};
 ghost use Rattle.gladhamre.specs.Face.{lending, lentFits, isLink, Faced, BlankFaced};

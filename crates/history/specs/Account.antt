@@ -5,9 +5,9 @@ use mathlib.Core.Bool.{Bool, false, cond, _&&_}
 use mathlib.Core.List.{List, [], _∷_}
 use lib.ListN.{take, drop}
 use lib.Dec.{eqb, ltb}
-use Rattle.disc.specs.Address.{lba, firstSector, sectorsIn}
-use Rattle.disc.specs.Command.{decode}
-use Rattle.disc.specs.Fragment.{isReserved}
+use Rattle.fragments.specs.Address.{lba, firstSector, sectorsIn}
+use Rattle.protocol.specs.Command.{decode}
+use Rattle.fragments.specs.Fragment.{isReserved}
 use Rattle.disc.specs.Recorded.{among}
 use Rattle.disc.specs.Records.{numbered, atAddress}
 use Rattle.drive.specs.Bytes.{zeros}

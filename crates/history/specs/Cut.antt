@@ -3,7 +3,7 @@ use Prim.Native.Nat.{ℕ, _+_, _≤_}
 use mathlib.Core.Path.{_≡_}
 use mathlib.Core.List.{List, [], _∷_, _++_}
 use lib.ListN.{length}
-use Rattle.disc.specs.Address.{lba}
+use Rattle.fragments.specs.Address.{lba}
 use Rattle.drive.specs.Step.{Drive, Request}
 use Rattle.drive.specs.Requests.{WriteOf}
 use Rattle.history.specs.Types.{Lba, Accepted}

@@ -5,10 +5,9 @@ use mathlib.Core.Path.{_≡_}
 use mathlib.Core.Bool.{true}
 use mathlib.Core.Logic.{_⊎_}
 use mathlib.Core.List.{List}
-use Rattle.disc.specs.Address.{lba, sectorsIn}
-use Rattle.disc.specs.Command.{decode}
-use Rattle.disc.specs.Fragment.{pendingIn}
-use Rattle.disc.specs.Records.{numbered, readable}
+use Rattle.fragments.specs.Address.{lba, sectorsIn}
+use Rattle.protocol.specs.Command.{decode}
+use Rattle.disc.specs.Records.{pendingIn, numbered, readable}
 use Rattle.drive.specs.Step.{Drive}
 use Rattle.drive.specs.Alike.{Alike}
 use Rattle.drive.specs.Requests.{ReadOf}

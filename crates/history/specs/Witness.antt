@@ -3,7 +3,7 @@
 use Prim.Native.Nat.{ℕ}
 use mathlib.Core.List.{List, [], _∷_, _++_, map}
 use lib.ListN.{length, replicate}
-use Rattle.disc.specs.Answer.{number}
+use Rattle.protocol.specs.Answer.{number}
 use Rattle.disc.specs.Blank.{blank}
 use Rattle.disc.specs.Judge.{judge}
 use Rattle.drive.specs.Bytes.{zeros}

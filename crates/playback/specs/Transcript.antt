@@ -2,12 +2,12 @@
 use Prim.Native.Nat.{ℕ}
 use mathlib.Core.Path.{_≡_, refl}
 use mathlib.Core.List.{List, [], _∷_, _++_}
-use Rattle.disc.specs.Answer.{isRefusalSense, allowedSense}
-use Rattle.disc.specs.Command.{decode}
-use Rattle.disc.specs.Records.{listed, some, every, find, sumRecorded}
+use Rattle.protocol.specs.Answer.{isRefusalSense, allowedSense}
+use Rattle.protocol.specs.Command.{decode}
+use Rattle.fragments.specs.List.{listed, some, every, find, sumRecorded}
 use Rattle.disc.specs.Sound.{usedFirst, firstAtZero, followsFrom, inOrder, endsWithin, recordedWithin, zeroedWithin, incompleteLast, tailLast, tailOrFull, pendingNamed, finalizedComplete, sound, allowedState}
 use Rattle.disc.specs.Blank.{blank}
-use Rattle.disc.specs.Lengths.{dataLength, replyRoom, lengthsFit}
+use Rattle.protocol.specs.Lengths.{dataLength, replyRoom, lengthsFit}
 use Rattle.disc.specs.Verdict.{accepted, accept, refuse, refuseLink}
 use Rattle.disc.specs.Flush.{flush, flushPlan, synchronizeCache}
 use Rattle.disc.specs.Write.{flushOthers, flushOthersPlan, gather, writeTo, writeFound, write}

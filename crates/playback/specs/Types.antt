@@ -1,6 +1,6 @@
 -- The types of src/ by their short names, and those of the crates below.
-pub use Rattle.disc.specs.declared.address.Lba.{Lba}
-pub use Rattle.disc.specs.declared.answer.Sense.{Sense}
+pub use Rattle.fragments.specs.declared.address.Lba.{Lba}
+pub use Rattle.protocol.specs.declared.answer.Sense.{Sense}
 pub use Rattle.disc.specs.declared.state.TailNext.{TailNext}
 pub use Rattle.disc.specs.declared.state.TailNext.the-variants.{Address, NoTail}
 pub use Rattle.playback.specs.declared.line.Line.{Line}

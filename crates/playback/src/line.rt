@@ -1,6 +1,6 @@
 // A printed line, by value, and the texts that it is made of.
-use disc::Sense;
 use disc::TailNext;
+use protocol::Sense;
 ghost use mathlib.Core.Path.{_≡_};
 ghost use mathlib.Core.List.{[], _∷_};
 ghost use Prim.Native.Nat.{_<_, _/_};

@@ -2,9 +2,9 @@
 // a row for a refusal by the drive.
 // A program has no room for a medium. So the entry is called on tiny buffers, which end at L1 or L2, and the disc is asked what it
 // decides behind them, on lengths alone.
-use disc::Answer;
 use disc::Disc;
 use libc::STDOUT_FILENO;
+use protocol::Answer;
 
 // A line: what was tried, how many bytes of it, and the number of the answer.
 fn print(name: &[u8], length: usize, answer: Answer) {

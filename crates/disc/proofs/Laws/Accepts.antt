@@ -9,16 +9,18 @@ use borrow.Author.Tests.{eq-eqb, ne-eqb, le-ltb, ltb-false}
 use lib.Dec.{eqb, ltb}
 use lib.ListN.{length, getD}
 use Rattle.disc.specs.Types.{Lba, Fragment, Disc, Found, Number, Nowhere, Verdict, Accepted, Drive, WriteProtected, EndOfUserArea, AddressOutOfRange, BlankCheck, Send, Skip}
-use Rattle.disc.specs.Address.{firstSector, lba, sectorsIn}
-use Rattle.disc.specs.Fragment.{unusedRecord, end, complete, nextWritable, pendingIn}
-use Rattle.disc.specs.Records.{records, used, numbered, find, writableAt, readable}
+use Rattle.fragments.specs.Address.{firstSector, lba, sectorsIn}
+use Rattle.fragments.specs.Fragment.{unusedRecord, end, complete}
+use Rattle.disc.specs.Records.{nextWritable, pendingIn, records, used, numbered, writableAt, readable}
+use Rattle.fragments.specs.List.{find}
 use Rattle.disc.specs.Rules.{at}
 use Rattle.disc.specs.Ready.{Ready}
-use Rattle.disc.specs.Verdict.{accepted, accept, refuse, noReply, noPlan, plan}
+use Rattle.disc.specs.Verdict.{accepted, accept, refuse, noPlan, plan}
+use Rattle.protocol.specs.Reply.{noReply}
 use Rattle.disc.specs.Read.{allReadable, read}
 use Rattle.disc.specs.Write.{flushOthersCount, Writable, writeTo, writeFound, write}
-use Rattle.disc.proofs.Laws.Bool.{and-both, by-cases, cond-yes, cond-no, cond-cases, contradiction}
-use Rattle.disc.proofs.Laws.Records.{listed-at}
+use Rattle.fragments.proofs.Laws.Bool.{and-both, by-cases, cond-yes, cond-no, cond-cases, contradiction}
+use Rattle.fragments.proofs.Laws.List.{listed-at}
 use Rattle.disc.proofs.Laws.Rules.{sound-rules}
 use Rattle.disc.proofs.Laws.Sound.{writable-once}
 use Rattle.disc.proofs.Laws.Write.{writable-found, place, write-count, flush-count-most}

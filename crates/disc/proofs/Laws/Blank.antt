@@ -6,12 +6,12 @@ use native.Mathlib.Nat.{sub-zero, zero-add}
 use native.Mathlib.Omega.{arith}
 use lib.Dec.{leb}
 use borrow.Author.Tests.{le-leb, leb-true, eq-eqb, ne-eqb}
-use Rattle.disc.proofs.Laws.Bool.{and-left, and-right}
+use Rattle.fragments.proofs.Laws.Bool.{and-left, and-right}
 use lib.ListN.{set}
 use Rattle.disc.specs.Types.{Appended, Accepted, Link, MediumSize}
-use Rattle.disc.specs.Address.{block}
-use Rattle.disc.specs.Answer.{noSense, isRefusalSense, allowedSense}
-use Rattle.disc.specs.Records.{listed, every}
+use Rattle.fragments.specs.Address.{block}
+use Rattle.protocol.specs.Answer.{noSense, isRefusalSense, allowedSense}
+use Rattle.fragments.specs.List.{listed, every}
 use Rattle.disc.specs.Sound.{usedFirst, firstAtZero, followsFrom, inOrder, endsWithin, recordedWithin, zeroedWithin, incompleteLast, tailLast, tailOrFull, pendingNamed, finalizedComplete, sound, allowedState}
 use Rattle.disc.specs.Blank.{inRange, zeroState, blank, made, Blanked}
 

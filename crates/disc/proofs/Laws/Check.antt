@@ -1,4 +1,4 @@
--- The walk along the list, step by step, and that it tests the rules of a sound list.
+-- The walk along the list tests the rules of a sound list.
 use Prim.Native.Nat.{ℕ, suc, _+_, _-_, _≤_, _<_}
 use mathlib.Core.Path.{_≡_, refl, sym, _∙_}
 use mathlib.Core.Bool.{Bool, true, false, not, cond, _&&_, _||_, or-true, or-false, and-false as and-zero}
@@ -8,40 +8,17 @@ use borrow.Author.Tests.{eq-eqb, ne-eqb, eqb-true, eqb-false, leb-true, leb-fals
 use lib.ListN.{length, getD, drop, drop-of-length-le}
 use native.Mathlib.Omega.{arith}
 use lib.Seq.{drop-cons}
-use Rattle.disc.proofs.Laws.Bool.{and-left, and-right, and-both, by-cases, or-left, or-right, or-cases, contradiction, same-test}
+use Rattle.fragments.proofs.Laws.Bool.{and-left, and-right, and-both, by-cases, or-left, or-right, or-cases, contradiction, same-test}
 use Rattle.disc.specs.Types.{Fragment, Disc}
 use lib.Dec.{eqb, leb, ltb, eqb·zero-suc, eqb·suc-suc}
-use Rattle.disc.specs.Fragment.{unusedRecord, unused, end, complete, isReserved, isTail, nextFragmentStart, nextSessionStart}
-use Rattle.disc.specs.Records.{limit, every, listed, records, used, numbered, hasTail}
-use Rattle.disc.specs.Address.{sectorsIn}
-use Rattle.disc.specs.Sound.{isZero, usedFirst, firstAtZero, follows, followsFrom, inOrder, endsWithin, recordedWithin, zeroedWithin, incompleteLast, tailLast, tailOrFull, pendingNamed, finalizedComplete, sound}
-use Rattle.disc.proofs.Laws.Records.{every-implies, use-cases, listed-off, listed-on, listed-le}
+use Rattle.fragments.specs.Fragment.{unusedRecord, unused, end, complete, isReserved, isTail, nextFragmentStart, nextSessionStart, isZero}
+use Rattle.fragments.specs.List.{limit, every, listed}
+use Rattle.disc.specs.Records.{records, used, numbered, hasTail}
+use Rattle.fragments.specs.Address.{sectorsIn}
+use Rattle.disc.specs.Sound.{usedFirst, firstAtZero, follows, followsFrom, inOrder, endsWithin, recordedWithin, zeroedWithin, incompleteLast, tailLast, tailOrFull, pendingNamed, finalizedComplete, sound, ownerIncomplete}
+use Rattle.fragments.proofs.Laws.List.{every-implies, use-cases, listed-off, listed-on, listed-le}
 use Rattle.disc.proofs.Laws.Rules.{used-first-at, Tests, sound-tests, tests-sound, pending-few, pending-owned, owned-pending, record-at}
-use Rattle.disc.specs.Check.{within, beginsList, continues, openAfter, endsList, walk, listSound, ownerIncomplete}
-
--- the record at an index of the walk: none in use there, or one that must fit
-module _ (fs : List Fragment) (i : ℕ) (d : Fragment) (h : i < length fs) (c : ℕ) (fin o : Bool) (p : Fragment) where
-  pub walk-stop : getD fs i d .length ≡ 0 → walk c fin o p (drop i fs) ≡ (endsList c fin false o p && every isZero (drop i fs))
-  unfolding walk
-  walk-stop e = rw (drop-cons fs i d h) (rw (eq-eqb _ _ e))
-
-  pub walk-on :
-      (getD fs i d .length ≡ 0 → ⊥) → walk c fin o p (drop i fs)
-      ≡ (within c (getD fs i d) && continues o p (getD fs i d) && walk c fin (openAfter o p (getD fs i d)) (getD fs i d) (drop (i + 1) fs))
-  unfolding walk
-  walk-on e = rw (add-one, drop-cons fs i d h) (rw (ne-eqb _ _ e))
-
-pub walk-end : (fs : List Fragment) (i c : ℕ) (fin o : Bool) (p : Fragment) → length fs ≤ i → walk c fin o p (drop i fs) ≡ endsList c fin true o p
-unfolding walk
-walk-end fs i c fin o p h = rw (drop-of-length-le fs h)
-
-pub list-start :
-    (fs : List Fragment) (d : Fragment) (c : ℕ) (fin : Bool)
-    → 0 < length fs → listSound c fin fs
-    ≡ (beginsList (getD fs 0 d) && within c (getD fs 0 d) && walk c fin (not (complete (getD fs 0 d))) (getD fs 0 d) (drop 1 fs))
-unfolding listSound
-list-start [] d c fin h = absurd (omega arith)
-list-start (f ∷ fs) d c fin h = refl
+use Rattle.fragments.specs.Check.{within, beginsList, continues, openAfter, endsList, walk, listSound}
 
 -- the last of p and the records behind it
 abbrev lastOf : Fragment → List Fragment → Fragment

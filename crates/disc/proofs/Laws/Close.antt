@@ -8,15 +8,17 @@ use lib.Dec.{ltb}
 use lib.ListN.{length, getD, set, length-set}
 use lib.Seq.{getD-set-other}
 use Rattle.disc.specs.Types.{Kind, Disc, Appended, Nothing, EmptyTrack}
-use Rattle.disc.specs.Fragment.{unusedRecord, end, complete, isReserved, isTail, isBlank, nextFragmentStart, tailFrom}
-use Rattle.disc.specs.Records.{limit, used, isListed, numbered, withRecord, sumRecorded}
+use Rattle.fragments.specs.Fragment.{unusedRecord, end, complete, isReserved, isTail, nextFragmentStart, tailFrom}
+use Rattle.disc.specs.Records.{isBlank, used, isListed, numbered, withRecord}
+use Rattle.fragments.specs.List.{limit, sumRecorded}
 use Rattle.disc.specs.Rules.{at, Sound}
 use Rattle.disc.specs.Ready.{Ready}
-use Rattle.disc.specs.Verdict.{rise, accepted, refuse, noReply, plan}
+use Rattle.disc.specs.Verdict.{rise, accepted, refuse, plan}
+use Rattle.protocol.specs.Reply.{noReply}
 use Rattle.disc.specs.Flush.{flush, flushPlan, flushCount}
 use Rattle.disc.specs.Close.{filledRecord, shortenedRecord, appendTail, closeIncomplete, closeFragment}
-use Rattle.disc.proofs.Laws.Bool.{and-right, and-both, by-cases, cond-yes, cond-no}
-use Rattle.disc.proofs.Laws.Records.{listed-le, sum-set}
+use Rattle.fragments.proofs.Laws.Bool.{and-right, and-both, by-cases, cond-yes, cond-no}
+use Rattle.fragments.proofs.Laws.List.{listed-le, sum-set}
 use Rattle.disc.proofs.Laws.Verdict.{accept-count}
 use Rattle.disc.proofs.Laws.Flush.{rise-flush, flush-sum, flush-sound, flush-ready}
 
@@ -37,11 +39,11 @@ append-sum d n l z =
     (λ t. rw t)
 
 -- closing a reserved fragment records what it lacks, and the block of a flush
-flush-fill-count :
+pub fill-count :
     (d : Disc) (n : ℕ) → Ready d → 1 ≤ n → n ≤ used (flush d)
     → rise d (withRecord (flush d) n (filledRecord (numbered (flush d) n)))
     ≡ flushCount d + (numbered (flush d) n .length - numbered (flush d) n .recorded)
-flush-fill-count d n r from listed =
+fill-count d n r from listed =
     let e = flush d in
     let s = flush-sound d r in
     let f = numbered e n in
@@ -50,10 +52,10 @@ flush-fill-count d n r from listed =
     omega (arith, flush-sum d r)
 
 -- closing a tail records the block of a flush alone
-flush-shorten-count :
+pub shorten-count :
     (d : Disc) (n : ℕ) → Ready d → n ≡ used (flush d)
     → rise d (appendTail (withRecord (flush d) n (shortenedRecord (numbered (flush d) n))) n) ≡ flushCount d
-flush-shorten-count d n r last =
+shorten-count d n r last =
     let e = flush d in
     let s = flush-sound d r in
     let f = numbered e n in
@@ -64,19 +66,6 @@ flush-shorten-count d n r last =
     let k = sum-set (e .fragments) (n - 1) g unusedRecord (omega (arith, listed-le (e .fragments))) in
     let a = append-sum (withRecord e n g) n (length-set (e .fragments) (n - 1) g ∙ s .array) free in
     omega (arith, flush-sum d r)
-
-pub flushed-ready : (d e : Disc) → Ready d → e ≡ flush d → Ready e
-flushed-ready d e r same = rw same (flush-ready d r)
-
-pub fill-count :
-    (d e : Disc) (n : ℕ) → Ready d → e ≡ flush d → 1 ≤ n → n ≤ used e
-    → rise d (withRecord e n (filledRecord (numbered e n))) ≡ flushCount d + (numbered e n .length - numbered e n .recorded)
-fill-count d e n r same from listed = rw same (flush-fill-count d n r from (rw same at listed))
-
-pub shorten-count :
-    (d e : Disc) (n : ℕ) → Ready d → e ≡ flush d → n ≡ used e
-    → rise d (appendTail (withRecord e n (shortenedRecord (numbered e n))) n) ≡ flushCount d
-shorten-count d e n r same last = rw same (flush-shorten-count d n r (rw same at last))
 
 -- the outcomes of 001
 module _ (d : Disc) (n : ℕ) (l : isListed d n ≡ true) where

@@ -8,15 +8,16 @@ use borrow.Author.Tests.{ltb-true, ltb-false, eqb-true, eq-eqb}
 use lib.Dec.{eqb, ltb}
 use lib.ListN.{length, getD, set, length-set}
 use lib.Seq.{getD-set-same, getD-set-other}
-use Rattle.disc.specs.Fragment.{unusedRecord, end, isBlank, pendingIn, nextFragmentStart}
-use Rattle.disc.specs.Records.{limit, records, used, numbered, lastRecord, withRecord, hasTail, hasBlankTail, firstOfSession, blankTailOnly}
+use Rattle.fragments.specs.Fragment.{unusedRecord, end, nextFragmentStart}
+use Rattle.disc.specs.Records.{isBlank, pendingIn, records, used, numbered, lastRecord, withRecord, hasTail, hasBlankTail, blankTailOnly}
+use Rattle.fragments.specs.List.{limit, firstOfSession}
 use Rattle.disc.specs.Ready.{Ready}
 use Rattle.disc.specs.Rules.{at, Sound}
 use Rattle.disc.specs.Reserve.{reservedAt, splitTail}
 use Rattle.disc.specs.Close.{shortenedRecord, appendTail, closeTail, openSession}
-use Rattle.disc.proofs.Laws.Bool.{and-left, and-right, by-cases, cond-yes, cond-no}
-use Rattle.disc.proofs.Laws.Numbers.{equal-cases}
-use Rattle.disc.proofs.Laws.Records.{listed-le, listed-at}
+use Rattle.fragments.proofs.Laws.Bool.{and-left, and-right, by-cases, cond-yes, cond-no}
+use Rattle.fragments.proofs.Laws.Numbers.{equal-cases}
+use Rattle.fragments.proofs.Laws.List.{listed-le, listed-at}
 use Rattle.disc.proofs.Laws.Rules.{sound-rules}
 use Rattle.disc.proofs.Laws.Reserve.{blank-recorded}
 use Rattle.disc.proofs.Laws.Session.{kept-blank, kept-tail, kept-same, Kept}

@@ -8,17 +8,18 @@ use lib.Dec.{eqb, ltb}
 use lib.ListN.{length, set}
 use lib.Seq.{getD-set-same, set-set}
 use Rattle.disc.specs.Types.{Lba, Fragment, Disc, Verdict, Accepted, Gather, Write, Block, Flush, Skip, Plan}
-use Rattle.disc.specs.Fragment.{unusedRecord, end, firstUnrecorded, pendingIn, nextWritable}
-use Rattle.disc.specs.Address.{lba, firstSector, block}
-use Rattle.disc.specs.Answer.{noSense}
-use Rattle.disc.specs.Records.{used, numbered, withSense}
+use Rattle.fragments.specs.Fragment.{unusedRecord, end, firstUnrecorded}
+use Rattle.disc.specs.Records.{pendingIn, nextWritable, used, numbered, withSense}
+use Rattle.fragments.specs.Address.{lba, firstSector, block}
+use Rattle.protocol.specs.Answer.{noSense}
 use Rattle.disc.specs.Ready.{Ready}
-use Rattle.disc.specs.Verdict.{accepted, accept, noReply, plan}
+use Rattle.disc.specs.Verdict.{accepted, accept, plan}
+use Rattle.protocol.specs.Reply.{noReply}
 use Rattle.disc.specs.Write.{flushOthers, flushOthersPlan, flushOthersCount, grownRecord, gather, writeTo, writeFound, write}
-use Rattle.disc.proofs.Laws.Bool.{cond-yes, cond-no, by-cases, contradiction}
+use Rattle.fragments.proofs.Laws.Bool.{cond-yes, cond-no, by-cases, contradiction}
 use Rattle.disc.proofs.Laws.Rules.{sound-rules}
 use Rattle.disc.proofs.Laws.Write.{place, write-count, others-numbered, others-pending, others-used, others-sound, others-length}
-use Rattle.disc.proofs.Laws.Numbers.{order-cases}
+use Rattle.fragments.proofs.Laws.Numbers.{order-cases}
 use Rattle.disc.proofs.Laws.Sound.{starts-rise, writable-within}
 use Rattle.disc.specs.Rules.{at}
 use Rattle.disc.proofs.Laws.Flush.{flush-none}

@@ -8,14 +8,15 @@ use lib.Dec.{eqb}
 use lib.ListN.{length, length-set}
 use lib.Seq.{getD-set-same}
 use Rattle.disc.specs.Types.{Fragment, Disc}
-use Rattle.disc.specs.Fragment.{unusedRecord, pendingIn, isBlank}
-use Rattle.disc.specs.Records.{limit, used, numbered, sumRecorded}
+use Rattle.fragments.specs.Fragment.{unusedRecord}
+use Rattle.disc.specs.Records.{pendingIn, isBlank, used, numbered}
+use Rattle.fragments.specs.List.{limit, sumRecorded}
 use Rattle.disc.specs.Ready.{Ready}
 use Rattle.disc.specs.Rules.{Sound}
 use Rattle.disc.specs.Flush.{flushedRecord, flush, flushCount}
 use Rattle.disc.specs.Verdict.{rise}
-use Rattle.disc.proofs.Laws.Bool.{and-both, contradiction, by-cases, cond-yes, cond-no}
-use Rattle.disc.proofs.Laws.Records.{listed-le, sum-set}
+use Rattle.fragments.proofs.Laws.Bool.{and-both, contradiction, by-cases, cond-yes, cond-no}
+use Rattle.fragments.proofs.Laws.List.{listed-le, sum-set}
 use Rattle.disc.proofs.Laws.Rules.{sound-rules, rules-sound}
 use Rattle.disc.proofs.Laws.Sound.{incomplete-room}
 use Rattle.disc.proofs.Laws.Grow.{GrownRecord, Grown, set-grown, same-grown, grown-used, grown-sound}

@@ -9,12 +9,12 @@ use borrow.Author.Tests.{eq-eqb, eqb-true, not-true}
 use lib.ListN.{length, getD, set, length-set}
 use lib.Seq.{getD-set-same, getD-set-other}
 use Rattle.disc.specs.Types.{Fragment, Disc}
-use Rattle.disc.specs.Fragment.{unusedRecord, end, complete, isReserved, isTail}
+use Rattle.fragments.specs.Fragment.{unusedRecord, end, complete, isReserved, isTail}
 use Rattle.disc.specs.Records.{used, lastRecord, hasTail}
 use Rattle.disc.specs.Rules.{at, Follows, Owned, Sound}
-use Rattle.disc.proofs.Laws.Bool.{and-left, and-right, and-both, by-cases, contradiction}
-use Rattle.disc.proofs.Laws.Numbers.{equal-cases}
-use Rattle.disc.proofs.Laws.Records.{listed-le, listed-used, listed-count}
+use Rattle.fragments.proofs.Laws.Bool.{and-left, and-right, and-both, by-cases, contradiction}
+use Rattle.fragments.proofs.Laws.Numbers.{equal-cases}
+use Rattle.fragments.proofs.Laws.List.{listed-le, listed-used, listed-count}
 
 -- the disc e is d with blocks recorded: each record stays where it is, and what it records does not shrink
 pub record Grown (d e : Disc) : Type 0 where

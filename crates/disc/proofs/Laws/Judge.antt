@@ -9,15 +9,17 @@ use native.Mathlib.Nat.{le-refl}
 use lib.ListN.{length, replicate, length-append}
 use lib.Dec.{eqb, ltb}
 use Rattle.disc.specs.Types.{Lba, Disc, Verdict, Found, Number, Nowhere, Command, TestUnitReady, RequestSense, ReadCapacity, Read, Write, SynchronizeCache, ReserveTrack, CloseTrackSession, ReadDiscInformation, ReadTrackInformation, Unlisted, InvalidOperationCode, InvalidFieldInCommand, AddressOutOfRange, BlankCheck, DriveRefusal, LinkRefusal, Accepted, Link, Drive, CommandBlockLength, MediumSize, UnsoundState, TransferLength, WriteProtected, InvalidAddressForWrite, IncompleteTrackInSession, EmptyTrack, NoMoreReservations, EndOfUserArea, Send}
-use Rattle.disc.specs.Address.{lba, sectorsIn}
-use Rattle.disc.specs.Answer.{number, allowedSense, noSense, refusalSense, isRefusalSense}
-use Rattle.disc.specs.Command.{decode}
-use Rattle.disc.specs.Records.{lastReadable, records, used, isListed, hasTail, atAddress, readable, sumRecorded}
+use Rattle.fragments.specs.Address.{lba, sectorsIn}
+use Rattle.protocol.specs.Answer.{number, allowedSense, noSense, refusalSense, isRefusalSense}
+use Rattle.protocol.specs.Command.{decode}
+use Rattle.fragments.specs.List.{lastReadable, sumRecorded}
+use Rattle.disc.specs.Records.{records, used, isListed, hasTail, atAddress, readable}
 use Rattle.disc.specs.Sound.{sound, allowedState}
 use Rattle.disc.specs.Blank.{inRange}
 use Rattle.disc.specs.Ready.{Ready}
-use Rattle.disc.specs.Lengths.{lengthsFit, replyRoom, capacityLength, dataLength}
-use Rattle.disc.specs.Verdict.{refuseLink, noPlan, refuse, accepted, accept, report, rise}
+use Rattle.protocol.specs.Lengths.{lengthsFit, replyRoom, capacityLength, dataLength}
+use Rattle.disc.specs.Verdict.{refuseLink, noPlan, refuse, accepted, accept, rise}
+use Rattle.protocol.specs.Reply.{report}
 use Rattle.disc.specs.Read.{allReadable, read}
 use Rattle.disc.specs.Reports.{bytes32, senseBytes, requestSense, readCapacity, discInformation, readDiscInformation, trackInformation, trackReport, trackFound, trackNumbered, readTrackInformation}
 use Rattle.disc.specs.Judge.{judgeAsAsked, testUnitReady, perform, judgeCommand, judge, Judged}
@@ -25,7 +27,7 @@ use mathlib.Core.Logic.{⊎-elim, _⊎_, inl, inr}
 use Rattle.disc.specs.Recorded.{recordsBlock, flushes, transfers}
 use Rattle.disc.specs.Write.{write}
 use Rattle.disc.proofs.Laws.Pending.{Pending, pending-same}
-use Rattle.disc.proofs.Laws.Bool.{and-left, cond-cases, and-both, same-test, or-left, or-right, or-cases, contradiction, by-cases}
+use Rattle.fragments.proofs.Laws.Bool.{and-left, cond-cases, and-both, same-test, or-left, or-right, or-cases, contradiction, by-cases}
 use Rattle.disc.proofs.Laws.Rules.{sound-rules}
 use Rattle.disc.proofs.Laws.Onward.{Onward, same-onward, onward-sum}
 use Rattle.disc.proofs.Laws.Recorded.{Records, nothing-records}
@@ -67,7 +69,7 @@ sense-outcome d n r = report-outcome d (RequestSense n) (senseBytes (d .sense)) 
 
 capacity-outcome : (d : Disc) → Ready d → Outcome d ReadCapacity (readCapacity d)
 unfolding readCapacity replyRoom
-capacity-outcome d r = report-outcome d ReadCapacity (bytes32 (lastReadable (records d)) ++ bytes32 2048) capacityLength (le-refl _) r
+capacity-outcome d r = report-outcome d ReadCapacity (bytes32 (lastReadable (records d) .0) ++ bytes32 2048) capacityLength (le-refl _) r
 
 disc-outcome : (d : Disc) (t n : ℕ) → Ready d → Outcome d (ReadDiscInformation t n) (readDiscInformation d t n)
 unfolding readDiscInformation discInformation replyRoom

@@ -10,18 +10,19 @@ use lib.Dec.{eqb, ltb}
 use lib.ListN.{length, getD, set}
 use lib.Seq.{getD-set-same, getD-set-other}
 use Rattle.disc.specs.Types.{Block, Lba, Fragment, Disc}
-use Rattle.disc.specs.Address.{firstSector}
-use Rattle.disc.specs.Fragment.{unusedRecord, end, complete, isReserved, isTail, isIncompleteReserved, pendingIn, isBlank, nextFragmentStart, nextSessionStart, tailFrom}
-use Rattle.disc.specs.Records.{limit, listed, records, used, numbered, lastRecord, withRecord, hasTail, hasBlankTail, some, firstOfSession, blankTailOnly}
+use Rattle.fragments.specs.Address.{firstSector}
+use Rattle.fragments.specs.Fragment.{unusedRecord, end, complete, isReserved, isTail, isIncompleteReserved, nextFragmentStart, nextSessionStart, tailFrom}
+use Rattle.disc.specs.Records.{pendingIn, isBlank, records, used, numbered, lastRecord, withRecord, hasTail, hasBlankTail, blankTailOnly}
+use Rattle.fragments.specs.List.{limit, listed, some, firstOfSession}
 use Rattle.disc.specs.Rules.{at, Sound}
 use Rattle.disc.specs.Ready.{Ready}
 use Rattle.disc.specs.Flush.{flush}
 use Rattle.disc.specs.Write.{flushOthers, grownRecord, gather, Writable}
 use Rattle.disc.specs.Reserve.{reservedAt, splitTail}
 use Rattle.disc.specs.Close.{filledRecord, shortenedRecord, appendTail, hasIncompleteReserved, closeTail, openSession, finalized}
-use Rattle.disc.proofs.Laws.Bool.{and-left, and-right, and-both, by-cases, contradiction, cond-yes, cond-no}
-use Rattle.disc.proofs.Laws.Numbers.{equal-cases, below-limit}
-use Rattle.disc.proofs.Laws.Records.{listed-le, listed-at, at-some}
+use Rattle.fragments.proofs.Laws.Bool.{and-left, and-right, and-both, by-cases, contradiction, cond-yes, cond-no}
+use Rattle.fragments.proofs.Laws.Numbers.{equal-cases, below-limit}
+use Rattle.fragments.proofs.Laws.List.{listed-le, listed-at, at-some}
 use Rattle.disc.proofs.Laws.Rules.{sound-rules}
 use Rattle.disc.proofs.Laws.Grow.{Grown, set-grown, grown-used, grown-sound}
 use Rattle.disc.proofs.Laws.Reserve.{blank-recorded}

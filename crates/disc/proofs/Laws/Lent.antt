@@ -8,17 +8,17 @@ use borrow.Author.Tests.{eq-eqb, eqb-true, leb-true}
 use lib.Dec.{eqb, leb}
 use lib.ListN.{length}
 use Rattle.disc.specs.Types.{Lba, Disc, Flush, Transfer, Send, Verdict, Command}
-use Rattle.disc.specs.Command.{decode}
+use Rattle.protocol.specs.Command.{decode}
 use Rattle.disc.specs.Rules.{Sound}
 use Rattle.disc.specs.Blank.{inRange}
 use Rattle.disc.specs.Ready.{Ready}
-use Rattle.disc.specs.Lengths.{dataLength, replyRoom, lengthsFit}
+use Rattle.protocol.specs.Lengths.{dataLength, replyRoom, lengthsFit}
 use Rattle.disc.specs.Lent.{FlushFits, TransferFits, RunFits, Fits}
 use Rattle.disc.specs.Read.{read}
 use Rattle.disc.specs.Verdict.{refuseLink}
 use Rattle.disc.specs.Judge.{perform, judge}
 use Rattle.disc.specs.Run.{stretch, sent, sentBy, served, recordedRun}
-use Rattle.disc.proofs.Laws.Bool.{and-both, and-left, and-right}
+use Rattle.fragments.proofs.Laws.Bool.{and-both, and-left, and-right}
 use Rattle.disc.proofs.Laws.Rules.{sound-rules}
 use Rattle.disc.proofs.Laws.Plan.{Flushed, skips, records, Moved, nothing, sends, gathers, fills, unrecorded-inside, moved-sends}
 use Rattle.disc.proofs.Laws.Outcome.{outcome-placed, outcome-room}

@@ -10,12 +10,13 @@ use mathlib.Core.List.{List, [], _∷_}
 use borrow.Author.Tests.{ltb-true, ltb-false}
 use lib.Dec.{ltb}
 use Rattle.disc.specs.Types.{Fragment, Disc}
-use Rattle.disc.specs.Fragment.{unusedRecord, firstUnrecorded}
-use Rattle.disc.specs.Records.{used, lastRecord, withRecord, sumRecorded, listed}
+use Rattle.fragments.specs.Fragment.{unusedRecord, firstUnrecorded}
+use Rattle.disc.specs.Records.{used, lastRecord, withRecord}
+use Rattle.fragments.specs.List.{sumRecorded, listed}
 use Rattle.disc.specs.Rules.{at, Sound}
-use Rattle.disc.proofs.Laws.Bool.{by-cases}
-use Rattle.disc.proofs.Laws.Numbers.{equal-cases}
-use Rattle.disc.proofs.Laws.Records.{listed-le}
+use Rattle.fragments.proofs.Laws.Bool.{by-cases}
+use Rattle.fragments.proofs.Laws.Numbers.{equal-cases}
+use Rattle.fragments.proofs.Laws.List.{listed-le}
 use Rattle.disc.proofs.Laws.Grow.{Grown, grown-used}
 use Rattle.disc.proofs.Laws.Order.{Ordered, Extends, extended-used, last-used, drop-used}
 

@@ -8,12 +8,13 @@ use borrow.Author.Tests.{eq-eqb, not-true}
 use lib.ListN.{length, getD, set, length-set}
 use lib.Seq.{getD-set-same, getD-set-other}
 use Rattle.disc.specs.Types.{Fragment, Disc}
-use Rattle.disc.specs.Fragment.{unusedRecord, end, complete, isReserved, isTail}
-use Rattle.disc.specs.Records.{limit, used, lastRecord, withRecord, hasTail}
+use Rattle.fragments.specs.Fragment.{unusedRecord, end, complete, isReserved, isTail}
+use Rattle.fragments.specs.List.{limit}
+use Rattle.disc.specs.Records.{used, lastRecord, withRecord, hasTail}
 use Rattle.disc.specs.Rules.{at, Follows, Owned, Sound}
-use Rattle.disc.proofs.Laws.Bool.{and-right, contradiction}
-use Rattle.disc.proofs.Laws.Numbers.{equal-cases}
-use Rattle.disc.proofs.Laws.Records.{listed-le, listed-used, listed-count}
+use Rattle.fragments.proofs.Laws.Bool.{and-right, contradiction}
+use Rattle.fragments.proofs.Laws.Numbers.{equal-cases}
+use Rattle.fragments.proofs.Laws.List.{listed-le, listed-used, listed-count}
 use Rattle.disc.proofs.Laws.Sound.{sessions-rise}
 
 -- how many records are in use with the last one dropped, or another one in its place

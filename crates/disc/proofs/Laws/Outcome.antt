@@ -7,14 +7,16 @@ use borrow.Author.Tests.{eq-eqb, eqb-false, leb-false, ltb-false, not-false}
 use lib.Dec.{eqb, leb, ltb}
 use lib.ListN.{length, set}
 use Rattle.disc.specs.Types.{Sense, Accepted, Drive, Lba, Kind, Reserved, Appended, Disc, Found, Number, Nowhere, Reply, Plan, Verdict, DriveRefusal, LinkRefusal, Link, Nothing, Command, Write, WriteProtected, InvalidFieldInCommand, InvalidAddressForWrite, IncompleteTrackInSession, EmptyTrack, NoMoreReservations, EndOfUserArea, Skip, Send, Read, Gather, Fill}
-use Rattle.disc.specs.Address.{firstSector, blocksFor, sectorsIn}
-use Rattle.disc.specs.Answer.{noSense, refusalSense}
-use Rattle.disc.specs.Fragment.{end, complete, isBlank, nextFragmentStart, nextSessionStart, firstUnrecorded, pendingIn}
-use Rattle.disc.specs.Records.{limit, used, isListed, numbered, lastRecord, withRecord, hasBlankTail, writableAt, blankTailOnly, withSense}
+use Rattle.fragments.specs.Address.{firstSector, blocksFor, sectorsIn}
+use Rattle.protocol.specs.Answer.{noSense, refusalSense}
+use Rattle.fragments.specs.Fragment.{end, complete, nextFragmentStart, nextSessionStart, firstUnrecorded}
+use Rattle.disc.specs.Records.{isBlank, pendingIn, used, isListed, numbered, lastRecord, withRecord, hasBlankTail, writableAt, blankTailOnly, withSense}
+use Rattle.fragments.specs.List.{limit}
 use Rattle.disc.specs.Rules.{Sound}
 use Rattle.disc.specs.Ready.{Ready}
-use Rattle.disc.specs.Lengths.{replyRoom}
-use Rattle.disc.specs.Verdict.{rise, accepted, accept, refuse, noReply, noPlan, plan}
+use Rattle.protocol.specs.Lengths.{replyRoom}
+use Rattle.disc.specs.Verdict.{rise, accepted, accept, refuse, noPlan, plan}
+use Rattle.protocol.specs.Reply.{noReply}
 use Rattle.disc.specs.Flush.{flush, flushPlan, synchronizeCache}
 use Rattle.disc.specs.Write.{flushOthers, gather, writeTo, writeFound, write, Writable, flushOthersPlan, grownRecord}
 use Rattle.disc.specs.Reserve.{reservedAt, splitTail, reserve}
@@ -23,8 +25,8 @@ use Rattle.disc.specs.Read.{allReadable}
 use Rattle.disc.specs.Recorded.{transfers}
 use Rattle.disc.proofs.Laws.Pending.{Pending, pending-same, pending-sent, pending-none, pending-filled, pending-gathered, pending-split}
 use Rattle.disc.proofs.Laws.Recorded.{Records, set-onward, flush-onward, others-onward, flush-records, both-record, nothing-records, sent-records}
-use Rattle.disc.proofs.Laws.Bool.{and-both, by-cases, cond-cases, or-right, or-false-left, contradiction}
-use Rattle.disc.proofs.Laws.Numbers.{equal-cases, below-limit}
+use Rattle.fragments.proofs.Laws.Bool.{and-both, by-cases, cond-cases, or-right, or-false-left, contradiction}
+use Rattle.fragments.proofs.Laws.Numbers.{equal-cases, below-limit}
 use Rattle.disc.proofs.Laws.Records.{listed-number}
 use Rattle.disc.proofs.Laws.Rules.{sound-rules, rules-sound}
 use Rattle.disc.proofs.Laws.Flush.{used-limit, flush-sound, flush-capacity, flush-finalized, flush-pending, flush-used, flush-written}

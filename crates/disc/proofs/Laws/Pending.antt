@@ -8,15 +8,16 @@ use lib.Dec.{eqb}
 use lib.ListN.{length, getD, set}
 use lib.Seq.{getD-set-same, getD-set-other}
 use Rattle.disc.specs.Types.{Block, Lba, Disc, Skip, Record, Transfer, Nothing, Send, Gather, Fill, Plan}
-use Rattle.disc.specs.Fragment.{unusedRecord, firstUnrecorded, pendingIn, isBlank}
-use Rattle.disc.specs.Records.{limit, used, numbered, lastRecord, hasTail, hasBlankTail}
+use Rattle.fragments.specs.Fragment.{unusedRecord, firstUnrecorded}
+use Rattle.disc.specs.Records.{pendingIn, isBlank, used, numbered, lastRecord, hasTail, hasBlankTail}
+use Rattle.fragments.specs.List.{limit}
 use Rattle.disc.specs.Ready.{Ready}
 use Rattle.disc.specs.Verdict.{plan, noPlan}
 use Rattle.disc.specs.Recorded.{flushedCount, transferredCount, pendingBlock, transferredBlock}
 use Rattle.disc.specs.Flush.{flush, flushPlan}
 use Rattle.disc.specs.Write.{flushOthers, flushOthersPlan, grownRecord, gather}
 use Rattle.disc.specs.Reserve.{reservedAt, splitTail}
-use Rattle.disc.proofs.Laws.Bool.{by-cases, cond-no, and-right}
+use Rattle.fragments.proofs.Laws.Bool.{by-cases, cond-no, and-right}
 use Rattle.disc.proofs.Laws.Rules.{sound-rules}
 use Rattle.disc.proofs.Laws.Write.{others-pending, others-numbered, others-length}
 use Rattle.disc.proofs.Laws.Keep.{blank-unowned}

@@ -6,9 +6,9 @@ use native.Mathlib.Omega.{arith}
 use borrow.Author.Tests.{eqb-false, eqb-true}
 use lib.Dec.{eqb}
 use Rattle.disc.specs.Types.{Block, Lba, Disc, Flush, Skip, Record, Transfer, Nothing, Send, Gather, Fill, Plan, Command, Read, Write}
-use Rattle.disc.specs.Address.{firstSector, sectorsIn}
-use Rattle.disc.specs.Fragment.{end, firstUnrecorded, pendingIn}
-use Rattle.disc.specs.Records.{used, numbered, readable}
+use Rattle.fragments.specs.Address.{firstSector, sectorsIn}
+use Rattle.fragments.specs.Fragment.{end, firstUnrecorded}
+use Rattle.disc.specs.Records.{pendingIn, used, numbered, readable}
 use Rattle.disc.specs.Rules.{at, Sound}
 use Rattle.disc.specs.Ready.{Ready}
 use Rattle.disc.specs.Verdict.{noPlan, plan}
@@ -17,8 +17,8 @@ use Rattle.disc.specs.Flush.{flush, flushPlan}
 use Rattle.disc.specs.Write.{flushOthersPlan, Writable}
 use Rattle.disc.specs.Recorded.{among, flushes, transfers, recordsBlock}
 use Rattle.disc.proofs.Laws.Recorded.{among-from, among-below}
-use Rattle.disc.proofs.Laws.Bool.{cond-cases, contradiction, or-cases}
-use Rattle.disc.proofs.Laws.Numbers.{order-cases}
+use Rattle.fragments.proofs.Laws.Bool.{cond-cases, contradiction, or-cases}
+use Rattle.fragments.proofs.Laws.Numbers.{order-cases}
 use Rattle.disc.proofs.Laws.Rules.{sound-rules}
 use Rattle.disc.proofs.Laws.Sound.{starts-rise, pending-in-few}
 use Rattle.disc.proofs.Laws.Read.{readable-cases, recorded-from, recorded-below}

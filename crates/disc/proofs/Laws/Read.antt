@@ -8,16 +8,16 @@ use lib.Dec.{eqb, leb, ltb}
 use lib.ListN.{getD, replicate}
 use Rattle.disc.specs.Blank.{blank}
 use Rattle.disc.specs.Types.{Lba, Fragment, Disc, Number, Nowhere, Nothing, Send}
-use Rattle.disc.specs.Address.{lba, sectorsIn, firstSector}
-use Rattle.disc.specs.Fragment.{unusedRecord, end, firstUnrecorded, holdsRecorded, holds}
-use Rattle.disc.specs.Records.{some, records, used, numbered, atAddress, readable, limit}
+use Rattle.fragments.specs.Address.{lba, sectorsIn, firstSector, passes}
+use Rattle.fragments.specs.Fragment.{unusedRecord, end, firstUnrecorded, holdsRecorded, holds, holdsRun}
+use Rattle.fragments.specs.List.{some, limit}
+use Rattle.disc.specs.Records.{records, used, numbered, atAddress, readable}
 use Rattle.disc.specs.Rules.{at, Sound}
 use Rattle.disc.specs.Verdict.{accepted, accept, refuse}
 use Rattle.disc.specs.Read.{allReadable, read}
-use Rattle.disc.specs.Run.{passes, holdsRun}
-use Rattle.disc.proofs.Laws.Bool.{and-left, and-right, and-both, by-cases, same-test}
-use Rattle.disc.proofs.Laws.Numbers.{order-cases}
-use Rattle.disc.proofs.Laws.Records.{listed-at, some-cases, at-some, find-hit, find-none}
+use Rattle.fragments.proofs.Laws.Bool.{and-left, and-right, and-both, by-cases, same-test}
+use Rattle.fragments.proofs.Laws.Numbers.{order-cases}
+use Rattle.fragments.proofs.Laws.List.{listed-at, some-cases, at-some, find-hit, find-none}
 use Rattle.disc.proofs.Laws.Sound.{starts-rise, disjoint}
 use Rattle.disc.proofs.Laws.Onward.{Held, Onward}
 
@@ -187,13 +187,6 @@ module _ (d : Disc) (s : Sound d) where
       at-some (holdsRun a n) (records d) i unusedRecord l
       (rw (listed-at (d .fragments) i unusedRecord l) (run-between a n (at d i) (recorded-from a (at d i) t) k)))
       e)
-
--- the test whether a run passes an end, without the sum
-pub rest-passes : (a n e : ℕ) → a ≤ e → ltb (e - a) n ≡ ltb e (a + n)
-rest-passes a n e h =
-    same-test
-    (λ t. let l = ltb-true (e - a) n t in lt-ltb e (a + n) (omega arith))
-    (λ t. let l = ltb-true e (a + n) t in lt-ltb (e - a) n (omega arith))
 
 -- what a READ sends: nothing, or the run that it names, which then ends within the disc and is readable
 pub transfer-cases :

@@ -10,7 +10,7 @@ use lib.Dec.{eqb, leb, ltb}
 use lib.ListN.{length, getD, set}
 use lib.Seq.{getD-set-same, getD-set-other}
 use Rattle.disc.specs.Types.{Lba, Fragment, Disc, Flush, Skip, Transfer, Nothing, Send, Plan}
-use Rattle.disc.specs.Fragment.{unusedRecord, firstUnrecorded}
+use Rattle.fragments.specs.Fragment.{unusedRecord, firstUnrecorded}
 use Rattle.disc.specs.Records.{used, numbered}
 use Rattle.disc.specs.Rules.{at, Sound}
 use Rattle.disc.specs.Ready.{Ready}
@@ -18,9 +18,9 @@ use Rattle.disc.specs.Verdict.{plan, noPlan}
 use Rattle.disc.specs.Recorded.{among, flushes, transfers, recordsBlock}
 use Rattle.disc.specs.Flush.{flushedRecord, flush, flushPlan}
 use Rattle.disc.specs.Write.{flushOthers, flushOthersPlan}
-use Rattle.disc.proofs.Laws.Bool.{and-left, and-right, and-both, or-left, or-right, or-cases, by-cases, contradiction}
-use Rattle.disc.proofs.Laws.Numbers.{equal-cases}
-use Rattle.disc.proofs.Laws.Records.{listed-le}
+use Rattle.fragments.proofs.Laws.Bool.{and-left, and-right, and-both, or-left, or-right, or-cases, by-cases, contradiction}
+use Rattle.fragments.proofs.Laws.Numbers.{equal-cases}
+use Rattle.fragments.proofs.Laws.List.{listed-le}
 use Rattle.disc.proofs.Laws.Rules.{sound-rules}
 use Rattle.disc.proofs.Laws.Grow.{Grown}
 use Rattle.disc.proofs.Laws.Onward.{Onward, NoBlock, Grew, same-onward, grown-onward, onward-as}

@@ -7,14 +7,15 @@ use native.Mathlib.Omega.{arith}
 use lib.Dec.{eqb}
 use lib.ListN.{length, replicate, set}
 use Rattle.disc.specs.Types.{Disc, Fragment, Lba, Number}
-use Rattle.disc.specs.Address.{sectorsIn, firstSector}
-use Rattle.disc.specs.Fragment.{end, complete, isReserved, isBlank, nextWritable, holds, lastRecorded}
-use Rattle.disc.specs.Records.{limit, used, records, numbered, lastRecord, atAddress, blankTailOnly}
+use Rattle.fragments.specs.Address.{sectorsIn, firstSector}
+use Rattle.fragments.specs.Fragment.{end, complete, isReserved, holds, lastRecorded}
+use Rattle.disc.specs.Records.{isBlank, nextWritable, used, records, numbered, lastRecord, atAddress, blankTailOnly}
+use Rattle.fragments.specs.List.{limit}
 use Rattle.disc.specs.Rules.{Sound}
-use Rattle.disc.specs.Verdict.{cutReply, report}
+use Rattle.protocol.specs.Reply.{cutReply, report}
 use Rattle.disc.specs.Reports.{low, high, when, sessionState, discStatus, discInformation, nextWritableOrZero, freeSectors, trackInformation}
-use Rattle.disc.proofs.Laws.Bool.{by-cases}
-use Rattle.disc.proofs.Laws.Records.{listed-le, find-number}
+use Rattle.fragments.proofs.Laws.Bool.{by-cases}
+use Rattle.fragments.proofs.Laws.List.{listed-le, find-number}
 use Rattle.disc.proofs.Laws.Sound.{writable-within}
 
 pub when-most : (b : Bool) (n : ℕ) → when b n ≤ n
@@ -59,30 +60,28 @@ abbrev put : List ℕ → ℕ → ℕ → List ℕ
 put l i n = set (set (set (set l i (n / 0x1000000 % 0x100)) (i + 1) (n / 0x10000 % 0x100)) (i + 2) (high n)) (i + 3) (low n)
 
 pub track-stored :
-    (d : Disc) (n : ℕ) {f : Fragment} {n₀ n₁ s₀ s₁ flags valid next free size last : ℕ} {first : Lba} {l₁ l₂ l₃ l₄ l₅ l₆ : List ℕ}
+    (d : Disc) (n : ℕ) {f : Fragment} {flags valid free factor size : ℕ} {first next last : Lba} {l₁ l₂ l₃ l₄ l₅ l₆ l₇ l₈ : List ℕ}
     → f ≡ numbered d n
-    → n₀ ≡ low n
-    → s₀ ≡ low (f .session)
     → flags ≡ 0x01 + when (isReserved (f .kind)) 0x80 + when (isBlank d n f) 0x40
     → valid ≡ when (not (eqb (f .recorded) 0)) 0x02 + when (not (complete f)) 0x01
-    → n₁ ≡ high n
-    → s₁ ≡ high (f .session)
+    → l₁ ≡ set (set (0 ∷ 0x22 ∷ 0 ∷ 0 ∷ 0 ∷ 0x04 ∷ flags ∷ valid ∷ replicate 28 0) 2 (low n)) 32 (high n)
+    → l₂ ≡ set (set l₁ 3 (low (f .session))) 33 (high (f .session))
     → first ≡ firstSector (f .start)
-    → l₁
-    ≡ put ((0 ∷ 0x22 ∷ n₀ ∷ s₀ ∷ 0 ∷ 0x04 ∷ flags ∷ valid ∷ replicate 24 0) ++ (n₁ ∷ s₁ ∷ 0 ∷ 0 ∷ [])) 8 (first .0)
+    → l₃ ≡ put l₂ 8 (first .0)
     → next ≡ nextWritableOrZero d n
-    → l₂ ≡ put l₁ 12 next
+    → l₄ ≡ put l₃ 12 (next .0)
     → free ≡ freeSectors d n
-    → l₃ ≡ put l₂ 16 free
-    → l₄ ≡ put l₃ 20 16
+    → l₅ ≡ put l₄ 16 free
+    → factor ≡ sectorsIn 1
+    → l₆ ≡ put l₅ 20 factor
     → size ≡ sectorsIn (f .length)
-    → l₅ ≡ put l₄ 24 size
+    → l₇ ≡ put l₆ 24 size
     → last ≡ lastRecorded f
-    → l₆ ≡ put l₅ 28 last
-    → l₆ ≡ trackInformation d n
+    → l₈ ≡ put l₇ 28 (last .0)
+    → l₈ ≡ trackInformation d n
 unfolding trackInformation
-track-stored d n ef en es eg ev en₁ es₁ ea e₁ eb e₂ ec e₃ e₄ ez e₅ ew e₆ =
-    rw (e₆, e₅, e₄, e₃, e₂, e₁, ew, ez, ec, eb, ea, es₁, en₁, ev, eg, es, en, ef)
+track-stored d n ef eg ev e₁ e₂ ea e₃ eb e₄ ec e₅ ek e₆ ez e₇ ew e₈ =
+    rw (e₈, e₇, e₆, e₅, e₄, e₃, e₂, e₁, ew, ez, ek, ec, eb, ea, ev, eg, ef)
 
 -- whole reports in 36 bytes
 pub disc-report : (d : Disc) (a : ℕ) → cutReply (discInformation d ++ replicate 2 0) 34 a ≡ report (discInformation d) a

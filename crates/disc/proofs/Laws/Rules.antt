@@ -9,12 +9,13 @@ use borrow.Author.Tests.{eq-eqb, ne-eqb, eqb-true, eqb-false, le-leb, leb-true, 
 use lib.Dec.{eqb, leb, ltb}
 use lib.ListN.{length, getD}
 use Rattle.disc.specs.Types.{Fragment, Disc, Kind, Reserved, Appended}
-use Rattle.disc.specs.Fragment.{unusedRecord, unused, end, complete, isReserved, isTail, nextFragmentStart, nextSessionStart}
-use Rattle.disc.specs.Records.{limit, listed, records, used, isListed, numbered, lastRecord, hasTail, every}
-use Rattle.disc.specs.Sound.{isZero, usedFirst, firstAtZero, follows, followsFrom, inOrder, endsWithin, recordedWithin, zeroedWithin, incompleteLast, tailLast, tailOrFull, pendingNamed, finalizedComplete, isArray, sound}
+use Rattle.fragments.specs.Fragment.{unusedRecord, unused, end, complete, isReserved, isTail, nextFragmentStart, nextSessionStart, isZero}
+use Rattle.fragments.specs.List.{limit, listed, every}
+use Rattle.disc.specs.Records.{records, used, isListed, numbered, lastRecord, hasTail}
+use Rattle.disc.specs.Sound.{usedFirst, firstAtZero, follows, followsFrom, inOrder, endsWithin, recordedWithin, zeroedWithin, incompleteLast, tailLast, tailOrFull, pendingNamed, finalizedComplete, isArray, sound}
 use Rattle.disc.specs.Rules.{at, Follows, Owned, Sound}
-use Rattle.disc.proofs.Laws.Bool.{and-left, and-right, and-both, by-cases, or-left, or-right, or-cases, contradiction}
-use Rattle.disc.proofs.Laws.Records.{every-at, at-every, use-cases, listed-off, listed-on, listed-at}
+use Rattle.fragments.proofs.Laws.Bool.{and-left, and-right, and-both, by-cases, or-left, or-right, or-cases, contradiction}
+use Rattle.fragments.proofs.Laws.List.{every-at, at-every, use-cases, listed-off, listed-on, listed-at}
 
 -- a record whose every field is zero
 zero-kind : (k : Kind) → isReserved k ≡ true → k ≡ Reserved

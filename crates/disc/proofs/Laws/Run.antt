@@ -9,22 +9,24 @@ use types.Run.{OneOf, miss}
 use denote.Enum.Declared.{tagOf}
 use lib.Dec.{eqb, ltb}
 use lib.ListN.{length, drop, length-take}
-use Rattle.disc.proofs.command.Command as command
+use Rattle.protocol.proofs.command.Command as command
 use Rattle.disc.proofs.verdict.Transfer as transfer
 use Rattle.disc.specs.Types.{Lba, Disc, Command, TestUnitReady, RequestSense, ReadCapacity, Read, Write, SynchronizeCache, ReserveTrack, CloseTrackSession, ReadDiscInformation, ReadTrackInformation, Unlisted}
-use Rattle.disc.specs.Address.{lba, sectorsIn}
-use Rattle.disc.specs.Records.{some, records, readable}
+use Rattle.fragments.specs.Address.{lba, sectorsIn}
+use Rattle.fragments.specs.List.{some}
+use Rattle.disc.specs.Records.{records, readable}
 use Rattle.disc.specs.Rules.{Sound}
 use Rattle.disc.specs.Sound.{sound, allowedState}
-use Rattle.disc.specs.Answer.{allowedSense}
+use Rattle.protocol.specs.Answer.{allowedSense}
 use Rattle.disc.specs.Blank.{inRange}
 use Rattle.disc.specs.Ready.{Ready}
 use Rattle.disc.specs.Read.{allReadable, sends, read}
 use Rattle.disc.specs.Verdict.{accepted, accept, refuse}
-use Rattle.disc.specs.Run.{holdsRun, stretch, sent, sentBy, served, recordedRun, RunOf}
-use Rattle.disc.proofs.Laws.Bool.{and-left, and-right, by-cases}
+use Rattle.fragments.specs.Fragment.{holdsRun}
+use Rattle.disc.specs.Run.{stretch, sent, sentBy, served, recordedRun, RunOf}
+use Rattle.fragments.proofs.Laws.Bool.{and-left, and-right, by-cases}
 use Rattle.disc.proofs.Laws.Read.{all-readable-at, run-test, transfer-cases}
-use Rattle.disc.proofs.Laws.Numbers.{equal-cases}
+use Rattle.fragments.proofs.Laws.Numbers.{equal-cases}
 
 -- commands that send nothing, by their places among the variants
 abbrev pub withoutRun : List ℕ

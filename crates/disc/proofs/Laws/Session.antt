@@ -9,16 +9,18 @@ use lib.Dec.{eqb, ltb}
 use lib.ListN.{length, getD, set, length-set}
 use lib.Seq.{getD-set-same, getD-set-other}
 use Rattle.disc.specs.Types.{Fragment, Disc, Nothing, IncompleteTrackInSession, EmptyTrack, NoMoreReservations, EndOfUserArea}
-use Rattle.disc.specs.Fragment.{unusedRecord, end, isBlank, nextSessionStart, tailFrom}
-use Rattle.disc.specs.Records.{limit, used, lastRecord, withRecord, hasTail, hasBlankTail, sumRecorded, blankTailOnly}
+use Rattle.fragments.specs.Fragment.{unusedRecord, end, nextSessionStart, tailFrom}
+use Rattle.disc.specs.Records.{isBlank, used, lastRecord, withRecord, hasTail, hasBlankTail, blankTailOnly}
+use Rattle.fragments.specs.List.{limit, sumRecorded}
 use Rattle.disc.specs.Rules.{at, Sound}
 use Rattle.disc.specs.Ready.{Ready}
-use Rattle.disc.specs.Verdict.{rise, accepted, accept, refuse, noReply, noPlan, plan}
+use Rattle.disc.specs.Verdict.{rise, accepted, accept, refuse, noPlan, plan}
+use Rattle.protocol.specs.Reply.{noReply}
 use Rattle.disc.specs.Flush.{flush, flushPlan, flushCount}
 use Rattle.disc.specs.Close.{shortenedRecord, hasIncompleteReserved, closeTail, openSession, closeSession, finalized, finalize}
-use Rattle.disc.proofs.Laws.Numbers.{equal-cases, below-limit}
-use Rattle.disc.proofs.Laws.Bool.{and-false, and-both, contradiction, by-cases, cond-yes, cond-no}
-use Rattle.disc.proofs.Laws.Records.{listed-le, sum-set}
+use Rattle.fragments.proofs.Laws.Numbers.{equal-cases, below-limit}
+use Rattle.fragments.proofs.Laws.Bool.{and-false, and-both, contradiction, by-cases, cond-yes, cond-no}
+use Rattle.fragments.proofs.Laws.List.{listed-le, sum-set}
 use Rattle.disc.proofs.Laws.Sound.{none-pending}
 use Rattle.disc.proofs.Laws.Verdict.{accept-count}
 use Rattle.disc.proofs.Laws.Flush.{flush-sum, flush-pending, flush-sound}

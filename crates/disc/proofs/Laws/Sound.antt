@@ -11,14 +11,15 @@ use borrow.Author.Tests.{eq-eqb, ne-eqb, eqb-true, eqb-false, leb-true}
 use lib.Dec.{eqb, leb}
 use lib.ListN.{length}
 use Rattle.disc.specs.Types.{Fragment, Disc}
-use Rattle.disc.specs.Address.{firstSector}
-use Rattle.disc.specs.Fragment.{end, complete, pendingIn, nextWritable}
-use Rattle.disc.specs.Records.{listed, records, used, sumRecorded, every}
-use Rattle.disc.specs.Sound.{isZero, usedFirst, follows, followsFrom, inOrder, endsWithin, recordedWithin}
+use Rattle.fragments.specs.Address.{firstSector}
+use Rattle.fragments.specs.Fragment.{end, complete, isZero}
+use Rattle.disc.specs.Records.{pendingIn, nextWritable, records, used}
+use Rattle.fragments.specs.List.{listed, sumRecorded, every}
+use Rattle.disc.specs.Sound.{usedFirst, follows, followsFrom, inOrder, endsWithin, recordedWithin}
 use Rattle.disc.specs.Rules.{at, Follows, Sound}
-use Rattle.disc.proofs.Laws.Bool.{and-left, and-right, by-cases, cond-yes, cond-no}
-use Rattle.disc.proofs.Laws.Numbers.{below-suc, order-cases}
-use Rattle.disc.proofs.Laws.Records.{use-cases, listed-off, listed-on}
+use Rattle.fragments.proofs.Laws.Bool.{and-left, and-right, by-cases, cond-yes, cond-no}
+use Rattle.fragments.proofs.Laws.Numbers.{below-suc, order-cases}
+use Rattle.fragments.proofs.Laws.List.{use-cases, listed-off, listed-on}
 use Rattle.disc.proofs.Laws.Rules.{zeros-at, follows-either, sound-tests, rules-sound}
 
 -- at least the dividing block lies between a record and the next one; between sessions Closure and Intro do

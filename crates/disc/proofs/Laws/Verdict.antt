@@ -3,7 +3,7 @@ use Prim.Native.Nat.{ℕ}
 use mathlib.Core.Path.{_≡_, sym, ap}
 use native.Mathlib.Nat.{sub-self}
 use Rattle.disc.specs.Types.{Disc, Reply, Plan}
-use Rattle.disc.specs.Records.{sumRecorded}
+use Rattle.fragments.specs.List.{sumRecorded}
 use Rattle.disc.specs.Verdict.{rise, accepted, accept}
 
 pub accept-count :

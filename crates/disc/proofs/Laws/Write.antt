@@ -8,15 +8,16 @@ use lib.Dec.{eqb, ltb}
 use lib.ListN.{length, getD}
 use lib.Seq.{getD-set-other}
 use Rattle.disc.specs.Types.{Lba, Fragment, Disc, Number}
-use Rattle.disc.specs.Fragment.{unusedRecord, end, complete, pendingIn, nextWritable}
-use Rattle.disc.specs.Address.{firstSector}
-use Rattle.disc.specs.Records.{used, limit, records, numbered, writableAt, sumRecorded}
+use Rattle.fragments.specs.Fragment.{unusedRecord, end, complete}
+use Rattle.disc.specs.Records.{pendingIn, nextWritable, used, records, numbered, writableAt}
+use Rattle.fragments.specs.Address.{firstSector}
+use Rattle.fragments.specs.List.{limit, sumRecorded}
 use Rattle.disc.specs.Ready.{Ready}
 use Rattle.disc.specs.Verdict.{rise}
 use Rattle.disc.specs.Flush.{flush, flushCount}
 use Rattle.disc.specs.Write.{flushOthers, flushOthersCount, grownRecord, gather, Gathering, Writable}
-use Rattle.disc.proofs.Laws.Bool.{and-left, and-right, by-cases}
-use Rattle.disc.proofs.Laws.Records.{listed-at, sum-set, find-hit}
+use Rattle.fragments.proofs.Laws.Bool.{and-left, and-right, by-cases}
+use Rattle.fragments.proofs.Laws.List.{listed-at, sum-set, find-hit}
 use Rattle.disc.proofs.Laws.Rules.{sound-rules}
 use Rattle.disc.proofs.Laws.Sound.{incomplete-room, pending-in-few}
 use Rattle.disc.proofs.Laws.Flush.{used-limit, owner, numbers, flush-sum, flush-length, flush-sound, flush-used, flush-pending}

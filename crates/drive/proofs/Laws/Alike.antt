@@ -8,14 +8,14 @@ use mathlib.Core.List.{List}
 use lib.ListN.{length, getD, take}
 use borrow.Author.Tests.{eqb-true, eqb-false}
 use lib.Dec.{eqb}
-use Rattle.disc.specs.Address.{lba}
-use Rattle.disc.specs.Answer.{refusalSense}
+use Rattle.fragments.specs.Address.{lba}
+use Rattle.protocol.specs.Answer.{refusalSense}
 use Rattle.disc.specs.Judge.{judge}
 use Rattle.disc.specs.Lent.{FlushFits, TransferFits}
 use Rattle.disc.specs.Recorded.{flushes, transfers, recordsBlock, flushedCount}
 use Rattle.disc.specs.Records.{readable, withSense}
 use Rattle.disc.specs.Verdict.{refuse, refuseLink}
-use Rattle.disc.proofs.Laws.Bool.{by-cases, or-cases}
+use Rattle.fragments.proofs.Laws.Bool.{by-cases, or-cases}
 use Rattle.disc.proofs.Laws.Judge.{decided-link, decided-refused, decided-recorded, decided-fresh, decided-sends, decided-pending, decided-capacity}
 use Rattle.disc.proofs.Laws.Pending.{Pending}
 use Rattle.disc.proofs.Laws.Read.{all-readable-at}

@@ -7,7 +7,7 @@ use mathlib.Core.List.{List, _++_}
 use lib.ListN.{length}
 use mathlib.Core.Logic.{_⊎_}
 use Rattle.drive.specs.Alike.{Alike}
-use Rattle.disc.specs.Address.{lba, block}
+use Rattle.fragments.specs.Address.{lba, block}
 use Rattle.disc.specs.Blank.{inRange}
 use Rattle.disc.specs.Lent.{FlushFits, TransferFits, Fits}
 use Rattle.disc.specs.Ready.{Ready}

@@ -4,16 +4,17 @@ use mathlib.Core.Path.{_≡_, refl, sym, ap, _∙_}
 use mathlib.Core.Bool.{true}
 use mathlib.Core.List.{List}
 use lib.ListN.{length}
-use Rattle.disc.specs.Address.{lba, sectorsIn}
-use Rattle.disc.specs.Command.{decode}
+use Rattle.fragments.specs.Address.{lba, sectorsIn}
+use Rattle.protocol.specs.Command.{decode}
 use Rattle.disc.specs.Judge.{judge, perform}
 use Rattle.disc.specs.Read.{read}
 use Rattle.disc.specs.Records.{readable}
 use Rattle.disc.specs.Run.{stretch}
-use Rattle.disc.specs.Verdict.{accept, accepted, noReply, noPlan}
+use Rattle.disc.specs.Verdict.{accept, accepted, noPlan}
+use Rattle.protocol.specs.Reply.{noReply}
 use Rattle.disc.proofs.Laws.Accepts.{read-accepted, accepted-read, read-sends, read-none}
 use Rattle.disc.proofs.Laws.Judge.{judge-reads, perform-read, decided-performed}
-use Rattle.disc.proofs.Laws.Numbers.{equal-cases}
+use Rattle.fragments.proofs.Laws.Numbers.{equal-cases}
 use Rattle.drive.specs.Types.{Lba, Disc, Read, Accepted, Send, Reply, Transfer, Verdict}
 use Rattle.drive.specs.Reply.{sentBytes}
 use Rattle.drive.specs.Step.{Drive, Request, verdictOn, carriedOut, step}

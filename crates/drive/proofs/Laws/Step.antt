@@ -7,12 +7,12 @@ use borrow.Author.Tests.{eq-eqb, ne-eqb, eqb-true, eqb-false}
 use mathlib.Core.List.{List}
 use lib.Dec.{eqb}
 use lib.ListN.{length, length-take}
-use Rattle.disc.specs.Answer.{number}
-use Rattle.disc.specs.Command.{decode}
+use Rattle.protocol.specs.Answer.{number}
+use Rattle.protocol.specs.Command.{decode}
 use Rattle.disc.specs.Judge.{judge}
 use Rattle.disc.specs.Lent.{TransferFits, RunFits, Fits}
 use Rattle.disc.specs.Verdict.{refuseLink, rise}
-use Rattle.disc.proofs.Laws.Bool.{and-left, and-right, cond-cases, by-cases}
+use Rattle.fragments.proofs.Laws.Bool.{and-left, and-right, cond-cases, by-cases}
 use Rattle.disc.proofs.Laws.Judge.{Decided, onLink, judge-decided, decided-rise, decided-most, judge-block}
 use Rattle.disc.proofs.Laws.Lent.{judge-fits, judge-run}
 use Rattle.drive.specs.Types.{Disc, LinkRefusal, CommandBlockLength, MediumSize, Reply, Transfer, Nothing, Send, Gather, Fill, Verdict, Response}

@@ -6,9 +6,9 @@ use native.Mathlib.Omega.{arith}
 use borrow.Author.Tests.{eq-eqb, ne-eqb}
 use mathlib.Core.List.{List}
 use lib.ListN.{length}
-use Rattle.disc.specs.Answer.{number}
+use Rattle.protocol.specs.Answer.{number}
 use Rattle.disc.specs.Blank.{inRange, Blanked}
-use Rattle.disc.proofs.Laws.Bool.{by-cases}
+use Rattle.fragments.proofs.Laws.Bool.{by-cases}
 use Rattle.drive.specs.Step.{drive, Request, Answered}
 use Rattle.gladhamre.specs.Types.{Blank, Response, LinkRefusal, CommandBlockLength, MediumSize, UnsoundState, Link}
 use Rattle.gladhamre.specs.Image.{encode, decode, isState}

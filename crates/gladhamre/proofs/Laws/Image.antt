@@ -10,9 +10,9 @@ use lib.ListN.{length, getD, set, take, drop, length-append, drop-of-length-le}
 use lib.Seq.{drop-drop, getD-take, take-all, length-take-le, sets, sets-eq}
 use borrow.Author.Tests.{eq-eqb, ne-eqb, eqb-true, ltb-true, lt-ltb}
 use lib.Dec.{eqb, ltb}
-use Rattle.disc.specs.Fragment.{unusedRecord}
-use Rattle.disc.specs.Records.{limit}
-use Rattle.disc.proofs.Laws.Bool.{and-left, and-right, and-both}
+use Rattle.fragments.specs.Fragment.{unusedRecord}
+use Rattle.fragments.specs.List.{limit}
+use Rattle.fragments.proofs.Laws.Bool.{and-left, and-right, and-both}
 use Rattle.drive.specs.Bytes.{splice}
 use Rattle.drive.proofs.Laws.Bytes.{splice-splice, splice-end}
 use Rattle.gladhamre.specs.Types.{Kind, Reserved, Appended, Fragment, Disc}

@@ -4,7 +4,7 @@ use Rattle.gladhamre.proofs.gladhamre_blank.Statement.{statement}
 use Rattle.gladhamre.proofs.gladhamre_blank.Tie as tie
 use Rattle.gladhamre.proofs.gladhamre_blank.Reads as reads
 use Rattle.gladhamre.proofs.gladhamre_blank.Lts as lts
-use Rattle.disc.proofs.answer.Answer.number.Reads as number-reads
+use Rattle.protocol.proofs.answer.Answer.number.Reads as number-reads
 use Rattle.disc.proofs.state.Disc.blank.Reads as blank-reads
 use Rattle.gladhamre.proofs.image.write.Reads as write-reads
 use Rattle.gladhamre.proofs.refusal_number.Reads as refusal-number-reads

@@ -9,7 +9,7 @@ use Rattle.gladhamre.proofs.gladhamre_command.Statement.{statement}
 use Rattle.gladhamre.proofs.gladhamre_command.Tie as tie
 use Rattle.gladhamre.proofs.gladhamre_command.Reads as reads
 use Rattle.gladhamre.proofs.gladhamre_command.Lts as lts
-use Rattle.disc.proofs.answer.Answer.number.Reads as number-reads
+use Rattle.protocol.proofs.answer.Answer.number.Reads as number-reads
 use Rattle.drive.proofs.command.Reads as command-reads
 use Rattle.gladhamre.proofs.image.is_state.Reads as is-state-reads
 use Rattle.gladhamre.proofs.image.read.Reads as read-reads

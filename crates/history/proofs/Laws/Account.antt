@@ -8,10 +8,9 @@ use borrow.Author.Tests.{eq-eqb, ne-eqb, ltb-true, ltb-false}
 use lib.Dec.{eqb, ltb}
 use lib.ListN.{length, take, drop, take-append-drop, length-append, length-drop}
 use lib.Seq.{take-at, take-append-le, drop-at, drop-append-le, drop-append-add, length-take-le}
-use Rattle.disc.specs.Fragment.{pendingIn}
+use Rattle.disc.specs.Records.{pendingIn, numbered}
 use Rattle.disc.specs.Recorded.{among}
-use Rattle.disc.specs.Records.{numbered}
-use Rattle.disc.proofs.Laws.Bool.{by-cases, cond-yes, cond-no}
+use Rattle.fragments.proofs.Laws.Bool.{by-cases, cond-yes, cond-no}
 use Rattle.disc.proofs.Laws.Recorded.{among-from, among-below, among-between}
 use Rattle.drive.specs.Bytes.{zeros}
 use Rattle.drive.specs.Moves.{stream, gatheredPending}

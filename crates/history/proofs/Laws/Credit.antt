@@ -7,14 +7,16 @@ use native.Mathlib.Omega.{arith}
 use borrow.Author.Tests.{eq-eqb, ne-eqb, eqb-true, eqb-false, leb-true, leb-false, ltb-false, not-false}
 use lib.Dec.{eqb, leb, ltb}
 use lib.ListN.{length}
-use Rattle.disc.specs.Address.{lba, firstSector, sectorsIn, blocksFor}
-use Rattle.disc.specs.Answer.{noSense}
-use Rattle.disc.specs.Fragment.{end, firstUnrecorded, complete, isReserved, isBlank, pendingIn, nextFragmentStart, nextSessionStart}
-use Rattle.disc.specs.Records.{limit, used, isListed, numbered, lastRecord, withRecord, withSense, hasTail, hasBlankTail, writableAt, blankTailOnly, atAddress}
+use Rattle.fragments.specs.Address.{lba, firstSector, sectorsIn, blocksFor}
+use Rattle.protocol.specs.Answer.{noSense}
+use Rattle.fragments.specs.Fragment.{end, firstUnrecorded, complete, isReserved, nextFragmentStart, nextSessionStart}
+use Rattle.disc.specs.Records.{isBlank, pendingIn, used, isListed, numbered, lastRecord, withRecord, withSense, hasTail, hasBlankTail, writableAt, blankTailOnly, atAddress}
+use Rattle.fragments.specs.List.{limit}
 use Rattle.disc.specs.Recorded.{among}
 use Rattle.disc.specs.Ready.{Ready}
 use Rattle.disc.specs.Lent.{FlushFits, TransferFits}
-use Rattle.disc.specs.Verdict.{accepted, accept, refuse, noReply, noPlan, plan}
+use Rattle.disc.specs.Verdict.{accepted, accept, refuse, noPlan, plan}
+use Rattle.protocol.specs.Reply.{noReply}
 use Rattle.disc.specs.Flush.{flush, flushPlan, synchronizeCache}
 use Rattle.disc.specs.Read.{allReadable, read}
 use Rattle.disc.specs.Write.{flushOthers, flushOthersPlan, gather, Writable, writeTo, writeFound, write}
@@ -22,8 +24,8 @@ use Rattle.disc.specs.Reserve.{reservedAt, splitTail, reserve}
 use Rattle.disc.specs.Close.{shortenedRecord, appendTail, closeIncomplete, closeFragment, hasIncompleteReserved, closeTail, openSession, closeSession, finalized, finalize, close}
 use Rattle.disc.specs.Reports.{requestSense, readCapacity, readDiscInformation, readTrackInformation, trackReport, trackFound, trackNumbered}
 use Rattle.disc.specs.Judge.{testUnitReady, perform}
-use Rattle.disc.proofs.Laws.Bool.{and-both, and-left, and-right, or-cases, contradiction, by-cases, cond-yes, cond-no, cond-cases}
-use Rattle.disc.proofs.Laws.Numbers.{equal-cases, below-limit}
+use Rattle.fragments.proofs.Laws.Bool.{and-both, and-left, and-right, or-cases, contradiction, by-cases, cond-yes, cond-no, cond-cases}
+use Rattle.fragments.proofs.Laws.Numbers.{equal-cases, below-limit}
 use Rattle.disc.proofs.Laws.Records.{listed-number}
 use Rattle.disc.proofs.Laws.Recorded.{among-from, among-below, among-between}
 use Rattle.disc.proofs.Laws.Rules.{sound-rules}

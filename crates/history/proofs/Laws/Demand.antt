@@ -5,7 +5,7 @@ use mathlib.Core.List.{List, []}
 use native.Mathlib.Omega.{arith}
 use lib.ListN.{take}
 use Rattle.disc.proofs.Laws.Blank.{blank-pending}
-use Rattle.disc.specs.Address.{lba}
+use Rattle.fragments.specs.Address.{lba}
 use Rattle.disc.proofs.Laws.Read.{blank-unreadable}
 use Rattle.drive.specs.Step.{Drive, Request, request, Result, verdictOn, carriedOut, step}
 use Rattle.drive.specs.Alike.{recordedByte, pendingSectors, Alike}

@@ -5,8 +5,8 @@ use mathlib.Core.Bool.{true}
 use mathlib.Core.List.{List, [], _∷_, _++_}
 use native.Mathlib.Omega.{arith}
 use lib.ListN.{length, getD, length-replicate, length-append}
-use Rattle.disc.specs.Address.{lba}
-use Rattle.disc.specs.Command.{decode}
+use Rattle.fragments.specs.Address.{lba}
+use Rattle.protocol.specs.Command.{decode}
 use Rattle.drive.specs.Step.{Drive, Request, request}
 use Rattle.drive.specs.Requests.{WriteOf}
 use Rattle.drive.specs.Alike.{recordedByte, Alike}

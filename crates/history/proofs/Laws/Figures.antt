@@ -4,14 +4,14 @@ use mathlib.Core.Path.{_≡_, refl, ap, _∙_}
 use mathlib.Core.Bool.{false}
 use mathlib.Core.List.{List, []}
 use native.Mathlib.Omega.{arith}
-use Rattle.disc.specs.Answer.{isRefusalSense, allowedSense}
-use Rattle.disc.specs.Address.{lba}
+use Rattle.protocol.specs.Answer.{isRefusalSense, allowedSense}
+use Rattle.fragments.specs.Address.{lba}
 use Rattle.disc.specs.Blank.{blank}
-use Rattle.disc.specs.Command.{decode}
-use Rattle.disc.specs.Fragment.{pendingIn}
-use Rattle.disc.specs.Records.{numbered, listed, some, every, find, sumRecorded}
+use Rattle.protocol.specs.Command.{decode}
+use Rattle.disc.specs.Records.{pendingIn, numbered}
+use Rattle.fragments.specs.List.{listed, some, every, find, sumRecorded}
 use Rattle.disc.specs.Sound.{usedFirst, firstAtZero, followsFrom, inOrder, endsWithin, recordedWithin, zeroedWithin, incompleteLast, tailLast, tailOrFull, pendingNamed, finalizedComplete, sound, allowedState}
-use Rattle.disc.specs.Lengths.{dataLength, replyRoom, lengthsFit}
+use Rattle.protocol.specs.Lengths.{dataLength, replyRoom, lengthsFit}
 use Rattle.disc.specs.Flush.{flush, flushPlan, synchronizeCache}
 use Rattle.disc.specs.Read.{allReadable, read}
 use Rattle.disc.specs.Write.{flushOthers, flushOthersPlan, gather, writeTo, writeFound, write}

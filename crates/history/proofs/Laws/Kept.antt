@@ -8,22 +8,23 @@ use borrow.Author.Tests.{leb-true, leb-false, ltb-true}
 use lib.Dec.{eqb, leb, ltb}
 use lib.ListN.{length, getD, take, drop, replicate, length-drop}
 use lib.Seq.{take-add, take-take, drop-at, drop-drop, length-take-le}
-use Rattle.disc.specs.Address.{lba, block, firstSector, sectorsIn}
-use Rattle.disc.specs.Answer.{refusalSense}
+use Rattle.fragments.specs.Address.{lba, block, firstSector, sectorsIn}
+use Rattle.protocol.specs.Answer.{refusalSense}
 use Rattle.disc.specs.Blank.{blank}
-use Rattle.disc.specs.Command.{decode}
-use Rattle.disc.specs.Fragment.{unusedRecord, pendingIn}
-use Rattle.disc.specs.Records.{limit, used, numbered, withSense, atAddress, readable}
+use Rattle.protocol.specs.Command.{decode}
+use Rattle.fragments.specs.Fragment.{unusedRecord}
+use Rattle.disc.specs.Records.{pendingIn, used, numbered, withSense, atAddress, readable}
+use Rattle.fragments.specs.List.{limit}
 use Rattle.disc.specs.Rules.{at, Sound}
 use Rattle.disc.specs.Lent.{Fits}
 use Rattle.disc.specs.Read.{read}
 use Rattle.disc.specs.Judge.{perform}
 use Rattle.disc.proofs.Laws.Accepts.{accepted-read}
-use Rattle.disc.proofs.Laws.Bool.{by-cases, cond-yes, cond-no}
+use Rattle.fragments.proofs.Laws.Bool.{by-cases, cond-yes, cond-no}
 use Rattle.disc.proofs.Laws.Judge.{allowed-ready, perform-read, decided-performed}
 use Rattle.disc.proofs.Laws.Read.{readable-cases, recorded-below, held-readable, Located, located, located-readable, nowhere-unreadable}
 use Rattle.disc.proofs.Laws.Rules.{sound-rules}
-use Rattle.disc.proofs.Laws.Numbers.{equal-cases}
+use Rattle.fragments.proofs.Laws.Numbers.{equal-cases}
 use Rattle.drive.specs.Alike.{Alike}
 use Rattle.drive.specs.Requests.{ReadOf}
 use Rattle.drive.specs.Step.{Drive, drive, Request, Result, verdictOn, carriedOut, step}

@@ -4,8 +4,8 @@ use mathlib.Core.Path.{_≡_, refl, sym, ap, _∙_, subst}
 use mathlib.Core.List.{List, [], _∷_, _++_, append-nil}
 use native.Mathlib.Omega.{arith}
 use lib.ListN.{length, length-append}
-use Rattle.disc.specs.Address.{lba}
-use Rattle.disc.specs.Command.{decode}
+use Rattle.fragments.specs.Address.{lba}
+use Rattle.protocol.specs.Command.{decode}
 use Rattle.drive.specs.Step.{Drive, Request, request, verdictOn, carriedOut, step}
 use Rattle.drive.specs.Requests.{WriteOf}
 use Rattle.drive.proofs.Laws.Cut.{Served, write-verdict, accepted-served, whole-parts, parts-whole, cut-recorded, cut-after}

@@ -9,16 +9,16 @@ use borrow.Author.Tests.{eq-eqb, ne-eqb}
 use lib.Dec.{eqb}
 use lib.ListN.{length, set, take}
 use lib.Seq.{length-take-le}
-use Rattle.disc.specs.Address.{sectorsIn}
-use Rattle.disc.specs.Fragment.{pendingIn, firstUnrecorded}
-use Rattle.disc.specs.Records.{used, numbered, withRecord}
+use Rattle.fragments.specs.Address.{sectorsIn}
+use Rattle.disc.specs.Records.{pendingIn, used, numbered, withRecord}
+use Rattle.fragments.specs.Fragment.{firstUnrecorded}
 use Rattle.disc.specs.Ready.{Ready}
 use Rattle.disc.specs.Rules.{Sound}
 use Rattle.disc.specs.Flush.{flushedRecord, flush, flushPlan}
 use Rattle.disc.specs.Write.{flushOthers, flushOthersPlan, grownRecord, gather}
 use Rattle.disc.specs.Close.{filledRecord}
-use Rattle.disc.proofs.Laws.Bool.{by-cases, cond-yes, cond-no}
-use Rattle.disc.proofs.Laws.Numbers.{equal-cases}
+use Rattle.fragments.proofs.Laws.Bool.{by-cases, cond-yes, cond-no}
+use Rattle.fragments.proofs.Laws.Numbers.{equal-cases}
 use Rattle.disc.proofs.Laws.Rules.{sound-rules}
 use Rattle.disc.proofs.Laws.Sound.{none-pending, other-pending, own-pending, pending-in-few}
 use Rattle.disc.proofs.Laws.Flush.{owner, flush-none, flush-pending}

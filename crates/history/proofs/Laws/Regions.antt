@@ -6,12 +6,12 @@ use mathlib.Core.List.{List, _++_, append-assoc}
 use native.Mathlib.Omega.{arith}
 use lib.ListN.{length, getD, set, take, drop, length-drop}
 use lib.Seq.{take-add, drop-at, length-take-le, getD-set-same, getD-set-other}
-use Rattle.disc.specs.Fragment.{unusedRecord, end}
+use Rattle.fragments.specs.Fragment.{unusedRecord, end}
 use Rattle.disc.specs.Records.{used, numbered}
 use Rattle.disc.specs.Rules.{Sound}
-use Rattle.disc.proofs.Laws.Bool.{by-cases}
-use Rattle.disc.proofs.Laws.Numbers.{order-cases, equal-cases}
-use Rattle.disc.proofs.Laws.Records.{listed-le}
+use Rattle.fragments.proofs.Laws.Bool.{by-cases}
+use Rattle.fragments.proofs.Laws.Numbers.{order-cases, equal-cases}
+use Rattle.fragments.proofs.Laws.List.{listed-le}
 use Rattle.disc.proofs.Laws.Sound.{starts-rise}
 use Rattle.drive.specs.Bytes.{splice}
 use Rattle.drive.proofs.Laws.Bytes.{length-splice, splice-take}

@@ -4,7 +4,7 @@ use mathlib.Core.Path.{_≡_, refl, sym, ap, _∙_}
 use mathlib.Core.Bool.{true}
 use mathlib.Core.List.{List, [], _∷_, _++_}
 use native.Mathlib.Omega.{arith}
-use Rattle.disc.specs.Address.{lba}
+use Rattle.fragments.specs.Address.{lba}
 use Rattle.disc.proofs.Laws.Judge.{decided-readable}
 use Rattle.drive.specs.Step.{Drive, Request, verdictOn, carriedOut, step}
 use Rattle.drive.specs.Alike.{recordedByte, Alike}

@@ -7,7 +7,7 @@ use mathlib.Core.List.{List, [], _∷_}
 use borrow.Author.Tests.{eq-eqb}
 use lib.ListN.{length}
 use Rattle.disc.proofs.Laws.Blank.{blank-allowed, blank-capacity}
-use Rattle.disc.proofs.Laws.Bool.{and-both}
+use Rattle.fragments.proofs.Laws.Bool.{and-both}
 use Rattle.drive.specs.Step.{Drive, lent}
 use Rattle.drive.specs.Alike.{Alike}
 use Rattle.drive.proofs.Laws.Cut.{Served, served-after, served-alike, served-link}

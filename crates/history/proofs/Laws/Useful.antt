@@ -7,12 +7,12 @@ use mathlib.Core.List.{List, _∷_}
 use lib.ListN.{length, replicate, length-replicate}
 use Rattle.drive.proofs.Laws.Alike.{lent-after}
 use Rattle.drive.proofs.Laws.Step.{verdict-judges}
-use Rattle.disc.specs.Answer.{isRefusalSense, allowedSense}
+use Rattle.protocol.specs.Answer.{isRefusalSense, allowedSense}
 use Rattle.disc.specs.Blank.{blank}
-use Rattle.disc.specs.Command.{decode}
-use Rattle.disc.specs.Records.{listed, some, every, find, sumRecorded, firstOfSession}
+use Rattle.protocol.specs.Command.{decode}
+use Rattle.fragments.specs.List.{listed, some, every, find, sumRecorded, firstOfSession}
 use Rattle.disc.specs.Sound.{usedFirst, firstAtZero, followsFrom, inOrder, endsWithin, recordedWithin, zeroedWithin, incompleteLast, tailLast, tailOrFull, pendingNamed, finalizedComplete, sound, allowedState}
-use Rattle.disc.specs.Lengths.{dataLength, replyRoom, lengthsFit}
+use Rattle.protocol.specs.Lengths.{dataLength, replyRoom, lengthsFit}
 use Rattle.disc.specs.Flush.{flush, flushPlan}
 use Rattle.disc.specs.Write.{flushOthers, flushOthersPlan, gather, writeTo, writeFound, write}
 use Rattle.disc.specs.Reports.{sessionState, discStatus, discInformation, readDiscInformation}

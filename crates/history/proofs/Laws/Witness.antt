@@ -4,12 +4,12 @@ use mathlib.Core.Path.{_≡_, refl, sym, ap, _∙_, subst}
 use mathlib.Core.Bool.{true}
 use mathlib.Core.List.{List, [], _∷_, _++_, map, map-append}
 use lib.ListN.{length, replicate, length-replicate}
-use Rattle.disc.specs.Answer.{number, isRefusalSense, allowedSense}
+use Rattle.protocol.specs.Answer.{number, isRefusalSense, allowedSense}
 use Rattle.disc.specs.Blank.{blank}
-use Rattle.disc.specs.Command.{decode}
-use Rattle.disc.specs.Records.{listed, some, every, find, sumRecorded}
+use Rattle.protocol.specs.Command.{decode}
+use Rattle.fragments.specs.List.{listed, some, every, find, sumRecorded}
 use Rattle.disc.specs.Sound.{usedFirst, firstAtZero, followsFrom, inOrder, endsWithin, recordedWithin, zeroedWithin, incompleteLast, tailLast, tailOrFull, pendingNamed, finalizedComplete, sound, allowedState}
-use Rattle.disc.specs.Lengths.{dataLength, replyRoom, lengthsFit}
+use Rattle.protocol.specs.Lengths.{dataLength, replyRoom, lengthsFit}
 use Rattle.disc.specs.Flush.{flush, flushPlan, synchronizeCache}
 use Rattle.disc.specs.Read.{allReadable, read}
 use Rattle.disc.specs.Write.{flushOthers, flushOthersPlan, gather, writeTo, writeFound, write}

@@ -4,10 +4,10 @@ use mathlib.Core.Bool.{true}
 use Prim.Native.Nat.{ℕ}
 use mathlib.Core.List.{List, [], _∷_}
 use lib.ListN.{length}
-use Rattle.disc.specs.Command.{decode}
+use Rattle.protocol.specs.Command.{decode}
 use Rattle.disc.specs.Sound.{allowedState}
 use Rattle.disc.specs.Blank.{inRange}
-use Rattle.disc.specs.Lengths.{dataLength, replyRoom}
+use Rattle.protocol.specs.Lengths.{dataLength, replyRoom}
 use Rattle.disc.specs.Judge.{perform, judgeAsAsked}
 use Rattle.disc.proofs.Laws.Blank.{blank-allowed, blank-capacity}
 use Rattle.disc.proofs.Laws.Judge.{allowed-ready, judge-decided, decided-ready, decided-allowed, as-asked-performs}

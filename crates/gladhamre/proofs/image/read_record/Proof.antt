@@ -1,6 +1,6 @@
 use borrow.Author.Tests.{ltb-true}
 use lib.Dec.{ltb}
-use Rattle.disc.proofs.Laws.Bool.{and-left}
+use Rattle.fragments.proofs.Laws.Bool.{and-left}
 use Rattle.gladhamre.specs.Image.{word}
 use native.Mathlib.Omega.{arith}
 use borrow.Author.Needs.{needs}

@@ -1,4 +1,4 @@
-use Rattle.disc.proofs.Laws.Records.{array-length}
+use Rattle.fragments.proofs.Laws.List.{array-length}
 use Rattle.drive.proofs.Laws.Bytes.{put-splice}
 use Rattle.gladhamre.proofs.Laws.Image.{write-both}
 use mathlib.Core.Path.{refl}

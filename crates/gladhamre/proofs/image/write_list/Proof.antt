@@ -1,5 +1,5 @@
-use Rattle.disc.specs.Fragment.{unusedRecord}
-use Rattle.disc.proofs.Laws.Records.{array-length}
+use Rattle.fragments.specs.Fragment.{unusedRecord}
+use Rattle.fragments.proofs.Laws.List.{array-length}
 use Rattle.gladhamre.proofs.Laws.Image.{write-all, write-more}
 use lib.ListN.{take, length}
 use Rattle.drive.specs.Bytes.{splice}

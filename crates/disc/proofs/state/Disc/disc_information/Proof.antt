@@ -1,9 +1,14 @@
-use Rattle.disc.proofs.Laws.Reports.{session-state-most, disc-status-most}
 use native.Mathlib.Omega.{arith}
+use Rattle.disc.proofs.Laws.Reports.{session-state-most, disc-status-most}
 use Rattle.disc.specs.Reports.{discInformation}
 use borrow.Author.Needs.{needs}
 use Rattle.disc.proofs.state.Disc.disc_information.Statement.{statement}
 use Rattle.disc.proofs.state.Disc.disc_information.Tie as tie
+use Rattle.disc.proofs.reports.put_halves.Reads as put-halves-reads
+use Rattle.disc.proofs.state.Disc.disc_status.Reads as disc-status-reads
+use Rattle.disc.proofs.state.Disc.first_of_session.Reads as first-of-session-reads
+use Rattle.disc.proofs.state.Disc.last.Reads as last-reads
+use Rattle.disc.proofs.state.Disc.session_state.Reads as session-state-reads
 
 last-requires : tie.Need-last-requires
 last-requires c κs = search needs
@@ -35,45 +40,18 @@ array-write-bytes-2 c = search needs
 array-write-bytes-3 : tie.Need-array-write-bytes-3
 array-write-bytes-3 c = search needs
 
-low-requires : tie.Need-low-requires
-low-requires c κs = search needs
+put-halves-requires : tie.Need-put-halves-requires
+put-halves-requires c κs = search needs
 
-array-write-bytes-4 : tie.Need-array-write-bytes-4
-array-write-bytes-4 c = search needs
+put-halves-requires-2 : tie.Need-put-halves-requires-2
+put-halves-requires-2 c κs = search needs
 
-low-requires-2 : tie.Need-low-requires-2
-low-requires-2 c κs = search needs
-
-array-write-bytes-5 : tie.Need-array-write-bytes-5
-array-write-bytes-5 c = search needs
-
-low-requires-3 : tie.Need-low-requires-3
-low-requires-3 c κs = search needs
-
-array-write-bytes-6 : tie.Need-array-write-bytes-6
-array-write-bytes-6 c = search needs
-
-high-requires : tie.Need-high-requires
-high-requires c κs = search needs
-
-array-write-bytes-7 : tie.Need-array-write-bytes-7
-array-write-bytes-7 c = search needs
-
-high-requires-2 : tie.Need-high-requires-2
-high-requires-2 c κs = search needs
-
-array-write-bytes-8 : tie.Need-array-write-bytes-8
-array-write-bytes-8 c = search needs
-
-high-requires-3 : tie.Need-high-requires-3
-high-requires-3 c κs = search needs
-
-array-write-bytes-9 : tie.Need-array-write-bytes-9
-array-write-bytes-9 c = search needs
+put-halves-requires-3 : tie.Need-put-halves-requires-3
+put-halves-requires-3 c κs = search needs
 
 returns : tie.Need-returns
 unfolding discInformation
-returns c = rw (c .high3 .ensures, c .before .high2 .ensures, c .before .before .high .ensures, c .before .before .before .low3 .ensures, c .before .before .before .before .low2 .ensures, c .before .before .before .before .before .low .ensures, c .before .before .before .before .before .before .disc-status .ensures, c .before .before .before .before .before .before .before .session-state .ensures, c .before .before .before .before .before .before .before .before .first-of-session .ensures, c .before .before .before .before .before .before .before .before .before .before .last .ensures)
+returns c = rw (c .put-halves3 .ensures, c .before .put-halves2 .ensures, c .before .before .put-halves .ensures, c .before .before .before .disc-status .ensures, c .before .before .before .before .session-state .ensures, c .before .before .before .before .before .first-of-session .ensures, c .before .before .before .before .before .before .before .last .ensures)
 
 pub disc-information-spec : {M : Type 1} → statement M
 disc-information-spec =
@@ -89,16 +67,7 @@ disc-information-spec =
     add-bytes
     array-write-bytes-2
     array-write-bytes-3
-    low-requires
-    array-write-bytes-4
-    low-requires-2
-    array-write-bytes-5
-    low-requires-3
-    array-write-bytes-6
-    high-requires
-    array-write-bytes-7
-    high-requires-2
-    array-write-bytes-8
-    high-requires-3
-    array-write-bytes-9
+    put-halves-requires
+    put-halves-requires-2
+    put-halves-requires-3
     returns)

@@ -2,9 +2,10 @@ use mathlib.Core.Bool.{false}
 use mathlib.Core.Path.{_≡_}
 use lib.ListN.{length}
 use native.Mathlib.Omega.{arith}
-use Rattle.disc.specs.Fragment.{complete}
-use Rattle.disc.specs.Records.{limit, numbered}
-use Rattle.disc.proofs.Laws.Records.{array-length}
+use Rattle.fragments.specs.Fragment.{complete}
+use Rattle.fragments.specs.List.{limit}
+use Rattle.disc.specs.Records.{numbered}
+use Rattle.fragments.proofs.Laws.List.{array-length}
 use Rattle.disc.proofs.Laws.Rules.{sound-rules}
 use Rattle.disc.proofs.Laws.Reports.{used-most, writable-end}
 use Rattle.disc.specs.Reports.{freeSectors}

@@ -2,6 +2,11 @@ use Rattle.disc.specs.Write.{gather}
 use borrow.Author.Needs.{needs}
 use Rattle.disc.proofs.state.Disc.gather.Statement.{statement}
 use Rattle.disc.proofs.state.Disc.gather.Tie as tie
+use Rattle.disc.proofs.change.grown.Reads as grown-reads
+use Rattle.disc.proofs.state.Disc.pending_in.Reads as pending-in-reads
+use Rattle.disc.proofs.state.Disc.with_record.Reads as with-record-reads
+use Rattle.disc.proofs.write.owner_of.Reads as owner-of-reads
+use Rattle.fragments.proofs.left_over.Reads as left-over-reads
 
 pending-in-requires : tie.Need-pending-in-requires
 pending-in-requires c κs = search needs
@@ -11,6 +16,9 @@ cast-held c = search needs
 
 add-held : tie.Need-add-held
 add-held c = search needs
+
+left-over-requires : tie.Need-left-over-requires
+left-over-requires c κs = search needs
 
 sub-f : tie.Need-sub-f
 sub-f c = search needs
@@ -35,7 +43,7 @@ owner-of-requires c κs = search needs
 
 returns : tie.Need-returns
 unfolding gather
-returns c = rw (c .owner-of .ensures, c .before .with-record .ensures, c .before .before .grown .ensures, c .before .before .before .before .pending-in .ensures)
+returns c = rw (c .owner-of .ensures, c .before .with-record .ensures, c .before .before .grown .ensures, c .before .before .before .before .left-over .ensures, c .before .before .before .before .before .pending-in .ensures)
 
 pub gather-spec : {M : Type 1} → statement M
 gather-spec =
@@ -44,6 +52,7 @@ gather-spec =
     pending-in-requires
     cast-held
     add-held
+    left-over-requires
     sub-f
     mul-f
     element-copy-out-f

@@ -1,6 +1,6 @@
 use lib.ListN.{length}
-use Rattle.disc.specs.Records.{limit}
-use Rattle.disc.proofs.Laws.Records.{array-length}
+use Rattle.fragments.specs.List.{limit}
+use Rattle.fragments.proofs.Laws.List.{array-length}
 use Rattle.disc.proofs.Laws.Check.{check-sound}
 use mathlib.Core.Path.{_≡_}
 use borrow.Author.Needs.{needs}
@@ -15,7 +15,7 @@ owner-is-incomplete-requires c κs = search needs
 
 returns : tie.Need-returns
 returns c =
-    let d = c .before .before .args .self in
+    let d = c .before .before .before .args .self in
     let l : length (d .fragments) ≡ limit = search array-length in
     rw (c .before .list-is-sound .ensures, c .owner-is-incomplete .ensures) (check-sound d l)
 

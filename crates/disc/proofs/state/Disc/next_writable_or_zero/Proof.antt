@@ -1,8 +1,8 @@
 use mathlib.Core.Path.{_≡_}
 use lib.ListN.{length}
 use native.Mathlib.Omega.{arith}
-use Rattle.disc.specs.Records.{limit}
-use Rattle.disc.proofs.Laws.Records.{array-length}
+use Rattle.fragments.specs.List.{limit}
+use Rattle.fragments.proofs.Laws.List.{array-length}
 use Rattle.disc.proofs.Laws.Reports.{used-most}
 use Rattle.disc.specs.Reports.{nextWritableOrZero}
 use borrow.Author.Needs.{needs}

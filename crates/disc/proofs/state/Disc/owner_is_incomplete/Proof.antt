@@ -1,4 +1,4 @@
-use Rattle.disc.specs.Check.{ownerIncomplete}
+use Rattle.disc.specs.Sound.{ownerIncomplete}
 use borrow.Author.Tests.{eq-eqb, lt-ltb, lt-leb, ne-eqb, le-leb, le-ltb}
 use borrow.Author.Needs.{needs}
 use Rattle.disc.proofs.state.Disc.owner_is_incomplete.Statement.{statement}

@@ -2,7 +2,7 @@ use lib.ListN.{length}
 use mathlib.Core.Bool.{true}
 use mathlib.Core.Path.{_≡_, sym, _∙_}
 use Rattle.disc.specs.Run.{sentBy, served, recordedRun}
-use Rattle.disc.proofs.Laws.Run.{served-block, served-ready, served-medium, no-run, run-of}
+use Rattle.disc.proofs.Laws.Run.{served-ready, served-medium, no-run, run-of}
 use borrow.Author.Needs.{needs}
 use Rattle.disc.proofs.state.Disc.recorded_run.Statement.{statement}
 use Rattle.disc.proofs.state.Disc.recorded_run.Tie as tie
@@ -11,7 +11,7 @@ serves-requires : tie.Need-serves-requires
 serves-requires c κs = search needs
 
 decode-requires : tie.Need-decode-requires
-decode-requires c κs = served-block (c .before .before .before .before .args .self) _ _ (sym (c .before .serves .ensures) ∙ c .if1 .taken)
+decode-requires c κs = search needs
 
 enum-known-command : tie.Need-enum-known-command
 enum-known-command c = search needs

@@ -1,15 +1,25 @@
 use mathlib.Core.Path.{sym, _∙_}
 use native.Mathlib.Omega.{arith}
 use borrow.Author.Tests.{not-false, eq-eqb, ne-eqb}
+use Rattle.disc.specs.Verdict.{accept}
+use Rattle.disc.specs.Reserve.{reserve}
+use Rattle.fragments.proofs.Laws.Numbers.{below-limit}
 use Rattle.disc.proofs.Laws.Rules.{sound-rules}
 use Rattle.disc.proofs.Laws.Flush.{used-limit}
 use Rattle.disc.proofs.Laws.Reserve.{reserve-full, reserve-past, reserve-done, split-start}
-use Rattle.disc.proofs.Laws.Numbers.{below-limit}
-use Rattle.disc.specs.Verdict.{accept}
-use Rattle.disc.specs.Reserve.{reserve}
 use borrow.Author.Needs.{needs}
 use Rattle.disc.proofs.state.Disc.reserve.Statement.{statement}
 use Rattle.disc.proofs.state.Disc.reserve.Tie as tie
+use Rattle.disc.proofs.change.reserved.Reads as reserved-reads
+use Rattle.disc.proofs.state.Disc.has_blank_tail.Reads as has-blank-tail-reads
+use Rattle.disc.proofs.state.Disc.split_tail.Reads as split-tail-reads
+use Rattle.disc.proofs.state.Disc.used.Reads as used-reads
+use Rattle.disc.proofs.verdict.Plan.none.Reads as verdict-Plan-none-reads
+use Rattle.disc.proofs.verdict.Verdict.accepted.Reads as accepted-reads
+use Rattle.disc.proofs.verdict.Verdict.refused.Reads as refused-reads
+use Rattle.fragments.proofs.blocks_for.Reads as blocks-for-reads
+use Rattle.fragments.proofs.fragment.Fragment.next_start.Reads as next-start-reads
+use Rattle.protocol.proofs.reply.Reply.none.Reads as reply-Reply-none-reads
 
 refused-requires : tie.Need-refused-requires
 refused-requires c κs = search needs
@@ -42,28 +52,22 @@ refused-requires-4 : tie.Need-refused-requires-4
 refused-requires-4 c κs = search needs
 
 returns-4 : tie.Need-returns-4
-unfolding reserve accept
-returns-4 c =
-    rw (c .refused4 .ensures)
-    (sym (reserve-full (c .before .before .before .before .before .before .before .args .t1) (c .before .before .before .before .before .before .before .args .size) (c .before .before .before .before .before .before .if1 .left) (c .before .before .before .before .before .if2 .left) (sym (c .before .before .before .before .has-blank-tail .ensures) ∙ not-false _ (c .before .before .before .if3 .left)) (sym (c .before .before .used .ensures) ∙ c .before .if4 .taken)))
+returns-4 c = rw (c .refused4 .ensures) (sym (reserve-full (c .before .before .before .before .before .before .before .args .t1) (c .before .before .before .before .before .before .before .args .size) (c .before .before .before .before .before .before .if1 .left) (c .before .before .before .before .before .if2 .left) (sym (c .before .before .before .before .has-blank-tail .ensures) ∙ not-false _ (c .before .before .before .if3 .left)) (sym (c .before .before .used .ensures) ∙ c .before .if4 .taken)))
 
 blocks-for-requires : tie.Need-blocks-for-requires
 blocks-for-requires c κs = search needs
 
 sub-tail : tie.Need-sub-tail
 sub-tail c =
-    let d = c .before .before .before .before .before .before .before .args .t1 in
-    omega (arith, c .before .before .used .ensures, used-limit d (c .before .before .before .before .before .before .before .pre), sound-rules d (c .before .before .before .before .before .before .before .pre .sound) .some)
+    omega (arith, c .before .before .used .ensures, used-limit (c .before .before .before .before .before .before .before .args .t1) (c .before .before .before .before .before .before .before .pre), sound-rules (c .before .before .before .before .before .before .before .args .t1) (c .before .before .before .before .before .before .before .pre .sound) .some)
 
 mul-tail : tie.Need-mul-tail
 mul-tail c =
-    let d = c .before .before .before .before .before .before .before .args .t1 in
-    omega (arith, c .before .before .used .ensures, used-limit d (c .before .before .before .before .before .before .before .pre), sound-rules d (c .before .before .before .before .before .before .before .pre .sound) .some)
+    omega (arith, c .before .before .used .ensures, used-limit (c .before .before .before .before .before .before .before .args .t1) (c .before .before .before .before .before .before .before .pre), sound-rules (c .before .before .before .before .before .before .before .args .t1) (c .before .before .before .before .before .before .before .pre .sound) .some)
 
 element-copy-out-tail : tie.Need-element-copy-out-tail
 element-copy-out-tail c =
-    let d = c .before .before .before .before .before .before .before .args .t1 in
-    omega (arith, c .before .before .used .ensures, used-limit d (c .before .before .before .before .before .before .before .pre), sound-rules d (c .before .before .before .before .before .before .before .pre .sound) .some)
+    omega (arith, c .before .before .used .ensures, used-limit (c .before .before .before .before .before .before .before .args .t1) (c .before .before .before .before .before .before .before .pre), sound-rules (c .before .before .before .before .before .before .before .args .t1) (c .before .before .before .before .before .before .before .pre .sound) .some)
 
 cast-if5 : tie.Need-cast-if5
 cast-if5 c = search needs
@@ -78,22 +82,17 @@ refused-requires-5 : tie.Need-refused-requires-5
 refused-requires-5 c κs = search needs
 
 returns-5 : tie.Need-returns-5
-unfolding reserve accept
 returns-5 c =
-    let d = c .before .before .before .before .before .before .before .before .before .before .before .before .args .t1 in
-    let k = rw (c .before .before .before .before .before .blocks-for .ensures) at (split-start (c .before .before .before .before .before .before .before .before .before .before .before .before .args .t1) (c .before .before .before .before .before .before .before .used .result) (c .before .before .before .before .before .blocks-for .result) (c .before .before .before .reserved .result) (c .before .before .next-start .result) (c .before .before .before .before .before .before .before .used .ensures) (c .before .before .before .reserved .ensures) (c .before .before .next-start .ensures)) in
-    rw (c .refused5 .ensures)
-    (sym
-    (reserve-past d (c .before .before .before .before .before .before .before .before .before .before .before .before .args .size) (c .before .before .before .before .before .before .before .before .before .before .before .if1 .left) (c .before .before .before .before .before .before .before .before .before .before .if2 .left) (sym (c .before .before .before .before .before .before .before .before .before .has-blank-tail .ensures) ∙ not-false _ (c .before .before .before .before .before .before .before .before .if3 .left)) (λ e. c .before .before .before .before .before .before .if4 .left (c .before .before .before .before .before .before .before .used .ensures ∙ e)) (rw k at (c .before .if5 .taken))))
+    let k = rw (c .before .before .before .before .before .before .blocks-for .ensures) at (split-start (c .before .before .before .before .before .before .before .before .before .before .before .before .before .args .t1) (c .before .before .before .before .before .before .before .before .used .result) (c .before .before .before .before .before .before .blocks-for .result) (c .before .before .before .before .reserved .result) (c .before .before .before .next-start .result) (c .before .before .before .before .before .before .before .before .used .ensures) (c .before .before .before .before .reserved .ensures) (c .before .before .before .next-start .ensures)) in
+    rw (c .refused5 .ensures) (sym (reserve-past (c .before .before .before .before .before .before .before .before .before .before .before .before .before .args .t1) (c .before .before .before .before .before .before .before .before .before .before .before .before .before .args .size) (c .before .before .before .before .before .before .before .before .before .before .before .before .if1 .left) (c .before .before .before .before .before .before .before .before .before .before .before .if2 .left) (sym (c .before .before .before .before .before .before .before .before .before .before .has-blank-tail .ensures) ∙ not-false _ (c .before .before .before .before .before .before .before .before .before .if3 .left)) (λ e. c .before .before .before .before .before .before .before .if4 .left (c .before .before .before .before .before .before .before .before .used .ensures ∙ e)) (rw k at (c .before .if5 .taken))))
 
 split-tail-requires : tie.Need-split-tail-requires
 split-tail-requires c κs =
-    let d = c .before .before .before .before .before .before .before .before .before .before .before .args .t1 in
-    let n = c .before .before .before .before .before .before .used .ensures in
-    let k = split-start (c .before .before .before .before .before .before .before .before .before .before .before .args .t1) (c .before .before .before .before .before .before .used .result) (c .before .before .before .before .blocks-for .result) (c .before .before .reserved .result) (c .before .next-start .result) (c .before .before .before .before .before .before .used .ensures) (c .before .before .reserved .ensures) (c .before .next-start .ensures) in
+    let d = c .before .before .before .before .before .before .before .before .before .before .before .before .args .t1 in
+    let k = split-start (c .before .before .before .before .before .before .before .before .before .before .before .before .args .t1) (c .before .before .before .before .before .before .before .used .result) (c .before .before .before .before .before .blocks-for .result) (c .before .before .before .reserved .result) (c .before .before .next-start .result) (c .before .before .before .before .before .before .before .used .ensures) (c .before .before .before .reserved .ensures) (c .before .before .next-start .ensures) in
     record {
-      from = sound-rules d (c .before .before .before .before .before .before .before .before .before .before .before .pre .sound) .some;
-      free = below-limit (used-limit d (c .before .before .before .before .before .before .before .before .before .before .before .pre)) (λ e. c .before .before .before .before .before .if4 .left (n ∙ e));
+      from = sound-rules d (c .before .before .before .before .before .before .before .before .before .before .before .before .pre .sound) .some;
+      free = below-limit (used-limit d (c .before .before .before .before .before .before .before .before .before .before .before .before .pre)) (λ e. c .before .before .before .before .before .before .if4 .left (c .before .before .before .before .before .before .before .used .ensures ∙ e));
       start = rw k at (c .if5 .left);
     }
 
@@ -107,14 +106,10 @@ accepted-requires : tie.Need-accepted-requires
 accepted-requires c κs = search needs
 
 returns-6 : tie.Need-returns-6
-unfolding reserve accept
 returns-6 c =
-    let d = c .before .before .before .before .before .before .before .before .before .before .before .before .before .before .before .args .t1 in
-    let k = rw (c .before .before .before .before .before .before .before .before .blocks-for .ensures) at (split-start (c .before .before .before .before .before .before .before .before .before .before .before .before .before .before .before .args .t1) (c .before .before .before .before .before .before .before .before .before .before .used .result) (c .before .before .before .before .before .before .before .before .blocks-for .result) (c .before .before .before .before .before .before .reserved .result) (c .before .before .before .before .before .next-start .result) (c .before .before .before .before .before .before .before .before .before .before .used .ensures) (c .before .before .before .before .before .before .reserved .ensures) (c .before .before .before .before .before .next-start .ensures)) in
-    rw (c .accepted .ensures, c .before .before .none .ensures, c .before .none2 .ensures, c .before .before .before .split-tail .ensures, c .before .before .before .before .before .before .before .before .blocks-for .ensures)
-    (sym
-    (reserve-done d (c .before .before .before .before .before .before .before .before .before .before .before .before .before .before .before .args .size) (c .before .before .before .before .before .before .before .before .before .before .before .before .before .before .if1 .left) (c .before .before .before .before .before .before .before .before .before .before .before .before .before .if2 .left) (sym (c .before .before .before .before .before .before .before .before .before .before .before .before .has-blank-tail .ensures) ∙ not-false _ (c .before .before .before .before .before .before .before .before .before .before .before .if3 .left)) (λ e. c .before .before .before .before .before .before .before .before .before .if4 .left (c .before .before .before .before .before .before .before .before .before .before .used .ensures ∙ e))
-    (sound-rules d (c .before .before .before .before .before .before .before .before .before .before .before .before .before .before .before .pre .sound)) (rw k at (c .before .before .before .before .if5 .left))))
+    let k = rw (c .before .before .before .before .before .before .before .before .before .blocks-for .ensures) at (split-start (c .before .before .before .before .before .before .before .before .before .before .before .before .before .before .before .before .args .t1) (c .before .before .before .before .before .before .before .before .before .before .before .used .result) (c .before .before .before .before .before .before .before .before .before .blocks-for .result) (c .before .before .before .before .before .before .before .reserved .result) (c .before .before .before .before .before .before .next-start .result) (c .before .before .before .before .before .before .before .before .before .before .before .used .ensures) (c .before .before .before .before .before .before .before .reserved .ensures) (c .before .before .before .before .before .before .next-start .ensures)) in
+    rw (c .accepted .ensures, c .before .before .none .ensures, c .before .none2 .ensures, c .before .before .before .split-tail .ensures, c .before .before .before .before .before .before .before .before .before .blocks-for .ensures)
+    (sym (reserve-done (c .before .before .before .before .before .before .before .before .before .before .before .before .before .before .before .before .args .t1) (c .before .before .before .before .before .before .before .before .before .before .before .before .before .before .before .before .args .size) (c .before .before .before .before .before .before .before .before .before .before .before .before .before .before .before .if1 .left) (c .before .before .before .before .before .before .before .before .before .before .before .before .before .before .if2 .left) (sym (c .before .before .before .before .before .before .before .before .before .before .before .before .before .has-blank-tail .ensures) ∙ not-false _ (c .before .before .before .before .before .before .before .before .before .before .before .before .if3 .left)) (λ e. c .before .before .before .before .before .before .before .before .before .before .if4 .left (c .before .before .before .before .before .before .before .before .before .before .before .used .ensures ∙ e)) (sound-rules (c .before .before .before .before .before .before .before .before .before .before .before .before .before .before .before .before .args .t1) (c .before .before .before .before .before .before .before .before .before .before .before .before .before .before .before .before .pre .sound)) (rw k at (c .before .before .before .before .if5 .left))))
 
 pub reserve-spec : {M : Type 1} → statement M
 reserve-spec =

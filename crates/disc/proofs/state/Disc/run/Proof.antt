@@ -1,7 +1,7 @@
 use mathlib.Core.Path.{sym, _∙_}
 use Rattle.disc.specs.Read.{sends}
 use Rattle.disc.specs.Run.{stretch}
-use Rattle.disc.proofs.Laws.Bool.{cond-yes, cond-no}
+use Rattle.fragments.proofs.Laws.Bool.{cond-yes, cond-no}
 use Rattle.disc.proofs.Laws.Run.{sent-by, sends-within}
 use native.Mathlib.Omega.{arith}
 use borrow.Author.Needs.{needs}

@@ -4,18 +4,16 @@ use Rattle.disc.proofs.Laws.Flush.{rise-flush}
 use borrow.Author.Needs.{needs}
 use Rattle.disc.proofs.state.Disc.synchronize_cache.Statement.{statement}
 use Rattle.disc.proofs.state.Disc.synchronize_cache.Tie as tie
-
-flush-plan-requires : tie.Need-flush-plan-requires
-flush-plan-requires c κs = search needs
-
-new-requires : tie.Need-new-requires
-new-requires c κs = search needs
+use Rattle.disc.proofs.state.Disc.flush.Reads as flush-reads
+use Rattle.disc.proofs.verdict.Plan.new.Reads as new-reads
+use Rattle.disc.proofs.verdict.Verdict.accepted.Reads as accepted-reads
+use Rattle.protocol.proofs.reply.Reply.none.Reads as none-reads
 
 flush-requires : tie.Need-flush-requires
 flush-requires c κs = search needs
 
-flush-count-requires : tie.Need-flush-count-requires
-flush-count-requires c κs = search needs
+new-requires : tie.Need-new-requires
+new-requires c κs = search needs
 
 none-requires : tie.Need-none-requires
 none-requires c κs = search needs
@@ -25,25 +23,8 @@ accepted-requires c κs = search needs
 
 returns : tie.Need-returns
 unfolding synchronizeCache accept
-returns c =
-    rw (
-      c .accepted .ensures,
-      c .before .none .ensures,
-      c .before .before .flush-count .ensures,
-      c .before .before .before .flush .ensures,
-      c .before .before .before .before .new .ensures,
-      c .before .before .before .before .before .flush-plan .ensures,
-      rise-flush (c .before .before .before .before .before .before .args .self) (c .before .before .before .before .before .before .pre),
-    )
+returns c = rw (c .accepted .ensures, c .before .none .ensures, c .before .before .new .ensures, c .before .before .before .before .flush .ensures, rise-flush (c .before .before .before .before .before .args .self) (c .before .before .before .before .before .pre))
 
 pub synchronize-cache-spec : {M : Type 1} → statement M
 synchronize-cache-spec =
-    tie.close
-    (tie.spec
-    flush-plan-requires
-    new-requires
-    flush-requires
-    flush-count-requires
-    none-requires
-    accepted-requires
-    returns)
+    tie.close (tie.spec flush-requires new-requires none-requires accepted-requires returns)

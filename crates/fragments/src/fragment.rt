@@ -1,0 +1,154 @@
+// A record of the fragment list, and what is computed of one record alone. Every method is total: the fields may hold any numbers.
+use crate::address::Block;
+use crate::address::Lba;
+use crate::address::WideBlock;
+ghost use mathlib.Core.Path.{_≡_};
+ghost use Rattle.fragments.specs.Address.{wide, firstSector};
+ghost use Rattle.fragments.specs.Fragment.{unusedRecord, end, firstUnrecorded, complete, isReserved, isTail, isIncompleteReserved, nextFragmentStart, nextSessionStart, nextAfter, takes, holds, holdsRun, lastRecorded};
+
+// Blocks between two fragments: the dividing block in a session, Closure and Intro between sessions.
+const DIVIDING: u64 = 1;
+
+const CLOSURE: u64 = 64;
+
+const INTRO: u64 = 64;
+
+// Reserved stands first: it is the kind of an unused record, which is all zero.
+pub enum Kind {
+    Reserved,
+    Appended,
+}
+
+pub struct Fragment {
+    // The session, from 1.
+    pub session: u8,
+    // The first block.
+    pub start: Block,
+    // Length in blocks (document 01's L); 0 in an unused record.
+    pub length: u32,
+    // Recorded blocks (document 01's W), from the start on.
+    pub recorded: u32,
+    // Sectors of them that the drive filled with zeros by itself (document 01's F).
+    pub zeroed: u32,
+    pub kind: Kind,
+}
+
+impl Kind {
+    pub fn is_reserved(self) -> bool
+        ensures { λ r. ⌜ r ≡ isReserved self ⌝ }
+    {
+        match self {
+            Kind::Reserved => true,
+            Kind::Appended => false,
+        }
+    }
+}
+
+impl Fragment {
+    // An unused record.
+    pub fn unused() -> Fragment
+        ensures { λ r. ⌜ r ≡ unusedRecord ⌝ }
+    {
+        Fragment {
+            session: 0,
+            start: Block(0),
+            length: 0,
+            recorded: 0,
+            zeroed: 0,
+            kind: Kind::Reserved,
+        }
+    }
+
+    // The first block after the fragment.
+    pub(crate) fn end(self) -> WideBlock
+        ensures { λ r. ⌜ r ≡ wide (end self) ⌝ }
+    {
+        WideBlock(self.start.0 as u64 + self.length as u64)
+    }
+
+    // Where the next fragment of the session starts.
+    pub fn next_start(self) -> WideBlock
+        ensures { λ r. ⌜ r ≡ wide (nextFragmentStart (end self)) ⌝ }
+    {
+        WideBlock(self.start.0 as u64 + self.length as u64 + DIVIDING)
+    }
+
+    // Where the first fragment of the next session starts.
+    pub fn next_session_start(self) -> WideBlock
+        ensures { λ r. ⌜ r ≡ wide (nextSessionStart (end self)) ⌝ }
+    {
+        WideBlock(self.start.0 as u64 + self.length as u64 + (CLOSURE + INTRO))
+    }
+
+    // The address of the first sector after the fragment.
+    pub fn end_address(self) -> Lba
+        ensures { λ r. ⌜ r ≡ firstSector (end self) ⌝ }
+    {
+        self.start.sector_after(self.length)
+    }
+
+    // The address of the first sector that is not recorded.
+    pub(crate) fn recorded_end(self) -> Lba
+        ensures { λ r. ⌜ r ≡ firstSector (firstUnrecorded self) ⌝ }
+    {
+        self.start.sector_after(self.recorded)
+    }
+
+    pub fn is_complete(self) -> bool
+        ensures { λ r. ⌜ r ≡ complete self ⌝ }
+    {
+        self.recorded == self.length
+    }
+
+    pub fn is_tail(self) -> bool
+        ensures { λ r. ⌜ r ≡ isTail self ⌝ }
+    {
+        let kind = self.kind;
+        !kind.is_reserved() & !self.is_complete()
+    }
+
+    pub(crate) fn is_incomplete_reserved(self) -> bool
+        ensures { λ r. ⌜ r ≡ isIncompleteReserved self ⌝ }
+    {
+        let kind = self.kind;
+        kind.is_reserved() & !self.is_complete()
+    }
+
+    // Whether a sector lies in the fragment.
+    pub(crate) fn holds(self, address: Lba) -> bool
+        ensures { λ r. ⌜ r ≡ holds address self ⌝ }
+    {
+        (self.start.first_sector().0 <= address.0) & (address.0 < self.end_address().0)
+    }
+
+    // Whether a run of sectors lies in the recorded blocks.
+    pub(crate) fn holds_run(self, address: Lba, sectors: u32) -> bool
+        ensures { λ r. ⌜ r ≡ holdsRun address sectors self ⌝ }
+    {
+        (self.start.first_sector().0 <= address.0) & !address.passes(sectors, self.recorded_end())
+    }
+
+    // The next writable address, after the recorded blocks and the sectors pending in the fragment.
+    pub fn next_writable(self, pending: u8) -> Lba
+        ensures { λ r. ⌜ r ≡ nextAfter pending self ⌝ }
+    {
+        self.start.sector_in(self.recorded, pending)
+    }
+
+    // Whether the fragment is incomplete and the address its next writable one.
+    pub(crate) fn takes(self, address: Lba, pending: u8) -> bool
+        ensures { λ r. ⌜ r ≡ takes address pending self ⌝ }
+    {
+        !self.is_complete() & (address.0 == self.next_writable(pending).0)
+    }
+
+    // The address of the last recorded sector, or 0.
+    pub fn last_recorded(self) -> Lba
+        ensures { λ r. ⌜ r ≡ lastRecorded self ⌝ }
+    {
+        if self.recorded == 0 {
+            return Lba(0);
+        }
+        Lba(self.recorded_end().0 - 1)
+    }
+}

@@ -1,0 +1,178 @@
+// Walks along the records of a disc: how many are in use, the last one, and which of them an address, a session or a test names.
+use crate::address::Lba;
+use crate::fragment::Fragment;
+ghost use mathlib.Core.Path.{_≡_};
+ghost use lib.ListN.{length};
+ghost use Rattle.fragments.specs.Address.{later};
+ghost use Rattle.fragments.specs.Fragment.{isIncompleteReserved, holdsRun};
+ghost use Rattle.fragments.specs.List.{listed, lastOf, pendingOf, holderOf, takerOf, firstOfSession, lastReadable, some};
+
+// How many records a disc has.
+pub const LIMIT: usize = 64;
+
+// What a search along the list finds: a fragment's number, from 1, or that there is none.
+pub enum Found {
+    Number(usize),
+    Nowhere,
+}
+
+// The last record in use and its number.
+pub struct Last {
+    pub number: usize,
+    pub fragment: Fragment,
+}
+
+// How many records are in use, which is the last one's number.
+pub fn used(fragments: [Fragment; LIMIT]) -> usize
+    ensures { λ r. ⌜ r ≡ length (listed fragments) ⌝ }
+{
+    let mut i: usize = 0;
+    while i < LIMIT {
+        let f = fragments[i];
+        if f.length == 0 {
+            return i;
+        }
+        i += 1;
+    }
+    i
+}
+
+// The last record with its number.
+pub fn last_record(fragments: [Fragment; LIMIT]) -> Last
+    ensures { λ r. ⌜ r ≡ lastOf fragments ⌝ }
+{
+    let number = used(fragments);
+    if number == 0 {
+        let fragment = fragments[0];
+        return Last { number, fragment };
+    }
+    let fragment = fragments[number - 1];
+    Last { number, fragment }
+}
+
+// The fragment that an address lies in.
+pub fn at_address(fragments: [Fragment; LIMIT], address: Lba) -> Found
+    ensures { λ r. ⌜ r ≡ holderOf fragments address ⌝ }
+{
+    let mut i: usize = 0;
+    while i < LIMIT {
+        let f = fragments[i];
+        if f.length == 0 {
+            return Found::Nowhere;
+        }
+        if f.holds(address) {
+            return Found::Number(i + 1);
+        }
+        i += 1;
+    }
+    Found::Nowhere
+}
+
+// The pending sectors of the fragment with a number, of all those pending and the number of the fragment that has them.
+pub fn pending_of(pending: u8, owner: u8, number: usize) -> u8
+    ensures { λ r. ⌜ r ≡ pendingOf pending owner number ⌝ }
+{
+    if owner as usize == number {
+        return pending;
+    }
+    0
+}
+
+// The incomplete fragment whose next writable address it is, with so many sectors pending in the fragment with the number `owner`.
+pub fn writable_at(fragments: [Fragment; LIMIT], pending: u8, owner: u8, address: Lba) -> Found
+    ensures { λ r. ⌜ r ≡ takerOf fragments pending owner address ⌝ }
+{
+    let mut i: usize = 0;
+    while i < LIMIT {
+        let f = fragments[i];
+        if f.length == 0 {
+            return Found::Nowhere;
+        }
+        if f.takes(address, pending_of(pending, owner, i + 1)) {
+            return Found::Number(i + 1);
+        }
+        i += 1;
+    }
+    Found::Nowhere
+}
+
+// The number of a session's first record; one more than the last record's where it has none.
+pub fn first_of_session(fragments: [Fragment; LIMIT], session: u8) -> usize
+    ensures { λ r. ⌜ r ≡ firstOfSession session 1 (listed fragments) ⌝ }
+{
+    let mut i: usize = 0;
+    while i < LIMIT {
+        let f = fragments[i];
+        if f.length == 0 {
+            return i + 1;
+        }
+        if f.session == session {
+            return i + 1;
+        }
+        i += 1;
+    }
+    i + 1
+}
+
+// Some reserved fragment is incomplete.
+pub fn has_incomplete_reserved(fragments: [Fragment; LIMIT]) -> bool
+    ensures { λ r. ⌜ r ≡ some isIncompleteReserved (listed fragments) ⌝ }
+{
+    let mut i: usize = 0;
+    while i < LIMIT {
+        let f = fragments[i];
+        if f.length == 0 {
+            return false;
+        }
+        if f.is_incomplete_reserved() {
+            return true;
+        }
+        i += 1;
+    }
+    false
+}
+
+// Whether one fragment has the whole run of sectors in its recorded blocks.
+pub fn holds_run(fragments: [Fragment; LIMIT], address: Lba, sectors: u32) -> bool
+    ensures { λ r. ⌜ r ≡ some (holdsRun address sectors) (listed fragments) ⌝ }
+{
+    let mut i: usize = 0;
+    while i < LIMIT {
+        let f = fragments[i];
+        if f.length == 0 {
+            return false;
+        }
+        if f.holds_run(address, sectors) {
+            return true;
+        }
+        i += 1;
+    }
+    false
+}
+
+// The address that lies further on.
+fn later(a: Lba, b: Lba) -> Lba
+    ensures { λ r. ⌜ r ≡ later a b ⌝ }
+{
+    if a.0 <= b.0 {
+        return b;
+    }
+    a
+}
+
+// The highest readable address, or 0.
+pub fn last_readable(fragments: [Fragment; LIMIT]) -> Lba
+    ensures { λ r. ⌜ r ≡ lastReadable (listed fragments) ⌝ }
+{
+    let mut highest = Lba(0);
+    let mut i: usize = 0;
+    while i < LIMIT {
+        let f = fragments[i];
+        if f.length == 0 {
+            return highest;
+        }
+        highest = later(highest, f.last_recorded());
+        i += 1;
+    }
+    highest
+}

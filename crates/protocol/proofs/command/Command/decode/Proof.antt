@@ -1,0 +1,137 @@
+use borrow.Author.Tests.{ne-eqb}
+use Rattle.protocol.specs.Command.{decode}
+use borrow.Author.Needs.{needs}
+use Rattle.protocol.proofs.command.Command.decode.Statement.{statement}
+use Rattle.protocol.proofs.command.Command.decode.Tie as tie
+
+byte-at-requires : tie.Need-byte-at-requires
+byte-at-requires c κs = search needs
+
+byte-at-requires-2 : tie.Need-byte-at-requires-2
+byte-at-requires-2 c κs = search needs
+
+word32-requires : tie.Need-word32-requires
+word32-requires c κs = search needs
+
+cast-t6 : tie.Need-cast-t6
+cast-t6 c = search needs
+
+word16-requires : tie.Need-word16-requires
+word16-requires c κs = search needs
+
+cast-t9 : tie.Need-cast-t9
+cast-t9 c = search needs
+
+word32-requires-2 : tie.Need-word32-requires-2
+word32-requires-2 c κs = search needs
+
+cast-t11 : tie.Need-cast-t11
+cast-t11 c = search needs
+
+word16-requires-2 : tie.Need-word16-requires-2
+word16-requires-2 c κs = search needs
+
+cast-t14 : tie.Need-cast-t14
+cast-t14 c = search needs
+
+word32-requires-3 : tie.Need-word32-requires-3
+word32-requires-3 c κs = search needs
+
+byte-at-requires-3 : tie.Need-byte-at-requires-3
+byte-at-requires-3 c κs = search needs
+
+word16-requires-3 : tie.Need-word16-requires-3
+word16-requires-3 c κs = search needs
+
+byte-at-requires-4 : tie.Need-byte-at-requires-4
+byte-at-requires-4 c κs = search needs
+
+word16-requires-4 : tie.Need-word16-requires-4
+word16-requires-4 c κs = search needs
+
+byte-at-requires-5 : tie.Need-byte-at-requires-5
+byte-at-requires-5 c κs = search needs
+
+word32-requires-4 : tie.Need-word32-requires-4
+word32-requires-4 c κs = search needs
+
+word16-requires-5 : tie.Need-word16-requires-5
+word16-requires-5 c κs = search needs
+
+returns : tie.Need-returns
+unfolding decode
+returns c = rw (← c .before .byte-at .ensures, c .match .keys1)
+
+returns-2 : tie.Need-returns-2
+unfolding decode
+returns-2 c = rw (c .byte-at2 .ensures, ← c .before .before .byte-at .ensures, c .before .match .keys2)
+
+returns-3 : tie.Need-returns-3
+unfolding decode
+returns-3 c = rw (← c .before .byte-at .ensures, c .match .keys3)
+
+returns-4 : tie.Need-returns-4
+unfolding decode
+returns-4 c = rw (c .word16 .ensures, c .before .word32 .ensures, ← c .before .before .before .byte-at .ensures, c .before .before .match .keys4)
+
+returns-5 : tie.Need-returns-5
+unfolding decode
+returns-5 c = rw (c .word162 .ensures, c .before .word322 .ensures, ← c .before .before .before .byte-at .ensures, c .before .before .match .keys5)
+
+returns-6 : tie.Need-returns-6
+unfolding decode
+returns-6 c = rw (← c .before .byte-at .ensures, c .match .keys6)
+
+returns-7 : tie.Need-returns-7
+unfolding decode
+returns-7 c = rw (c .word323 .ensures, ← c .before .before .byte-at .ensures, c .before .match .keys7)
+
+returns-8 : tie.Need-returns-8
+unfolding decode
+returns-8 c = rw (c .word163 .ensures, c .before .byte-at3 .ensures, ← c .before .before .before .byte-at .ensures, c .before .before .match .keys8)
+
+returns-9 : tie.Need-returns-9
+unfolding decode
+returns-9 c = rw (c .word164 .ensures, c .before .byte-at4 .ensures, ← c .before .before .before .byte-at .ensures, c .before .before .match .keys9)
+
+returns-10 : tie.Need-returns-10
+unfolding decode
+returns-10 c = rw (c .word165 .ensures, c .before .word324 .ensures, c .before .before .byte-at5 .ensures, ← c .before .before .before .before .byte-at .ensures, c .before .before .before .match .keys10)
+
+returns-11 : tie.Need-returns-11
+unfolding decode
+returns-11 c = rw (← c .before .byte-at .ensures, ne-eqb _ _ (c .match .rest .0 .0 .0 .0 .0 .0 .0 .0 .0 .1), ne-eqb _ _ (c .match .rest .0 .0 .0 .0 .0 .0 .0 .0 .1), ne-eqb _ _ (c .match .rest .0 .0 .0 .0 .0 .0 .0 .1), ne-eqb _ _ (c .match .rest .0 .0 .0 .0 .0 .0 .1), ne-eqb _ _ (c .match .rest .0 .0 .0 .0 .0 .1), ne-eqb _ _ (c .match .rest .0 .0 .0 .0 .1), ne-eqb _ _ (c .match .rest .0 .0 .0 .1), ne-eqb _ _ (c .match .rest .0 .0 .1), ne-eqb _ _ (c .match .rest .0 .1), ne-eqb _ _ (c .match .rest .1))
+
+pub decode-spec : {M : Type 1} → statement M
+decode-spec =
+    tie.close
+    (tie.spec
+    byte-at-requires
+    byte-at-requires-2
+    word32-requires
+    cast-t6
+    word16-requires
+    cast-t9
+    word32-requires-2
+    cast-t11
+    word16-requires-2
+    cast-t14
+    word32-requires-3
+    byte-at-requires-3
+    word16-requires-3
+    byte-at-requires-4
+    word16-requires-4
+    byte-at-requires-5
+    word32-requires-4
+    word16-requires-5
+    returns
+    returns-2
+    returns-3
+    returns-4
+    returns-5
+    returns-6
+    returns-7
+    returns-8
+    returns-9
+    returns-10
+    returns-11)

@@ -1,0 +1,72 @@
+// The lengths of data and reply that a command asks for (L4), and those of the reports.
+use crate::command::Command;
+ghost use mathlib.Core.Path.{_≡_};
+ghost use Prim.Native.Nat.{min};
+ghost use Rattle.protocol.specs.Lengths.{dataLength, replyRoom, lengthsFit};
+
+// Bytes of a command block.
+pub const COMMAND_LENGTH: usize = 12;
+
+// Bytes of a sector, and of a block of sixteen.
+pub const SECTOR_LENGTH: usize = 2048;
+
+pub const BLOCK_LENGTH: usize = 32768;
+
+// The whole reports of 03h, 25h, 51h and 52h.
+pub const SENSE_LENGTH: usize = 18;
+
+pub const CAPACITY_LENGTH: usize = 8;
+
+pub const DISC_INFORMATION_LENGTH: usize = 34;
+
+pub const TRACK_INFORMATION_LENGTH: usize = 36;
+
+// How much of a report an allocation length lets through.
+pub(crate) fn cut(whole: usize, allocation: usize) -> usize
+    ensures { λ r. ⌜ r ≡ min whole allocation ⌝ }
+{
+    if whole <= allocation {
+        return whole;
+    }
+    allocation
+}
+
+impl Command {
+    // The bytes that come with the command: a WRITE's sectors.
+    pub fn data_length(self) -> usize
+        ensures { λ r. ⌜ r ≡ dataLength self ⌝ }
+    {
+        match self {
+            Command::Write { address: _, length } => SECTOR_LENGTH * (length as usize),
+            _ => 0,
+        }
+    }
+
+    // The least room for the reply: a READ's sectors, or a report cut to its allocation length.
+    pub fn reply_room(self) -> usize
+        ensures { λ r. ⌜ r ≡ replyRoom self ⌝ }
+    {
+        match self {
+            Command::RequestSense { allocation } => cut(SENSE_LENGTH, allocation as usize),
+            Command::ReadCapacity => CAPACITY_LENGTH,
+            Command::Read { address: _, length } => SECTOR_LENGTH * (length as usize),
+            Command::ReadDiscInformation {
+                data_type: _,
+                allocation,
+            } => cut(DISC_INFORMATION_LENGTH, allocation as usize),
+            Command::ReadTrackInformation {
+                address_type: _,
+                number: _,
+                allocation,
+            } => cut(TRACK_INFORMATION_LENGTH, allocation as usize),
+            _ => 0,
+        }
+    }
+
+    // Whether data and reply buffer have lengths that the command can work with.
+    pub fn lengths_fit(self, data: usize, reply: usize) -> bool
+        ensures { λ r. ⌜ r ≡ lengthsFit self «data» reply ⌝ }
+    {
+        (data == self.data_length()) & (self.reply_room() <= reply)
+    }
+}

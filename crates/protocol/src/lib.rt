@@ -1,0 +1,20 @@
+// What the drive is told and what it says: command blocks, the lengths that go with them, sense, answers and their numbers, reports.
+// Nothing here needs a disc.
+mod answer;
+mod command;
+mod lengths;
+mod reply;
+
+pub use answer::Answer;
+pub use answer::DriveRefusal;
+pub use answer::LinkRefusal;
+pub use answer::Sense;
+pub use command::Command;
+pub use lengths::BLOCK_LENGTH;
+pub use lengths::CAPACITY_LENGTH;
+pub use lengths::COMMAND_LENGTH;
+pub use lengths::DISC_INFORMATION_LENGTH;
+pub use lengths::SECTOR_LENGTH;
+pub use lengths::SENSE_LENGTH;
+pub use lengths::TRACK_INFORMATION_LENGTH;
+pub use reply::Reply;

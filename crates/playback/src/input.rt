@@ -30,12 +30,12 @@ struct Progress {
     ended: bool,
 }
 
-fn print(line: Line)
+fn print(fd: i32, line: Line)
     requires { ⌜ line .length ≤ length (line .bytes) ⌝ }
 {
     let bytes = line.bytes;
     let length = line.length;
-    io::write_all(STDOUT_FILENO, &bytes[0..length]);
+    io::write_all(fd, &bytes[0..length]);
 }
 
 // Plays the records that are whole in the bytes held, and prints their lines.
@@ -56,7 +56,7 @@ fn play_held(replay: Replay, held: &[u8]) -> Stop
             };
         };
         let played = replay.play(block);
-        print(played.line);
+        print(STDOUT_FILENO, played.line);
         replay = played.replay;
         at = step.next;
     }
@@ -100,13 +100,15 @@ fn over(replay: Replay) -> Progress
     }
 }
 
-// Prints the last line.
+// Prints the last line, on standard error too: a program here has no exit status to tell that a trace is damaged.
 fn finish(stop: Stop) -> Progress
     ensures { λ r. ⌜ r ≡ over (stop .replay) ⌝ }
 {
     let reading = stop.reading;
     let replay = stop.replay;
-    print(replay.last_line(reading));
+    let line = replay.last_line(reading);
+    print(STDOUT_FILENO, line);
+    print(STDERR_FILENO, line);
     over(replay)
 }
 

@@ -2,6 +2,7 @@
 //! fragments that it leaves.
 
 use crate::disc::{Disc, Outcome};
+use crate::fragments::{next_writable, pending_in, tail_next};
 use crate::words;
 use gladhamre::blocks::{Block, READ};
 use gladhamre::Refusal;
@@ -30,7 +31,7 @@ pub fn row(
     let cells = [
         &*words::answer(&outcome.answer),
         &words::sense(disc.state.sense()),
-        &words::next(disc.tail_next()),
+        &words::next(tail_next(&disc.state)),
         &recorded.to_string(),
     ];
     let mark = match differences {
@@ -79,7 +80,8 @@ fn lower_left(block: &Block, outcome: &Outcome) -> Vec<String> {
 /// The list of fragments.
 fn lower_right(disc: &Disc) -> Vec<String> {
     let fragment = |(index, record)| {
-        let (pending, next) = (disc.pending_in(index), disc.next_writable(index));
+        let pending = pending_in(&disc.state, index);
+        let next = next_writable(&disc.state, index);
         words::fragment(index + 1, &record, pending, next)
     };
     let mut lines: Vec<String> = disc.state.records().enumerate().map(fragment).collect();

@@ -24,15 +24,12 @@
 
 #![deny(unsafe_code)]
 
-pub mod blocks;
 pub mod raw;
 mod state;
 
+pub use blocks::{self, SECTOR_BYTES};
 pub use raw::{Answer, Lent};
 pub use state::{Record, State, RECORD_LIMIT, STATE_WORDS};
-
-/// The bytes of a sector.
-pub const SECTOR_BYTES: usize = 2_048;
 
 /// The bytes of an ECC block, which is 16 sectors.
 pub const BLOCK_BYTES: usize = 32_768;

@@ -20,5 +20,7 @@ mod words;
 
 pub use disc::{Disc, Outcome};
 pub use map::Map;
-pub use play::{play, Expected, Line, Run};
+pub use play::{data_bytes, play, Expected, Line, Run};
 pub use svg::image;
+pub use table::fragment_list;
+pub use words::reply_bytes;

@@ -40,7 +40,7 @@ pub fn row(
         Some(_) => "  WRONG",
     };
     line(out, &number.to_string(), &words::command(block), cells, mark)?;
-    for (left, right) in pairs(&lower_left(block, outcome), &lower_right(disc)) {
+    for (left, right) in pairs(&lower_left(block, outcome), &fragment_list(disc)) {
         writeln!(out, "{}", format!("     {left:<LEFT$} {right}").trim_end())?;
     }
     for difference in differences.unwrap_or_default() {
@@ -77,8 +77,8 @@ fn lower_left(block: &Block, outcome: &Outcome) -> Vec<String> {
     lines
 }
 
-/// The list of fragments.
-fn lower_right(disc: &Disc) -> Vec<String> {
+/// The list of fragments, a line for each, and whether the disc is finalized.
+pub fn fragment_list(disc: &Disc) -> Vec<String> {
     let fragment = |(index, record)| {
         let pending = pending_in(&disc.state, index);
         let next = next_writable(&disc.state, index);

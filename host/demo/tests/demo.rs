@@ -238,6 +238,45 @@ fn image_has_every_block() {
     assert!(svg.contains("a &lt; b"));
 }
 
+/// The lines of the demo that the README shows are printed so.
+#[test]
+fn readme_shows_what_is_printed() {
+    let readme = std::fs::read_to_string(concat!(env!("CARGO_MANIFEST_DIR"), "/../../README.md"));
+    let readme = readme.expect("it is there");
+    let chapter = readme.split("\n## ").find(|chapter| chapter.starts_with("See it\n"));
+    let (disc, _, table) = played(&shift::runs()[0]);
+    let text = table + &printed(&Map::of("The shift", &disc));
+    let shown = chapter.expect("it is there").lines().filter_map(|line| line.strip_prefix("    "));
+    let lines: Vec<&str> = shown.filter(|line| *line != "./demo").collect();
+    assert_eq!(lines.len(), 7);
+    lines.into_iter().for_each(|line| assert_line(&text, line));
+}
+
+/// The script at the root looks at its arguments before it proves or builds anything.
+#[test]
+fn arguments_are_looked_at_first() {
+    let asked = |arguments: &[&str]| {
+        let script = concat!(env!("CARGO_MANIFEST_DIR"), "/../../demo");
+        let output = Command::new(script).args(arguments).output().expect("it runs");
+        let text = |bytes: &[u8]| String::from_utf8_lossy(bytes).into_owned();
+        (output.status.code(), text(&output.stdout), text(&output.stderr))
+    };
+    let (status, says, errors) = asked(&["--help"]);
+    assert!(status == Some(0) && says.starts_with("usage: ./demo ") && errors.is_empty());
+    for (arguments, message) in [
+        (&["--what"][..], "--what is no option (./demo --help)"),
+        (&["--image"], "--image needs a file's name (./demo --help)"),
+        (&["one.txt", "two.txt"], "two.txt is one script too many (./demo --help)"),
+        (&[""], "a script's name is empty (./demo --help)"),
+        (&["missing.txt"], "missing.txt: there is no such script"),
+        (&["--image", "missing/a.svg"], "the image cannot be written: there is no folder missing"),
+        (&["--image", "src"], "the image's name src is no file's"),
+    ] {
+        let refused = (Some(2), String::new(), format!("demo: {message}\n"));
+        assert_eq!(asked(arguments), refused, "{arguments:?}");
+    }
+}
+
 fn demo(arguments: &[&str]) -> Output {
     Command::new(env!("CARGO_BIN_EXE_demo")).args(arguments).output().expect("it runs")
 }

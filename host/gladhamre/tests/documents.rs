@@ -45,10 +45,9 @@ fn c_example_is_built_and_run() {
     let readme = read("README.md");
     let program = read("examples/first_disc.c");
     let parts = framed(&readme);
-    let whole = beginning(&parts, "/* The first commands");
-    let (shown, commands) = whole.split_at(whole.find("\ncc ").expect("its commands follow"));
-    assert_eq!(shown.trim_end(), program.trim_end());
-    let lines: Vec<&str> = commands.trim().lines().collect();
+    assert_eq!(beginning(&parts, "/* The first commands"), program);
+    let commands = beginning(&parts, "cc ");
+    let lines: Vec<&str> = commands.lines().collect();
     let [compile, run] = lines.as_slice() else { panic!("{commands}") };
     assert_silent(&shell(&compile.replace("cc ", "cc -std=c99 -pedantic -Werror ")));
     assert_silent(&shell(compile));

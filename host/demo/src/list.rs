@@ -1,7 +1,9 @@
 //! What a map says in words: the disc in a few lines, its fragments with their bounds, and the runs
 //! of zero-filled sectors. The text and the image have the same lines.
 
-use crate::fragments::{end, is_complete, kind, next_writable, pending_in, recorded_end};
+use crate::fragments::{
+    end, is_complete, kind, next_writable, pending_in, recorded_end, BLOCK_SECTORS,
+};
 use crate::map::{Map, Sector};
 use crate::words;
 use gladhamre::{Record, RECORD_LIMIT};
@@ -27,7 +29,7 @@ pub fn summary(map: &Map) -> Vec<String> {
         format!(
             "{} blocks, sectors 0 to {}; {status}; {} of at most {RECORD_LIMIT}",
             state.capacity(),
-            16 * state.capacity() - 1,
+            BLOCK_SECTORS * state.capacity() - 1,
             count(records.len(), "fragment")
         ),
         format!(

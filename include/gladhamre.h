@@ -21,6 +21,9 @@ extern "C" {
 #define GLADHAMRE_LARGEST_CAPACITY 143444u /* in blocks */
 #define GLADHAMRE_RECORDS 64u
 
+/* Bytes of stack that a call takes at the most, as measured over every command and every refusal; no proof bounds it. */
+#define GLADHAMRE_STACK_LENGTH 27648u
+
 /* The state image: 391 words of 32 bits. */
 #define GLADHAMRE_STATE_CAPACITY 0u          /* C in blocks */
 #define GLADHAMRE_STATE_FINALIZED 1u         /* 0 or 1 */
@@ -94,7 +97,7 @@ uint32_t gladhamre_command(
  * Buffers. All belong to the caller and are lent for the call alone. No two of them may overlap, reply_count and recorded included. A
  * pointer is never null and is aligned for its type, also where the length is 0. Nothing else may touch them during a call.
  *
- * Linking. The archive calls memcpy and memset. A call takes about 27 KB of stack, as measured with every command; no proof bounds it.
+ * Linking. The archive calls memcpy and memset. Have GLADHAMRE_STACK_LENGTH bytes of stack free for a call, and what interrupts take.
  *
  * Across power loss. Image, medium and pending buffer together are the disc. Keep all three as a call leaves them before its answer goes
  * out on the bus: a command that was answered must be found again. First the medium: to the old image the new blocks are unrecorded,

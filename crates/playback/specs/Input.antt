@@ -1,12 +1,12 @@
 -- An input that comes in parts: what the code over its buffer leaves.
 use Prim.Native.Nat.{ℕ, _-_, _≤_}
 use mathlib.Core.Path.{_≡_}
-use mathlib.Core.Bool.{true, false}
+use mathlib.Core.Bool.{Bool, true, false}
 use mathlib.Core.List.{List}
 use lib.ListN.{length, take, drop}
 use Rattle.trace.specs.Record.{stepAt}
 use Rattle.trace.specs.Whole.{wholeBlocks, wholeEnd}
-use Rattle.playback.specs.Types.{Replay, Stop, Input, Progress}
+use Rattle.playback.specs.Types.{Reading, Record, BadMark, CutShort, End, Replay, Stop, Input, Progress}
 use Rattle.playback.specs.Replay.{replayed}
 
 -- exactly the records that the record reader finds in the bytes held are played, up to its stop
@@ -28,9 +28,16 @@ pub record Brought (held : ℕ) (before after : List ℕ) (r : Input) : Type 0 w
   pub front : take held after ≡ take held before
   pub same : length after ≡ length before
 
+-- whether a trace is whole that ends with what stands there
+unfoldable pub whole : Reading → Bool
+whole Record = true
+whole BadMark = false
+whole CutShort = false
+whole End = true
+
 -- the replay is over, and nothing is held
-abbrev pub over : Replay → Progress
-over r = record { replay = r; filled = 0; ended = true }
+abbrev pub over : Replay → Bool → Progress
+over r w = record { replay = r; filled = 0; ended = true; whole = w }
 
 -- one turn: the records held are played, and, unless the replay is over, what they leave is held in front of what was read
 pub record WentOn (before : Progress) (buffer after : List ℕ) (r : Progress) : Type 0 where

@@ -8,7 +8,7 @@ use trace::Reading;
 ghost use mathlib.Core.Path.{_≡_};
 ghost use Prim.Native.Nat.{_≤_, _<_};
 ghost use lib.ListN.{length};
-ghost use Rattle.playback.specs.Input.{over, Stopped, Carried, Brought, WentOn};
+ghost use Rattle.playback.specs.Input.{whole, over, Stopped, Carried, Brought, WentOn};
 
 // Where the records of the bytes held end: the replay after them, the position, and what stands there.
 struct Stop {
@@ -23,19 +23,20 @@ struct Input {
     filled: usize,
 }
 
-// A replay between two reads: how many bytes are held, and whether the last line is printed.
+// A replay between two reads: how many bytes are held, whether the last line is printed, and whether the trace was whole then.
 struct Progress {
     replay: Replay,
     filled: usize,
     ended: bool,
+    whole: bool,
 }
 
-fn print(line: Line)
+fn print(fd: i32, line: Line)
     requires { ⌜ line .length ≤ length (line .bytes) ⌝ }
 {
     let bytes = line.bytes;
     let length = line.length;
-    io::write_all(STDOUT_FILENO, &bytes[0..length]);
+    io::write_all(fd, &bytes[0..length]);
 }
 
 // Plays the records that are whole in the bytes held, and prints their lines.
@@ -56,7 +57,7 @@ fn play_held(replay: Replay, held: &[u8]) -> Stop
             };
         };
         let played = replay.play(block);
-        print(played.line);
+        print(STDOUT_FILENO, played.line);
         replay = played.replay;
         at = step.next;
     }
@@ -89,25 +90,40 @@ fn read_more(fd: i32, buffer: &mut [u8], held: usize) -> Input
     }
 }
 
+// Whether a trace is whole that ends with what stands there.
+fn is_whole(reading: Reading) -> bool
+    ensures { λ r. ⌜ r ≡ whole reading ⌝ }
+{
+    match reading {
+        Reading::Record => true,
+        Reading::BadMark => false,
+        Reading::CutShort => false,
+        Reading::End => true,
+    }
+}
+
 // The replay is over: no bytes are held.
-fn over(replay: Replay) -> Progress
-    ensures { λ r. ⌜ r ≡ over replay ⌝ }
+fn over(replay: Replay, whole: bool) -> Progress
+    ensures { λ r. ⌜ r ≡ over replay whole ⌝ }
 {
     Progress {
         replay,
         filled: 0,
         ended: true,
+        whole,
     }
 }
 
-// Prints the last line.
+// Prints the last line, on standard error too: a program here has no exit status to tell that a trace is damaged.
 fn finish(stop: Stop) -> Progress
-    ensures { λ r. ⌜ r ≡ over (stop .replay) ⌝ }
+    ensures { λ r. ⌜ r ≡ over (stop .replay) (whole (stop .reading)) ⌝ }
 {
     let reading = stop.reading;
     let replay = stop.replay;
-    print(replay.last_line(reading));
-    over(replay)
+    let line = replay.last_line(reading);
+    print(STDOUT_FILENO, line);
+    print(STDERR_FILENO, line);
+    over(replay, is_whole(reading))
 }
 
 // Plays what is held, and reads more. A bad mark, the end of the input or a failed read ends the replay.
@@ -129,17 +145,18 @@ fn go_on(fd: i32, buffer: &mut [u8], progress: Progress) -> Progress
     let replay = stop.replay;
     if input.got < 0 {
         io::write_all(STDERR_FILENO, b"the input cannot be read\n");
-        return over(replay);
+        return over(replay, false);
     }
     Progress {
         replay,
         filled: input.filled,
         ended: false,
+        whole: false,
     }
 }
 
-// Replays the trace that an open file holds, on standard output.
-pub fn replay_from(fd: i32) {
+// Replays the trace that an open file holds, on standard output. Answers whether it was whole and could be read.
+pub fn replay_from(fd: i32) -> bool {
     io::write_all(STDOUT_FILENO, b"n op key asc ascq next\n");
     let mut space = io::buffer();
     let buffer: &mut [u8] = &mut space;
@@ -147,14 +164,16 @@ pub fn replay_from(fd: i32) {
         replay: Replay::start(),
         filled: 0,
         ended: false,
+        whole: false,
     };
     // A proved loop has to end, and nothing says that an input does: no run uses up these turns.
     let mut turns = u64::MAX;
     while turns > 0 {
         progress = go_on(fd, buffer, progress);
         if progress.ended {
-            return;
+            return progress.whole;
         }
         turns -= 1;
     }
+    false
 }

@@ -1,4 +1,5 @@
 // Replays the traces that its arguments name: of each the name, and then what `replay` prints for it.
+use libc::STDERR_FILENO;
 use libc::STDOUT_FILENO;
 
 // The trace that an argument names, or why it cannot be opened.
@@ -12,7 +13,11 @@ fn replay_argument(index: usize) {
     }
     io::write_all(STDOUT_FILENO, &path[..length]);
     io::write_all(STDOUT_FILENO, b":\n");
-    playback::replay_from(fd);
+    if !playback::replay_from(fd) {
+        io::write_all(STDERR_FILENO, b"in ");
+        io::write_all(STDERR_FILENO, &path[..length]);
+        io::write_all(STDERR_FILENO, b"\n");
+    }
     libc::close(fd);
 }
 

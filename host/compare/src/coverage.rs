@@ -143,7 +143,7 @@ impl fmt::Display for Coverage {
 }
 
 /// A command as document 01 lists it.
-fn command_name(block: &Block) -> &'static str {
+pub fn command_name(block: &Block) -> &'static str {
     match (block[0], block[1] & 0b11, block[2] & 0b111) {
         (blocks::TEST_UNIT_READY, _, _) => "00h",
         (blocks::REQUEST_SENSE, _, _) => "03h",

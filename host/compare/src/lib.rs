@@ -24,7 +24,7 @@ mod spoil;
 mod states;
 mod unsound;
 
-pub use coverage::Coverage;
+pub use coverage::{answer_name, command_name, Coverage};
 pub use drive::{Drive, Linked, Plain};
 pub use generator::Generator;
 pub use gladhamre::blocks;

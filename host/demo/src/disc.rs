@@ -1,10 +1,8 @@
 //! A disc in memory, with the linked drive over it.
 
+use crate::fragments::{recorded_end, BLOCK_SECTORS};
 use gladhamre::blocks::{self, Block};
 use gladhamre::{Accepted, Lent, Record, Refusal, State, BLOCK_BYTES};
-
-/// Sectors of a block.
-pub const BLOCK_SECTORS: u32 = 16;
 
 /// What the buffers hold before anything is written.
 const STALE: u8 = 0xA5;
@@ -57,39 +55,13 @@ impl Disc {
     fn note_zero_filled(&mut self, before: &[Record]) {
         for (old, new) in before.iter().zip(self.state.records()) {
             let added = new.zero_filled.saturating_sub(old.zero_filled);
-            let end = BLOCK_SECTORS * (new.start + new.recorded);
+            let end = BLOCK_SECTORS * recorded_end(&new);
             self.zero_filled[(end - added) as usize..end as usize].fill(true);
         }
     }
 
-    pub fn is_zero_filled(&self, sector: u32) -> bool {
-        self.zero_filled[sector as usize]
+    /// For each sector whether the drive filled it with zeros by itself.
+    pub fn zero_filled(&self) -> &[bool] {
+        &self.zero_filled
     }
-
-    /// How many sectors are pending in the fragment with an index from 0.
-    pub fn pending_in(&self, index: usize) -> u32 {
-        if self.state.pending_fragment() as usize == index + 1 {
-            self.state.pending_count()
-        } else {
-            0
-        }
-    }
-
-    /// The next writable address of a fragment, if it is incomplete.
-    pub fn next_writable(&self, index: usize) -> Option<u32> {
-        let record = self.state.record(index);
-        let next = BLOCK_SECTORS * (record.start + record.recorded) + self.pending_in(index);
-        (record.recorded < record.length).then_some(next)
-    }
-
-    /// The next writable address of the tail, if there is one.
-    pub fn tail_next(&self) -> Option<u32> {
-        let last = self.state.records().count().checked_sub(1)?;
-        is_tail(&self.state.record(last)).then(|| self.next_writable(last))?
-    }
-}
-
-/// An incomplete appended fragment.
-pub fn is_tail(record: &Record) -> bool {
-    record.kind == 1 && record.recorded < record.length
 }

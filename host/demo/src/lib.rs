@@ -1,20 +1,26 @@
 //! Plays commands on the linked drive over a disc in memory, and shows what a person wants to see:
 //! a table of answers and a map of the disc, as text and as an image.
 //!
-//! [`shift`] has document 01's worked example with the answers that it documents; [`script`] reads
-//! commands from a text file.
+//! [`shift`] has document 01's worked example with the answers that it documents; scripts of other
+//! commands are read by the package `script`.
 
 #![forbid(unsafe_code)]
 
 mod disc;
+mod fragments;
+mod grid;
+mod list;
 pub mod map;
 mod play;
-pub mod script;
 pub mod shift;
 mod svg;
 mod table;
+pub mod text;
 mod words;
 
 pub use disc::{Disc, Outcome};
-pub use play::{play, Data, Expected, Line, Run};
+pub use map::Map;
+pub use play::{data_bytes, play, Expected, Line, Run};
 pub use svg::image;
+pub use table::fragment_list;
+pub use words::reply_bytes;

@@ -4,7 +4,7 @@
 //!
 //! Ends with 0 if every answer is the documented one, 1 if one is not, 2 where it cannot start.
 
-use demo::{image, map, play, script, shift, Run};
+use demo::{image, play, shift, text, Map, Run};
 use std::fs;
 use std::io::{self, BufWriter, Write};
 use std::path::{Path, PathBuf};
@@ -26,7 +26,7 @@ fn run() -> Result<ExitCode, String> {
     let (script, image_path) = arguments()?;
     let runs = match &script {
         None => shift::runs(),
-        Some(path) => read_script(path)?,
+        Some(path) => script::read(path)?.into_iter().map(Run::of_part).collect(),
     };
     let wrong = show(&runs, &image_path).map_err(|error| error.to_string())?;
     if script.is_some() {
@@ -59,30 +59,23 @@ fn arguments() -> Result<(Option<PathBuf>, PathBuf), String> {
     Ok((script, image_path))
 }
 
-fn read_script(path: &Path) -> Result<Vec<Run>, String> {
-    let named = |message: String| format!("{}: {message}", path.display());
-    let text = std::fs::read_to_string(path).map_err(|error| named(error.to_string()))?;
-    let folder = path.parent().unwrap_or(Path::new(""));
-    script::parse(&text, folder).map_err(|error| named(error.to_string()))
-}
-
 /// Prints every run and writes the image. Gives how many answers are not as documented.
 fn show(runs: &[Run], image_path: &Path) -> io::Result<usize> {
     let mut out = BufWriter::new(io::stdout().lock());
-    let mut discs = Vec::new();
+    let mut maps = Vec::new();
     let mut wrong = 0;
     for run in runs {
         let (disc, differing) = play(run, &mut out)?;
         wrong += differing;
         if run.mapped {
-            discs.push((&*run.title, disc));
+            maps.push(Map::of(&run.title, &disc));
         }
     }
-    for (title, disc) in &discs {
-        map::print(&mut out, title, disc)?;
+    for map in &maps {
+        text::print(&mut out, map)?;
     }
     let named = |error| io::Error::other(format!("{}: {error}", image_path.display()));
-    fs::write(image_path, image(&discs)).map_err(named)?;
+    fs::write(image_path, image(&maps)).map_err(named)?;
     writeln!(out, "\nThe map as an image: {}", image_path.display())?;
     out.flush()?;
     Ok(wrong)

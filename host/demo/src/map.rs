@@ -1,79 +1,120 @@
-//! The map of a disc: what every sector is, and a character for each block.
+//! The map of a disc: what every sector is, and what every block is as one character.
 
-use crate::disc::{Disc, BLOCK_SECTORS};
-use std::io::{self, Write};
+use crate::disc::Disc;
+use crate::fragments::{end, is_reserved, pending_in, recorded_end, BLOCK_SECTORS};
+use gladhamre::State;
 
 /// Blocks of a Closure; an Intro has as many.
 const CLOSURE: u32 = 64;
 
-/// Blocks to a line of the text.
-const COLUMNS: usize = 50;
-
-/// Lines of a map that is shown whole.
-const LONG: usize = 40;
-
 /// What a sector is.
 #[derive(Clone, Copy, Debug, PartialEq, Eq)]
 pub enum Sector {
-    /// Nothing recorded and nothing pending.
-    Blank,
     /// Recorded from a WRITE's data.
     Recorded,
     /// Recorded as zeros by the drive itself.
     ZeroFilled,
     /// Accepted, its block not yet recorded.
     Pending,
+    /// Of a reserved fragment, neither recorded nor pending.
+    Reserved,
+    /// Of the tail, neither recorded nor pending.
+    Blank,
     /// Between two fragments of a session.
     Dividing,
     /// Ends a session.
     Closure,
     /// Begins the next session.
     Intro,
+    /// Behind the last fragment of a disc without a tail.
+    Outside,
 }
 
 /// The sectors of a block.
 pub type Block = [Sector; BLOCK_SECTORS as usize];
 
-/// Every block of a disc.
-pub fn blocks(disc: &Disc) -> Vec<Block> {
-    let capacity = disc.state.capacity();
-    let mut blocks = vec![[Sector::Blank; BLOCK_SECTORS as usize]; capacity as usize];
-    let mut end = 0;
-    for (index, record) in disc.state.records().enumerate() {
-        for block in end..record.start {
-            let between = match (record.start - end, block - end) {
-                (1, _) => Sector::Dividing,
-                (_, passed) if passed < CLOSURE => Sector::Closure,
-                _ => Sector::Intro,
-            };
-            blocks[block as usize] = [between; BLOCK_SECTORS as usize];
-        }
-        let recorded_end = record.start + record.recorded;
-        for block in record.start..recorded_end {
-            for (sector, place) in (BLOCK_SECTORS * block..).zip(&mut blocks[block as usize]) {
-                let zeros = disc.is_zero_filled(sector);
-                *place = if zeros { Sector::ZeroFilled } else { Sector::Recorded };
-            }
-        }
-        let pending = disc.pending_in(index) as usize;
-        if pending > 0 {
-            blocks[recorded_end as usize][..pending].fill(Sector::Pending);
-        }
-        end = record.start + record.length;
-    }
-    blocks
+/// What the text and the image show of a disc.
+pub struct Map {
+    pub title: String,
+    pub state: State,
+    pub blocks: Vec<Block>,
 }
 
-/// What the text and the image tell apart.
-pub const LEGEND: [(char, &str); 8] = [
+impl Map {
+    pub fn of(title: &str, disc: &Disc) -> Map {
+        Map::of_state(title, &disc.state, disc.zero_filled())
+    }
+
+    /// The map of a state, with the sectors that the drive filled with zeros.
+    pub fn of_state(title: &str, state: &State, zero_filled: &[bool]) -> Map {
+        let outside = [Sector::Outside; BLOCK_SECTORS as usize];
+        let mut blocks = vec![outside; state.capacity() as usize];
+        let mut forerunner_end = 0;
+        for (index, record) in state.records().enumerate() {
+            for block in forerunner_end..record.start {
+                let between = between(record.start - forerunner_end, block - forerunner_end);
+                blocks[block as usize] = [between; BLOCK_SECTORS as usize];
+            }
+            let unrecorded = if is_reserved(&record) { Sector::Reserved } else { Sector::Blank };
+            for block in record.start..end(&record) {
+                blocks[block as usize] = [unrecorded; BLOCK_SECTORS as usize];
+            }
+            let recorded = recorded_end(&record);
+            for block in record.start..recorded {
+                for (sector, place) in (BLOCK_SECTORS * block..).zip(&mut blocks[block as usize]) {
+                    let zeros = zero_filled[sector as usize];
+                    *place = if zeros { Sector::ZeroFilled } else { Sector::Recorded };
+                }
+            }
+            let pending = pending_in(state, index) as usize;
+            if pending > 0 {
+                blocks[recorded as usize][..pending].fill(Sector::Pending);
+            }
+            forerunner_end = end(&record);
+        }
+        Map { title: title.into(), state: state.clone(), blocks }
+    }
+
+    /// How many sectors of a kind there are.
+    pub fn sectors(&self, kind: Sector) -> usize {
+        self.blocks.iter().flatten().filter(|&&sector| sector == kind).count()
+    }
+
+    /// The runs of zero-filled sectors, each by its first and its last one.
+    pub fn zero_filled_runs(&self) -> Vec<(usize, usize)> {
+        let mut runs: Vec<(usize, usize)> = Vec::new();
+        for (address, sector) in self.blocks.iter().flatten().enumerate() {
+            match runs.last_mut() {
+                _ if *sector != Sector::ZeroFilled => {}
+                Some((_, last)) if *last + 1 == address => *last = address,
+                _ => runs.push((address, address)),
+            }
+        }
+        runs
+    }
+}
+
+/// What stands in a stretch between two fragments, by its length and the place in it.
+fn between(length: u32, place: u32) -> Sector {
+    match (length, place) {
+        (1, _) => Sector::Dividing,
+        (_, place) if place < CLOSURE => Sector::Closure,
+        _ => Sector::Intro,
+    }
+}
+
+/// A block's characters, and what they mean.
+pub const CHARACTERS: [(char, &str); 10] = [
     ('#', "recorded"),
     ('+', "recorded, in part zero-filled"),
     ('0', "zero-filled"),
-    ('p', "pending"),
+    ('p', "pending in part"),
+    ('r', "reserved, unrecorded"),
+    ('.', "blank"),
     ('|', "dividing"),
     ('C', "Closure"),
     ('I', "Intro"),
-    ('.', "blank"),
+    ('-', "in no fragment"),
 ];
 
 /// A block's character.
@@ -83,52 +124,11 @@ pub fn character(block: &Block) -> char {
         (Sector::Recorded, _) => '#',
         (Sector::ZeroFilled, _) => '0',
         (Sector::Pending, _) => 'p',
+        (Sector::Reserved, _) => 'r',
+        (Sector::Blank, _) => '.',
         (Sector::Dividing, _) => '|',
         (Sector::Closure, _) => 'C',
         (Sector::Intro, _) => 'I',
-        (Sector::Blank, _) => '.',
+        (Sector::Outside, _) => '-',
     }
-}
-
-/// The map as lines: the first block's number, then a character for each block. In a long map equal
-/// lines in a row are shown as one and a star.
-pub fn lines(blocks: &[Block]) -> Vec<String> {
-    let rows: Vec<String> =
-        blocks.chunks(COLUMNS).map(|row| row.iter().map(character).collect()).collect();
-    let mut lines = Vec::new();
-    let mut at = 0;
-    while at < rows.len() {
-        let equal = rows[at..].iter().take_while(|row| **row == rows[at]).count();
-        lines.push(format!("{:>7}  {}", at * COLUMNS, rows[at]));
-        if equal > 3 && rows.len() > LONG {
-            lines.push(format!("{:>7}", "*"));
-            at += equal;
-        } else {
-            at += 1;
-        }
-    }
-    lines
-}
-
-/// Prints the map and what its characters mean.
-pub fn print(out: &mut impl Write, title: &str, disc: &Disc) -> io::Result<()> {
-    let blocks = blocks(disc);
-    writeln!(out, "\n{title}, afterwards: a character for each block of 16 sectors\n")?;
-    for line in lines(&blocks) {
-        writeln!(out, "{line}")?;
-    }
-    let counts: Vec<String> = LEGEND
-        .iter()
-        .map(|&(sign, meaning)| {
-            let count = blocks.iter().filter(|block| character(block) == sign).count();
-            (count, format!("{sign} {meaning} ({count})"))
-        })
-        .filter(|&(count, _)| count > 0)
-        .map(|(_, text)| text)
-        .collect();
-    writeln!(out)?;
-    for line in counts.chunks(4) {
-        writeln!(out, "         {}", line.join("   "))?;
-    }
-    Ok(())
 }

@@ -1,9 +1,11 @@
 //! Runs of commands, with or without documented answers, played on a disc and shown as a table.
 
 use crate::disc::{Disc, Outcome};
+use crate::fragments::tail_next;
 use crate::{table, words};
 use gladhamre::blocks::{self, Block};
 use gladhamre::{Record, Refusal, SECTOR_BYTES};
+use script::{Data, Part};
 use std::io::{self, Write};
 
 /// Commands from a blank disc on.
@@ -15,6 +17,19 @@ pub struct Run {
     pub mapped: bool,
 }
 
+impl Run {
+    /// A part of a script, with a map.
+    pub fn of_part(part: Part) -> Run {
+        let lines = part
+            .commands
+            .into_iter()
+            .map(|command| Line { block: command.block, data: command.data, expected: None })
+            .collect();
+        let title = format!("A disc of {} blocks", part.capacity);
+        Run { title, capacity: part.capacity, lines, mapped: true }
+    }
+}
+
 /// One command.
 pub struct Line {
     pub block: Block,
@@ -22,25 +37,14 @@ pub struct Line {
     pub expected: Option<Expected>,
 }
 
-/// The data that goes with a command.
-#[derive(Clone, Debug, PartialEq, Eq)]
-pub enum Data {
-    /// As much as the command asks for; every sector tells its address.
-    Stamp,
-    /// As much as the command asks for, of one byte.
-    Fill(u8),
-    /// These bytes, whatever the command asks for.
-    Bytes(Vec<u8>),
-}
-
-impl Data {
-    pub fn bytes(&self, block: &Block) -> Vec<u8> {
-        let length = blocks::data_length(block);
-        match self {
-            Data::Stamp => stamped(blocks::run(block).0, length / SECTOR_BYTES),
-            Data::Fill(byte) => vec![*byte; length],
-            Data::Bytes(bytes) => bytes.clone(),
-        }
+/// The bytes that go with a command.
+pub fn data_bytes(data: &Data, block: &Block) -> Vec<u8> {
+    let length = blocks::data_length(block);
+    match data {
+        Data::Stamp => stamped(blocks::run(block).0, length / SECTOR_BYTES),
+        Data::Fill(byte) => vec![*byte; length],
+        Data::Zeros(count) => vec![0; *count],
+        Data::Bytes(bytes) => bytes.clone(),
     }
 }
 
@@ -82,7 +86,7 @@ impl Expected {
         compare("blocks recorded", recorded.to_string(), self.recorded.to_string());
         let sense = [self.number >> 16, self.number >> 8 & 0xFF, self.number & 0xFF];
         compare("sense", words::sense(disc.state.sense()), words::sense(sense));
-        compare("next", words::next(disc.tail_next()), words::next(self.next));
+        compare("next", words::next(tail_next(&disc.state)), words::next(self.next));
         compare("pending", disc.state.pending_count().to_string(), self.pending.to_string());
         let list: Vec<Record> = disc.state.records().collect();
         compare("list", words::list(&list), words::list(&self.list));
@@ -121,7 +125,7 @@ pub fn play(run: &Run, out: &mut impl Write) -> io::Result<(Disc, usize)> {
     writeln!(out, "\n{}\n", run.title)?;
     table::heading(out)?;
     for (index, line) in run.lines.iter().enumerate() {
-        let outcome = disc.send(&line.block, &line.data.bytes(&line.block));
+        let outcome = disc.send(&line.block, &data_bytes(&line.data, &line.block));
         let differences = line.expected.as_ref().map(|e| e.differences(&outcome, &disc));
         wrong += usize::from(differences.as_ref().is_some_and(|found| !found.is_empty()));
         table::row(out, index + 1, &line.block, &outcome, &disc, differences.as_deref())?;

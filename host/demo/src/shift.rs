@@ -2,9 +2,10 @@
 //! sense, blocks recorded, reply, next writable address, pending sectors and the list.
 
 use crate::play::stamped;
-use crate::{Data, Expected, Line, Run};
+use crate::{Expected, Line, Run};
 use gladhamre::blocks::{self, Block};
 use gladhamre::{Record, SECTOR_BYTES};
+use script::Data;
 
 const CAPACITY: u32 = 300;
 

@@ -1,33 +1,47 @@
-//! The map as an image: a square for each block, cut into its sixteen sectors where they differ.
+//! The map as an image, in the rows of the text: a square for each cell. A block's square is cut into
+//! its sixteen sectors where they differ, that of several blocks into their runs. A bar under the
+//! squares shows how far a fragment goes.
 
-use crate::disc::Disc;
-use crate::map::{self, Block, Sector};
+use crate::fragments::{end, is_reserved};
+use crate::grid::{fragments, labels, sessions, Grid, COLUMNS, LABELLED};
+use crate::list;
+use crate::map::{self, Block, Map, Sector};
 use std::fmt::Write;
+use std::ops::Range;
 
-/// Blocks to a row.
-const COLUMNS: usize = 30;
-
-/// A block's square, without the gap to the next one.
-const CELL: usize = 24;
+/// A cell's square, and the gap to the next one.
+const CELL: usize = 16;
 const GAP: usize = 2;
 const STEP: usize = CELL + GAP;
+
+/// A row: the labels above the squares, the squares, the bars under them.
+const LABELS: usize = 20;
+const BAR: usize = 3;
+const ROW: usize = LABELS + CELL + BAR + 1;
 
 /// Sectors to a row of a square.
 const ACROSS: usize = 4;
 
-const LEFT: usize = 60;
-const HEADING: usize = 44;
-const FOOTING: usize = 64;
+const LEFT: usize = 70;
 const WIDTH: usize = LEFT + COLUMNS * STEP + 20;
+const TITLE: usize = 34;
+const AXIS: usize = 40;
+const LEGEND: usize = 72;
 
-const LEGEND: [Sector; 7] = [
+/// A line of text, and a letter's width in the labels.
+const LINE: usize = 15;
+const LETTER: usize = 6;
+
+const KINDS: [Sector; 9] = [
     Sector::Recorded,
     Sector::ZeroFilled,
     Sector::Pending,
+    Sector::Reserved,
+    Sector::Blank,
     Sector::Dividing,
     Sector::Closure,
     Sector::Intro,
-    Sector::Blank,
+    Sector::Outside,
 ];
 
 fn name(sector: Sector) -> &'static str {
@@ -35,93 +49,229 @@ fn name(sector: Sector) -> &'static str {
         Sector::Recorded => "recorded",
         Sector::ZeroFilled => "zero-filled",
         Sector::Pending => "pending",
+        Sector::Reserved => "reserved",
+        Sector::Blank => "blank",
         Sector::Dividing => "dividing",
         Sector::Closure => "Closure",
         Sector::Intro => "Intro",
-        Sector::Blank => "blank",
+        Sector::Outside => "in no fragment",
     }
 }
 
 fn colour(sector: Sector) -> &'static str {
     match sector {
         Sector::Recorded => "#1f5fa8",
-        Sector::ZeroFilled => "#9cc9f0",
-        Sector::Pending => "#f2b134",
-        Sector::Dividing => "#333333",
-        Sector::Closure => "#a65a8e",
-        Sector::Intro => "#7fb069",
-        Sector::Blank => "#e6e6e6",
+        Sector::ZeroFilled => "#8cc6f5",
+        Sector::Pending => "#f2a51f",
+        Sector::Reserved => "#b5dcb0",
+        Sector::Blank => "#e4e4e4",
+        Sector::Dividing => "#222222",
+        Sector::Closure => "#9c4a86",
+        Sector::Intro => "#d3aecb",
+        Sector::Outside => "#fbf3dc",
     }
 }
 
-/// The image of the discs, one under another, each with its title.
-pub fn image(discs: &[(&str, Disc)]) -> String {
-    let maps: Vec<Vec<Block>> = discs.iter().map(|(_, disc)| map::blocks(disc)).collect();
-    let height: usize = maps.iter().map(|blocks| panel_height(blocks.len())).sum();
+/// The image of the discs, one under another.
+pub fn image(maps: &[Map]) -> String {
+    let height: usize = maps.iter().map(panel_height).sum();
     let mut svg = format!(
         "<svg xmlns=\"http://www.w3.org/2000/svg\" width=\"{WIDTH}\" height=\"{height}\" \
          viewBox=\"0 0 {WIDTH} {height}\" font-family=\"sans-serif\" font-size=\"12\">\n\
          <rect width=\"100%\" height=\"100%\" fill=\"#ffffff\"/>\n"
     );
     let mut top = 0;
-    for ((title, _), blocks) in discs.iter().zip(&maps) {
-        panel(&mut svg, top, title, blocks);
-        top += panel_height(blocks.len());
+    for map in maps {
+        panel(&mut svg, top, map);
+        top += panel_height(map);
     }
     svg + "</svg>\n"
 }
 
-fn panel_height(blocks: usize) -> usize {
-    HEADING + blocks.div_ceil(COLUMNS) * STEP + FOOTING
+/// The lists under the squares.
+fn lists(map: &Map) -> Vec<String> {
+    let mut lines = list::fragments(map);
+    lines.extend(list::zero_filled(map));
+    lines
 }
 
-fn panel(svg: &mut String, top: usize, title: &str, blocks: &[Block]) {
-    text(svg, LEFT, top + 28, "font-size=\"16\"", title);
-    for (row, line) in blocks.chunks(COLUMNS).enumerate() {
-        let y = top + HEADING + row * STEP;
-        text(svg, LEFT - 10, y + 16, "text-anchor=\"end\"", &(row * COLUMNS).to_string());
-        for (column, block) in line.iter().enumerate() {
-            cell(svg, LEFT + column * STEP, y, row * COLUMNS + column, block);
-        }
+fn grid_height(map: &Map) -> usize {
+    Grid::of(map.blocks.len()).rows() * ROW
+}
+
+fn heading_height(map: &Map) -> usize {
+    TITLE + list::summary(map).len() * LINE + AXIS
+}
+
+fn panel_height(map: &Map) -> usize {
+    heading_height(map) + grid_height(map) + LEGEND + lists(map).len() * LINE + 24
+}
+
+fn panel(svg: &mut String, top: usize, map: &Map) {
+    let grid = Grid::of(map.blocks.len());
+    let title = format!("{}, afterwards: a square for each {}", map.title, grid.cell_name());
+    text(svg, 20, top + 26, "font-size=\"16\"", &title);
+    for (place, line) in list::summary(map).iter().enumerate() {
+        text(svg, 20, top + TITLE + 12 + place * LINE, "", line);
     }
-    let y = top + panel_height(blocks.len()) - FOOTING + 14;
-    for (place, sector) in LEGEND.into_iter().enumerate() {
-        let x = LEFT + place * 108;
-        square(svg, x, y, 14, sector);
-        text(svg, x + 20, y + 12, "", name(sector));
+    let mut y = top + heading_height(map);
+    axis(svg, y, &grid);
+    for row in 0..grid.rows() {
+        row_of_cells(svg, y, map, &grid, row);
+        y += ROW;
+    }
+    legend(svg, y + 10, map);
+    y += LEGEND;
+    for line in lists(map) {
+        y += LINE;
+        text(
+            svg,
+            20,
+            y,
+            "font-family=\"monospace\" font-size=\"10\" xml:space=\"preserve\"",
+            &line,
+        );
     }
 }
 
-/// A block, with its number and what it is for those who point at it.
-fn cell(svg: &mut String, x: usize, y: usize, number: usize, block: &Block) {
-    let mut parts: Vec<String> = Vec::new();
-    for sector in LEGEND {
-        match block.iter().filter(|&&found| found == sector).count() {
-            0 => {}
-            16 => parts.push(name(sector).into()),
-            count => parts.push(format!("{count} sectors {}", name(sector))),
-        }
+/// What stands in front of the rows and above the columns.
+fn axis(svg: &mut String, y: usize, grid: &Grid) {
+    text(svg, LEFT - 10, y - 4, "text-anchor=\"end\"", "block");
+    let caption =
+        "blocks of the row; S: a session begins, F: a fragment begins, as far as its bar \
+                   goes (green: reserved)";
+    text(svg, LEFT, y - 20, "", caption);
+    for column in (0..COLUMNS).step_by(LABELLED) {
+        let label = format!("+{}", column * grid.cell_blocks);
+        text(svg, LEFT + column * STEP, y - 4, "", &label);
     }
-    add(svg, format_args!("<g><title>block {number}: {}</title>", parts.join(", ")));
-    if parts.len() == 1 {
-        square(svg, x, y, CELL, block[0]);
-    } else {
-        let size = CELL / ACROSS;
-        for (place, sector) in block.iter().enumerate() {
-            square(svg, x + place % ACROSS * size, y + place / ACROSS * size, size, *sector);
-        }
-    }
-    add(svg, format_args!("</g>\n"));
 }
 
-fn square(svg: &mut String, x: usize, y: usize, size: usize, sector: Sector) {
-    let fill = colour(sector);
+/// Where a block begins in its row.
+fn place(grid: &Grid, row: &Range<usize>, block: usize) -> usize {
+    LEFT + (block - row.start) * STEP / grid.cell_blocks
+}
+
+fn row_of_cells(svg: &mut String, y: usize, map: &Map, grid: &Grid, row: usize) {
+    let blocks = grid.row(row);
+    let at = |block| place(grid, &blocks, block);
+    for (x, label) in labels('F', &fragments(map), &blocks, at, LETTER) {
+        text(svg, x, y + LABELS - 2, "font-size=\"10\"", &label);
+    }
+    for (x, label) in labels('S', &sessions(map), &blocks, at, LETTER) {
+        text(svg, x, y + LABELS - 12, "font-size=\"10\" font-weight=\"bold\"", &label);
+    }
+    let squares = y + LABELS;
+    text(svg, LEFT - 10, squares + 12, "text-anchor=\"end\"", &blocks.start.to_string());
+    for (column, cell) in grid.cells(row).enumerate() {
+        let x = LEFT + column * STEP;
+        let titled = title(map, &cell);
+        add(svg, format_args!("<g><title>{titled}</title>"));
+        match &map.blocks[cell] {
+            [block] => block_square(svg, x, squares, block),
+            several => runs_square(svg, x, squares, several, grid.cell_blocks),
+        }
+        add(svg, format_args!("</g>\n"));
+    }
+    bars(svg, squares + CELL + 2, map, grid, &blocks);
+}
+
+/// A cell's blocks and what they are, for those who point at it.
+fn title(map: &Map, cell: &Range<usize>) -> String {
+    let found = &map.blocks[cell.clone()];
+    let parts: Vec<String> = KINDS
+        .into_iter()
+        .map(|kind| (kind, found.iter().flatten().filter(|&&sector| sector == kind).count()))
+        .filter(|&(_, count)| count > 0)
+        .map(|(kind, count)| format!("{count} sectors {}", name(kind)))
+        .collect();
+    let blocks = match cell.len() {
+        1 => format!("block {}", cell.start),
+        _ => format!("blocks {}-{}", cell.start, cell.end - 1),
+    };
+    format!("{blocks}: {}", parts.join(", "))
+}
+
+/// A block, cut into its sectors where they differ.
+fn block_square(svg: &mut String, x: usize, y: usize, block: &Block) {
+    if block.iter().all(|sector| *sector == block[0]) {
+        return rectangle(svg, x as f64, y, CELL as f64, CELL, colour(block[0]));
+    }
+    let size = CELL / ACROSS;
+    for (place, sector) in block.iter().enumerate() {
+        let across = (x + place % ACROSS * size) as f64;
+        rectangle(svg, across, y + place / ACROSS * size, size as f64, size, colour(*sector));
+    }
+}
+
+/// Several blocks, as the runs of equal ones from left to right.
+fn runs_square(svg: &mut String, x: usize, y: usize, blocks: &[Block], cell_blocks: usize) {
+    let width = CELL as f64 / cell_blocks as f64;
+    let mut at = x as f64;
+    for run in blocks.chunk_by(|one, next| map::character(one) == map::character(next)) {
+        let run_width = width * run.len() as f64;
+        let last = run[0][run[0].len() - 1];
+        rectangle(svg, at, y, run_width, CELL, colour(run[0][0]));
+        if last != run[0][0] {
+            // blocks in part zero-filled or pending: the lower half is the rest
+            rectangle(svg, at, y + CELL / 2, run_width, CELL / 2, colour(last));
+        }
+        at += run_width;
+    }
+}
+
+/// The bars of the fragments in a row, with a foot where one begins or ends.
+fn bars(svg: &mut String, y: usize, map: &Map, grid: &Grid, row: &Range<usize>) {
+    for record in map.state.records() {
+        let from = row.start.max(record.start as usize);
+        let to = row.end.min(end(&record) as usize);
+        if from >= to {
+            continue;
+        }
+        let fill = if is_reserved(&record) { "#2e7d32" } else { "#666666" };
+        let unit = STEP as f64 / grid.cell_blocks as f64;
+        let left = LEFT as f64 + (from - row.start) as f64 * unit;
+        let right = LEFT as f64 + (to - row.start) as f64 * unit - GAP as f64;
+        let width = (right - left).max(1.0);
+        rectangle(svg, left, y, width, BAR - 1, fill);
+        if from == record.start as usize {
+            rectangle(svg, left, y - 2, 2.0_f64.min(width), BAR + 2, fill);
+        }
+        if to == end(&record) as usize {
+            rectangle(svg, left + (width - 2.0).max(0.0), y - 2, 2.0_f64.min(width), BAR + 2, fill);
+        }
+        add(svg, format_args!("\n"));
+    }
+}
+
+/// The kinds with their colours and the numbers of sectors.
+fn legend(svg: &mut String, y: usize, map: &Map) {
+    let present: Vec<(Sector, usize)> = KINDS
+        .into_iter()
+        .map(|kind| (kind, map.sectors(kind)))
+        .filter(|&(_, count)| count > 0)
+        .collect();
+    for (place, (kind, count)) in present.into_iter().enumerate() {
+        let (x, y) = (LEFT + place % 4 * 225, y + place / 4 * 20);
+        rectangle(svg, x as f64, y, 14.0, 14, colour(kind));
+        text(svg, x + 20, y + 12, "", &format!("{} ({count} sectors)", name(kind)));
+    }
+}
+
+fn rectangle(svg: &mut String, x: f64, y: usize, width: f64, height: usize, fill: &str) {
     add(
         svg,
         format_args!(
-            "<rect x=\"{x}\" y=\"{y}\" width=\"{size}\" height=\"{size}\" fill=\"{fill}\"/>"
+            "<rect x=\"{}\" y=\"{y}\" width=\"{}\" height=\"{height}\" fill=\"{fill}\"/>",
+            rounded(x),
+            rounded(width)
         ),
     );
+}
+
+/// Two digits behind the point are enough for an image.
+fn rounded(length: f64) -> f64 {
+    (length * 100.0).round() / 100.0
 }
 
 fn text(svg: &mut String, x: usize, y: usize, attributes: &str, content: &str) {

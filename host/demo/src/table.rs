@@ -2,6 +2,7 @@
 //! fragments that it leaves.
 
 use crate::disc::{Disc, Outcome};
+use crate::fragments::{next_writable, pending_in, tail_next};
 use crate::words;
 use gladhamre::blocks::{Block, READ};
 use gladhamre::Refusal;
@@ -30,7 +31,7 @@ pub fn row(
     let cells = [
         &*words::answer(&outcome.answer),
         &words::sense(disc.state.sense()),
-        &words::next(disc.tail_next()),
+        &words::next(tail_next(&disc.state)),
         &recorded.to_string(),
     ];
     let mark = match differences {
@@ -39,7 +40,7 @@ pub fn row(
         Some(_) => "  WRONG",
     };
     line(out, &number.to_string(), &words::command(block), cells, mark)?;
-    for (left, right) in pairs(&lower_left(block, outcome), &lower_right(disc)) {
+    for (left, right) in pairs(&lower_left(block, outcome), &fragment_list(disc)) {
         writeln!(out, "{}", format!("     {left:<LEFT$} {right}").trim_end())?;
     }
     for difference in differences.unwrap_or_default() {
@@ -76,10 +77,11 @@ fn lower_left(block: &Block, outcome: &Outcome) -> Vec<String> {
     lines
 }
 
-/// The list of fragments.
-fn lower_right(disc: &Disc) -> Vec<String> {
+/// The list of fragments, a line for each, and whether the disc is finalized.
+pub fn fragment_list(disc: &Disc) -> Vec<String> {
     let fragment = |(index, record)| {
-        let (pending, next) = (disc.pending_in(index), disc.next_writable(index));
+        let pending = pending_in(&disc.state, index);
+        let next = next_writable(&disc.state, index);
         words::fragment(index + 1, &record, pending, next)
     };
     let mut lines: Vec<String> = disc.state.records().enumerate().map(fragment).collect();

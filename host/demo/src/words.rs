@@ -1,6 +1,6 @@
 //! Commands, answers, senses, replies and fragments in words.
 
-use crate::disc::is_tail;
+use crate::fragments;
 use gladhamre::blocks::{self, Block};
 use gladhamre::{Record, Refusal};
 
@@ -94,11 +94,7 @@ pub fn link_refusal(number: u8) -> &'static str {
 
 /// A fragment's record; its next writable address if it is incomplete.
 pub fn fragment(number: usize, record: &Record, pending: u32, next: Option<u32>) -> String {
-    let kind = match record.kind {
-        0 => "reserved",
-        _ if is_tail(record) => "tail",
-        _ => "appended",
-    };
+    let kind = fragments::kind(record);
     let Record { session, start, length, recorded, zero_filled, .. } = *record;
     let blocks = match length {
         1 => format!("block {start}"),
@@ -112,7 +108,7 @@ pub fn fragment(number: usize, record: &Record, pending: u32, next: Option<u32>)
     if pending > 0 {
         text += &format!(", {pending} pending");
     }
-    if let Some(next) = next.filter(|_| record.kind == 0) {
+    if let Some(next) = next.filter(|_| fragments::is_reserved(record)) {
         text += &format!(", next {next}");
     }
     text

@@ -1,9 +1,8 @@
-//! The demo: document 01's answers and the notice of others, the table, the map, the image, and
-//! scripts with their errors.
+//! The demo: document 01's answers and the notice of others, the table, the map and the image.
 
 use demo::map::{self, Sector};
-use demo::{image, play, script, shift, Data, Disc, Run};
-use gladhamre::blocks;
+use demo::{image, play, shift, text, Disc, Map, Run};
+use gladhamre::{blocks, Record, State};
 use std::path::Path;
 use std::process::{Command, Output};
 
@@ -16,15 +15,27 @@ fn played(run: &Run) -> (Disc, usize, String) {
     (disc, wrong, String::from_utf8(out).expect("text"))
 }
 
-fn parsed(text: &str) -> Result<Vec<Run>, String> {
-    script::parse(text, Path::new(SCRIPTS)).map_err(|error| error.to_string())
+/// The disc that a script of one part leaves.
+fn left_by(text: &str) -> Disc {
+    let mut parts = script::parse(text, Path::new(SCRIPTS)).expect("a good script");
+    assert_eq!(parts.len(), 1);
+    played(&Run::of_part(parts.remove(0))).0
 }
 
-/// The disc that a script of one run leaves.
-fn left_by(text: &str) -> Disc {
-    let runs = parsed(text).expect("a good script");
-    assert_eq!(runs.len(), 1);
-    played(&runs[0]).0
+/// The map of that disc.
+fn mapped(text: &str) -> Map {
+    Map::of("a disc", &left_by(text))
+}
+
+/// What is printed of a map.
+fn printed(map: &Map) -> String {
+    let mut out = Vec::new();
+    text::print(&mut out, map).expect("memory takes everything");
+    String::from_utf8(out).expect("text")
+}
+
+fn assert_line(text: &str, line: &str) {
+    assert!(text.lines().any(|printed| printed == line), "{line}\nis not in\n{text}");
 }
 
 #[test]
@@ -68,28 +79,123 @@ fn table_of_the_shift() {
         "                                            3 tail, session 2, blocks 134-299, 0 of 166 recorded",
         "     00 20 00 01 01 01 01 and 27 zeros",
     ] {
-        assert!(text.lines().any(|printed| printed == line), "{line}\nis not in\n{text}");
+        assert_line(&text, line);
     }
 }
 
 #[test]
 fn map_of_the_shift() {
     let (disc, ..) = played(&shift::runs()[0]);
-    let blocks = map::blocks(&disc);
-    let text: String = blocks.iter().map(map::character).collect();
+    let map = Map::of("The shift", &disc);
+    let signs: String = map.blocks.iter().map(map::character).collect();
     let closure_and_intro = "C".repeat(64) + &"I".repeat(64);
-    assert_eq!(text, format!("#+|###{closure_and_intro}{}", ".".repeat(166)));
-    assert_eq!(blocks[1][..4], [Sector::Recorded; 4]);
-    assert_eq!(blocks[1][4..], [Sector::ZeroFilled; 12]);
-    assert_eq!(map::lines(&blocks)[0], format!("      0  #+|###{}", "C".repeat(44)));
+    assert_eq!(signs, format!("#+|###{closure_and_intro}{}", ".".repeat(166)));
+    assert_eq!(map.blocks[1][..4], [Sector::Recorded; 4]);
+    assert_eq!(map.blocks[1][4..], [Sector::ZeroFilled; 12]);
+    let text = printed(&map);
+    for line in [
+        "300 blocks, sectors 0 to 4799; open, session 2 is the last one; 3 fragments of at most 64",
+        "5 blocks recorded, 12 sectors of them zero-filled; 0 sectors pending; next writable addresses: 2144",
+        "         +0        +10       +20       +30       +40",
+        "         S1",
+        "         F1 F2",
+        &format!("      0  #+|###{}", "C".repeat(44)),
+        "                                           F3",
+        " 1        1  appended, complete    0-1 (2)               0-1 (2)                        12        0        -  -",
+        " 2        1  reserved, complete    3-5 (3)               3-5 (3)                         0        0        -  dividing 2",
+        " 3        2  tail, blank           134-299 (166)         -                               0        0     2144  Closure 6-69, Intro 70-133",
+        "  20-31",
+    ] {
+        assert_line(&text, line);
+    }
 }
 
+/// A block that is reserved is none that is blank, and a finalized disc is called so.
 #[test]
-fn long_maps_are_shortened() {
-    let blank = Disc::blank(4_000).expect("a capacity");
-    let lines = map::lines(&map::blocks(&blank));
-    assert_eq!(lines.len(), 2);
-    assert_eq!(lines[1], "      *");
+fn kinds_are_told_apart() {
+    let reserved = printed(&mapped("53 00 000000 00000020\n2A 00 00000000 00 0001"));
+    assert_line(&reserved, &format!("      0  pr|{}", ".".repeat(47)));
+    assert_line(&reserved, "0 blocks recorded, 0 sectors of them zero-filled; 1 sector pending; next writable addresses: 1, 48");
+    let finalized = printed(&mapped("2A 00 00000000 00 0020\n5B 00 06"));
+    assert_line(&finalized, &format!("      0  ##{}", "-".repeat(48)));
+    assert_line(
+        &finalized,
+        "300 blocks, sectors 0 to 4799; finalized, with 1 session; 1 fragment of at most 64",
+    );
+    assert_line(&finalized, "in no fragment: blocks 2-299 (298)");
+}
+
+/// A state of the largest disc with all its records: a reserved fragment of 1,000 blocks after
+/// another, and the tail.
+fn largest() -> Map {
+    let mut state = State::blank(143_444).expect("a capacity");
+    for index in 0..63 {
+        let start = 1_001 * index;
+        let recorded = 500;
+        let reserved =
+            Record { session: 1, start, length: 1_000, recorded, zero_filled: 16, kind: 0 };
+        state.set_record(index as usize, reserved);
+    }
+    let start = 1_001 * 63;
+    let length = 143_444 - start;
+    state
+        .set_record(63, Record { session: 1, start, length, recorded: 0, zero_filled: 0, kind: 1 });
+    let mut zero_filled = vec![false; 16 * 143_444];
+    for index in 0..63 {
+        zero_filled[16 * (1_001 * index + 499)..][..16].fill(true);
+    }
+    Map::of_state("The largest disc", &state, &zero_filled)
+}
+
+/// The largest disc with the longest list is still a page.
+#[test]
+fn large_maps_are_a_page() {
+    let map = largest();
+    let text = printed(&map);
+    assert!(text.lines().count() < 150, "{text}");
+    assert!(text.lines().all(|line| line.chars().count() <= 160), "{text}");
+    assert_line(&text, &format!("  65000  {}", ".".repeat(50)));
+    assert_line(&text, "63 runs of zero-filled sectors:");
+    assert_line(&text, "  and 15 runs more");
+    assert_line(&text, "64        1  tail, blank           63063-143443 (80381)  -                               0        0  1009008  dividing 63062");
+    let svg = image(&[map]);
+    assert!(svg.len() < 1 << 20, "{} bytes", svg.len());
+    assert!(height(&svg) < 2_600, "{}", height(&svg));
+}
+
+fn height(svg: &str) -> usize {
+    let from = svg.find("height=\"").expect("it has one") + 8;
+    svg[from..].split('"').next().expect("a number").parse().expect("a number")
+}
+
+/// The text and the image have the same rows and the same lists.
+#[test]
+fn text_and_image_agree() {
+    let maps = [largest(), mapped("disc 256\n2A 00 00000000 00 0013\n35\n5B 00 02")];
+    for map in maps {
+        let text = printed(&map);
+        let rows = |line: &&str| {
+            line.starts_with(' ')
+                && line.len() > 9
+                && line.as_bytes()[6].is_ascii_digit()
+                && line.as_bytes()[7] == b' '
+        };
+        let shown: Vec<String> =
+            text.lines().filter(rows).map(|line| line[..7].trim().to_owned()).collect();
+        let svg = image(&[map]);
+        assert_eq!(
+            svg_labels(&svg, " text-anchor=\"end\""),
+            [vec!["block".to_owned()], shown].concat()
+        );
+        let listed = text.lines().skip_while(|line| !line.starts_with("Fragments: "));
+        assert_eq!(svg_labels(&svg, "xml:space=\"preserve\""), listed.collect::<Vec<_>>());
+    }
+}
+
+/// The texts of an image with an attribute.
+fn svg_labels(svg: &str, attribute: &str) -> Vec<String> {
+    let texts = svg.lines().filter(|line| line.starts_with("<text") && line.contains(attribute));
+    texts.map(|line| line[line.find('>').expect("a tag") + 1..].replace("</text>", "")).collect()
 }
 
 /// The sectors shown as zero-filled are as many as each fragment's F says, and hold zeros.
@@ -97,7 +203,7 @@ fn long_maps_are_shortened() {
 fn zero_filled_sectors_are_those_counted() {
     let text = std::fs::read_to_string(format!("{SCRIPTS}/cold-store.txt")).expect("it is there");
     let mut disc = left_by(&text);
-    let blocks = map::blocks(&disc);
+    let blocks = Map::of("a disc", &disc).blocks;
     let records: Vec<_> = disc.state.records().collect();
     assert!(records.iter().any(|record| record.zero_filled > 16));
     for record in records {
@@ -116,71 +222,59 @@ fn zero_filled_sectors_are_those_counted() {
 
 #[test]
 fn pending_sectors_are_shown() {
-    let disc = left_by("2A 00 00 00 00 00 00 00 13 00 00 00");
-    let blocks = map::blocks(&disc);
-    assert_eq!(map::lines(&blocks)[0], format!("      0  #p{}", ".".repeat(48)));
-    assert_eq!(blocks[1][..3], [Sector::Pending; 3]);
-    assert_eq!(blocks[1][3..], [Sector::Blank; 13]);
+    let map = mapped("2A 00 00 00 00 00 00 00 13 00 00 00");
+    assert_line(&printed(&map), &format!("      0  #p{}", ".".repeat(48)));
+    assert_eq!(map.blocks[1][..3], [Sector::Pending; 3]);
+    assert_eq!(map.blocks[1][3..], [Sector::Blank; 13]);
 }
 
 #[test]
 fn image_has_every_block() {
     let (disc, ..) = played(&shift::runs()[0]);
-    let svg = image(&[("a < b", disc)]);
+    let svg = image(&[Map::of("a < b", &disc)]);
     assert!(svg.starts_with("<svg ") && svg.ends_with("</svg>\n"));
     assert_eq!(svg.matches("<g><title>block ").count(), 300);
     assert!(svg.contains("block 1: 4 sectors recorded, 12 sectors zero-filled"));
     assert!(svg.contains("a &lt; b"));
 }
 
+/// The lines of the demo that the README shows are printed so.
 #[test]
-fn scripts_are_read() {
-    let text = "\
-        # a comment\n\
-        \n\
-        2a0000000000000001000000 data fill FF # and another\n\
-        disc 256\n\
-        2A 00 00 00 00 00 00 00 01 00 00 00\n\
-        00 00 00 00 00 00 00 00 00 00 00 00 data length 7\n";
-    let runs = parsed(text).expect("a good script");
-    assert_eq!(runs.iter().map(|run| run.capacity).collect::<Vec<_>>(), [300, 256]);
-    assert_eq!(runs[0].lines[0].block, blocks::write(0, 1));
-    assert_eq!(runs[0].lines[0].data, Data::Fill(0xFF));
-    assert_eq!(runs[1].lines[0].data, Data::Stamp);
-    assert_eq!(runs[1].lines[1].data, Data::Bytes(vec![0; 7]));
-    assert!(played(&runs[1]).2.contains("L4"));
+fn readme_shows_what_is_printed() {
+    let readme = std::fs::read_to_string(concat!(env!("CARGO_MANIFEST_DIR"), "/../../README.md"));
+    let readme = readme.expect("it is there");
+    let chapter = readme.split("\n## ").find(|chapter| chapter.starts_with("See it\n"));
+    let (disc, _, table) = played(&shift::runs()[0]);
+    let text = table + &printed(&Map::of("The shift", &disc));
+    let shown = chapter.expect("it is there").lines().filter_map(|line| line.strip_prefix("    "));
+    let lines: Vec<&str> = shown.filter(|line| *line != "./demo").collect();
+    assert_eq!(lines.len(), 7);
+    lines.into_iter().for_each(|line| assert_line(&text, line));
 }
 
+/// The script at the root looks at its arguments before it proves or builds anything.
 #[test]
-fn bad_scripts_are_refused_by_line() {
-    let zeros = "00 ".repeat(11);
-    for (text, message) in [
-        ("", "line 1: the script has no command"),
-        ("disc 300\n\n", "line 2: the script has no command"),
-        ("disc", "line 1: write `disc` and the number of blocks"),
-        ("disc many", "line 1: \"many\" is not a number of blocks"),
-        ("disc 255", "line 1: a disc has 256 to 143444 blocks, this one 255"),
-        (&zeros, "line 1: a command block has 12 bytes, this one 11"),
-        ("\n\n2A0", "line 3: \"2A0\" has an odd number of hexadecimal digits"),
-        ("data fill 00", "line 1: a command block has 12 bytes, this one 0"),
+fn arguments_are_looked_at_first() {
+    let asked = |arguments: &[&str]| {
+        let script = concat!(env!("CARGO_MANIFEST_DIR"), "/../../demo");
+        let output = Command::new(script).args(arguments).output().expect("it runs");
+        let text = |bytes: &[u8]| String::from_utf8_lossy(bytes).into_owned();
+        (output.status.code(), text(&output.stdout), text(&output.stderr))
+    };
+    let (status, says, errors) = asked(&["--help"]);
+    assert!(status == Some(0) && says.starts_with("usage: ./demo ") && errors.is_empty());
+    for (arguments, message) in [
+        (&["--what"][..], "--what is no option (./demo --help)"),
+        (&["--image"], "--image needs a file's name (./demo --help)"),
+        (&["one.txt", "two.txt"], "two.txt is one script too many (./demo --help)"),
+        (&[""], "a script's name is empty (./demo --help)"),
+        (&["missing.txt"], "missing.txt: there is no such script"),
+        (&["--image", "missing/a.svg"], "the image cannot be written: there is no folder missing"),
+        (&["--image", "src"], "the image's name src is no file's"),
     ] {
-        assert_eq!(parsed(text).err().as_deref(), Some(message), "{text:?}");
+        let refused = (Some(2), String::new(), format!("demo: {message}\n"));
+        assert_eq!(asked(arguments), refused, "{arguments:?}");
     }
-    for (rest, message) in [
-        ("write", "line 1: \"write\" is neither bytes in hexadecimal nor one of the words `disc` and `data`"),
-        ("00 data", "line 1: data is `stamp`, `fill BYTE`, `file NAME` or `length COUNT`"),
-        ("00 data fill", "line 1: data is `stamp`, `fill BYTE`, `file NAME` or `length COUNT`"),
-        ("00 data fill 0000", "line 1: `fill` takes one byte in hexadecimal, not \"0000\""),
-        ("00 data length x", "line 1: \"x\" is not a number of bytes"),
-        ("00 data length 134215681", "line 1: no command takes 134215681 bytes of data"),
-    ] {
-        assert_eq!(parsed(&(zeros.clone() + rest)).err().as_deref(), Some(message), "{rest:?}");
-    }
-    let write = "2A 00 00 00 00 00 00 00 05 00 00 00 data file ";
-    let other_length = parsed(&format!("{write}readings.csv")).err().expect("3 sectors, not 5");
-    assert!(other_length.ends_with("readings.csv has 3 sectors, the command takes 5"));
-    let missing = parsed(&format!("{write}missing.csv")).err().expect("no such file");
-    assert!(missing.starts_with("line 1: ") && missing.contains("missing.csv"));
 }
 
 fn demo(arguments: &[&str]) -> Output {
@@ -198,12 +292,12 @@ fn program_ends_as_it_should() {
     assert!(folder.join("shift.svg").is_file());
     let example = format!("{SCRIPTS}/cold-store.txt");
     assert!(demo(&[&example, "--image", &path("script.svg")]).status.success());
-    std::fs::write(folder.join("bad.txt"), "disc 300\n2A 00\n").expect("a script");
+    std::fs::write(folder.join("bad.txt"), "disc 300\n0x2A\n").expect("a script");
     let bad = demo(&[&path("bad.txt")]);
     assert_eq!(bad.status.code(), Some(2));
     let says = String::from_utf8_lossy(&bad.stderr).into_owned();
     assert!(
-        says.ends_with("bad.txt: line 2: a command block has 12 bytes, this one 2\n"),
+        says.ends_with("bad.txt: line 2: \"0x2A\" is neither bytes in hexadecimal nor one of the words `disc` and `data`\n"),
         "{says}"
     );
     assert_eq!(demo(&["--what"]).status.code(), Some(2));

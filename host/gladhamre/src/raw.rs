@@ -1,4 +1,4 @@
-//! The archive's two functions over slices. All `unsafe` code of the host is here.
+//! The archive's two functions over slices. All `unsafe` code of the wrapper is here.
 
 /// What the caller lends for one command.
 pub struct Lent<'a> {

@@ -1,6 +1,6 @@
 -- An input in parts: what is left of the bytes held, and one turn of the program.
 use mathlib.Core.Path.{_≡_, sym, ap, _∙_}
-use mathlib.Core.Bool.{true, false, true≢false}
+use mathlib.Core.Bool.{Bool, true, false, true≢false}
 use Prim.Native.Nat.{ℕ, _-_, _≤_, _<_}
 use native.Mathlib.Omega.{arith}
 use mathlib.Core.List.{List, [], _∷_}
@@ -63,8 +63,8 @@ module _ (p : Progress) (b : List ℕ) (s : Stop) (fits : p .filled ≤ length b
   has-room n r k l c = omega (arith, stop-few (p .replay) (take (p .filled) b) s stopped k, held-length, c .count, c .same)
 
   -- the replay is over
-  pub went-over : (after : List ℕ) (r : Progress) → length after ≡ length b → r ≡ over (s .replay) → WentOn p b after r
-  went-over after r l e =
+  pub went-over : (w : Bool) (after : List ℕ) (r : Progress) → length after ≡ length b → r ≡ over (s .replay) w → WentOn p b after r
+  went-over w after r l e =
       record {
         replay = rw e (stopped .replay);
         front = λ h. absurd (true≢false (sym (ap (λ (x : Progress). x .ended) e) ∙ h));
@@ -75,7 +75,7 @@ module _ (p : Progress) (b : List ℕ) (s : Stop) (fits : p .filled ≤ length b
 
   pub went-on :
       (n after : List ℕ) (k : ℕ) (i : Input) → Carried (s .at) (p .filled) b n k → Brought k n after i
-      → WentOn p b after (record { replay = s .replay; filled = i .filled; ended = false })
+      → WentOn p b after (record { replay = s .replay; filled = i .filled; ended = false; whole = false })
   went-on n after k i c m =
       let q : k ≡ p .filled - wholeEnd (take (p .filled) b) = rw (stopped .at) at (c .count) in
       record {

@@ -29,7 +29,7 @@ returns : tie.Need-returns
 returns c =
     let a = c .before .before .before .before .before .before .before in
     went-over (a .args .progress) (a .args .buffer .now) (c .before .before .before .play-held .result) (a .pre .1) (c .before .before .before .play-held .ensures)
-    (a .args .buffer .now) _ refl (c .finish .ensures)
+    _ (a .args .buffer .now) _ refl (c .finish .ensures)
 
 carry-requires : tie.Need-carry-requires
 carry-requires c κs =
@@ -57,7 +57,7 @@ returns-2 c =
     let p = y .before .before .before in
     let a = p .before .before .before .before in
     went-over (a .args .progress) (a .args .buffer .now) (p .play-held .result) (a .pre .1) (p .play-held .ensures)
-    (m .read-more .last .1 .0) _ (m .read-more .ensures .same ∙ y .carry .ensures .same) (c .finish2 .ensures)
+    _ (m .read-more .last .1 .0) _ (m .read-more .ensures .same ∙ y .carry .ensures .same) (c .finish2 .ensures)
 
 slice-aggregate-write-all : tie.Need-slice-aggregate-write-all
 slice-aggregate-write-all c = search needs
@@ -78,7 +78,7 @@ returns-3 c =
     let p = y .before .before .before in
     let a = p .before .before .before .before in
     went-over (a .args .progress) (a .args .buffer .now) (p .play-held .result) (a .pre .1) (p .play-held .ensures)
-    (m .read-more .last .1 .0) _ (m .read-more .ensures .same ∙ y .carry .ensures .same) (c .over .ensures)
+    _ (m .read-more .last .1 .0) _ (m .read-more .ensures .same ∙ y .carry .ensures .same) (c .over .ensures)
 
 same-length-4 : tie.Need-same-length-4
 same-length-4 c = search needs

@@ -1,8 +1,15 @@
 //! Command blocks from their fields, all other bytes 0, and the lengths that they ask for.
 
-use crate::SECTOR_BYTES;
+#![forbid(unsafe_code)]
 
-pub type Block = [u8; 12];
+/// The bytes of a sector.
+pub const SECTOR_BYTES: usize = 2_048;
+
+/// A command block.
+pub type Block = [u8; BLOCK_LENGTH];
+
+/// The bytes of a command block.
+pub const BLOCK_LENGTH: usize = 12;
 
 pub const TEST_UNIT_READY: u8 = 0x00;
 pub const REQUEST_SENSE: u8 = 0x03;

@@ -1,0 +1,305 @@
+//! docs/COMMANDS.md is what the linked drive does: every example is played, every row of its table
+//! of link refusals is tried, and every definition that it names is there.
+
+use demo::{data_bytes, fragment_list, reply_bytes, Disc, Outcome};
+use gladhamre::{blocks, raw, Lent, Refusal, State, BLOCK_BYTES, SECTOR_BYTES, STATE_WORDS};
+use std::collections::BTreeSet;
+use std::fs;
+use std::path::{Path, PathBuf};
+
+const ROOT: &str = concat!(env!("CARGO_MANIFEST_DIR"), "/../..");
+
+fn manual() -> String {
+    fs::read_to_string(format!("{ROOT}/docs/COMMANDS.md")).expect("the manual is there")
+}
+
+/// Plays the examples of a text, and gives it with what the drive answers in the lines `#>` and
+/// `#=`.
+struct Player {
+    disc: Disc,
+    text: String,
+    /// Whether a command waits for its `#>`, and whether a list of fragments is written already.
+    answer: Option<String>,
+    listed: bool,
+    answers: BTreeSet<String>,
+}
+
+impl Player {
+    fn new() -> Player {
+        let disc = blank(300);
+        Player { disc, text: String::new(), answer: None, listed: false, answers: BTreeSet::new() }
+    }
+
+    fn line(&mut self, line: &str) {
+        if line.starts_with("#> ") {
+            let answer = self.answer.take().expect("a command stands before its answer");
+            self.push(&format!("#> {answer}"));
+        } else if line.starts_with("#= ") {
+            if !self.listed {
+                let list = fragment_list(&self.disc);
+                list.iter().for_each(|fragment| self.push(&format!("#= {fragment}")));
+            }
+            self.listed = true;
+        } else {
+            assert!(self.answer.is_none(), "no answer stands before {line:?}");
+            self.push(line);
+            self.play(line);
+        }
+    }
+
+    fn push(&mut self, line: &str) {
+        self.text += line;
+        self.text.push('\n');
+    }
+
+    fn play(&mut self, line: &str) {
+        if let Some(capacity) = line.strip_prefix("disc ") {
+            self.disc = blank(capacity.parse().expect("a capacity"));
+            return;
+        }
+        let parts = script::parse(line, Path::new(ROOT)).expect("a line of a script");
+        let command = &parts[0].commands[0];
+        let data = data_bytes(&command.data, &command.block);
+        let outcome = self.disc.send(&command.block, &data);
+        self.answers.insert(name(&outcome.answer));
+        self.answer = Some(told(&command.block, &outcome));
+        self.listed = false;
+    }
+}
+
+fn blank(capacity: u32) -> Disc {
+    Disc::blank(capacity).expect("a capacity")
+}
+
+/// An answer as the manual writes it.
+fn name<T>(answer: &Result<T, Refusal>) -> String {
+    match answer {
+        Ok(_) => "accepted".into(),
+        Err(Refusal::Link(number)) => format!("L{number}"),
+        Err(Refusal::Drive { key, code, qualifier }) => {
+            format!("{key:X}/{code:02X}/{qualifier:02X}")
+        }
+    }
+}
+
+/// The answer, the blocks recorded and the reply.
+fn told(block: &blocks::Block, outcome: &Outcome) -> String {
+    let mut text = name(&outcome.answer);
+    match outcome.answer.map_or(0, |accepted| accepted.recorded) {
+        0 => {}
+        1 => text += "; 1 block recorded",
+        blocks => text += &format!("; {blocks} blocks recorded"),
+    }
+    match outcome.reply.as_slice() {
+        [] => {}
+        reply if block[0] == blocks::READ => text += &format!("; reply {}", sectors(reply)),
+        reply => text += &format!("; reply {}", reply_bytes(reply)),
+    }
+    text
+}
+
+/// Sectors of one byte each, by runs.
+fn sectors(reply: &[u8]) -> String {
+    let bytes: Vec<u8> = reply
+        .chunks(SECTOR_BYTES)
+        .map(|sector| {
+            assert!(sector.iter().all(|byte| *byte == sector[0]), "a sector of one byte");
+            sector[0]
+        })
+        .collect();
+    let run = |run: &[u8]| match run.len() {
+        1 => format!("1 sector of {:02X}", run[0]),
+        count => format!("{count} sectors of {:02X}", run[0]),
+    };
+    bytes.chunk_by(|one, next| one == next).map(run).collect::<Vec<_>>().join(", ")
+}
+
+/// The manual with what the drive answers, and the answers that came.
+fn played(manual: &str) -> (String, BTreeSet<String>) {
+    let mut text = String::new();
+    let mut answers = BTreeSet::new();
+    let mut example: Option<Player> = None;
+    for line in manual.lines() {
+        match (&mut example, line == "```") {
+            (Some(player), true) => {
+                assert!(player.answer.is_none(), "an example ends without its last answer");
+                text += &player.text;
+                answers.append(&mut player.answers);
+                example = None;
+            }
+            (Some(player), false) => {
+                player.line(line);
+                continue;
+            }
+            (None, true) => example = Some(Player::new()),
+            (None, false) => {}
+        }
+        text += line;
+        text.push('\n');
+    }
+    assert!(example.is_none(), "the last example has no end");
+    (text, answers)
+}
+
+#[test]
+fn examples_are_what_the_drive_answers() {
+    let manual = manual();
+    let (right, answers) = played(&manual);
+    if manual != right {
+        let path = PathBuf::from(env!("CARGO_TARGET_TMPDIR")).join("COMMANDS.md");
+        fs::write(&path, &right).expect("it is written");
+        let differs = manual.lines().zip(right.lines()).find(|(is, should)| is != should);
+        panic!("{differs:?}; with all of the drive's answers: {}", path.display());
+    }
+    for sense in refusals(&manual) {
+        assert!(answers.contains(&sense), "no example gets {sense}");
+    }
+}
+
+/// The senses of the manual's table of refusals, each with its number.
+fn refusals(manual: &str) -> Vec<String> {
+    let rows = manual.lines().filter_map(|line| line.strip_prefix("| ")?.split_once(" | 0"));
+    let senses: Vec<String> = rows
+        .filter(|(sense, _)| sense.contains('/'))
+        .map(|(sense, rest)| {
+            let number = format!("0{}", &rest[..5]);
+            assert_eq!(format!("0{}", sense.replace('/', "")), number, "{sense}");
+            sense.to_owned()
+        })
+        .collect();
+    assert_eq!(senses.len(), 10);
+    senses
+}
+
+/// The cells of the table that follows a heading line.
+fn table<'a>(manual: &'a str, heading: &str) -> Vec<Vec<&'a str>> {
+    manual
+        .lines()
+        .skip_while(|line| *line != heading)
+        .skip(2)
+        .take_while(|line| line.starts_with('|'))
+        .map(|line| line.trim_matches('|').split('|').map(str::trim).collect())
+        .collect()
+}
+
+/// What is lent for one command on the blank disc of 256 blocks.
+struct Buffers {
+    block: Vec<u8>,
+    data: Vec<u8>,
+    state: Vec<u32>,
+    medium: Vec<u8>,
+    pending: Vec<u8>,
+    reply: Vec<u8>,
+}
+
+impl Buffers {
+    fn fitting(block: blocks::Block) -> Buffers {
+        Buffers {
+            block: block.to_vec(),
+            data: vec![0; blocks::data_length(&block)],
+            state: State::blank(256).expect("a capacity").words().to_vec(),
+            medium: vec![0; 256 * BLOCK_BYTES],
+            pending: vec![0; BLOCK_BYTES],
+            reply: vec![0; blocks::reply_room(&block)],
+        }
+    }
+
+    fn answer(mut self) -> String {
+        let answer = raw::command(
+            &mut self.state,
+            Lent {
+                block: &self.block,
+                data: &self.data,
+                medium: &mut self.medium,
+                pending: &mut self.pending,
+                reply: &mut self.reply,
+            },
+        );
+        name(&Refusal::from_number(answer.number).map_or(Ok(()), Err))
+    }
+}
+
+/// The buffers that a row of the table speaks of.
+fn lent(row: &str) -> Buffers {
+    let mut lent = Buffers::fitting(match row {
+        row if row.contains("WRITE of 1") => blocks::write(0, 1),
+        row if row.contains("READ of 1") => blocks::read(0, 1),
+        row if row.contains("opcode 12h") => blocks::opcode_only(0x12),
+        _ => blocks::opcode_only(blocks::TEST_UNIT_READY),
+    });
+    match row {
+        "a command block of 10 bytes" => lent.block.truncate(10),
+        "a command block of 10 bytes and no pending buffer" => {
+            lent.block.truncate(10);
+            lent.pending.clear();
+        }
+        "a medium of one block less" => lent.medium.truncate(255 * BLOCK_BYTES),
+        "a pending buffer of 2,048 bytes" => lent.pending.truncate(SECTOR_BYTES),
+        "a state whose C is 255" => lent.state[0] = 255,
+        "a state of 390 words" => lent.state.truncate(STATE_WORDS - 1),
+        "a state whose first record starts at block 1" => lent.state[8] = 1,
+        "a state with the sense 5/21/01" => lent.state[2..5].copy_from_slice(&[0x5, 0x21, 0x01]),
+        "a WRITE of 1 with 2,047 bytes of data" => lent.data.truncate(2_047),
+        "a READ of 1 with a reply buffer of 2,047 bytes" => lent.reply.truncate(2_047),
+        "opcode 12h with one byte of data" => lent.data.push(0),
+        "opcode 12h without data" => {}
+        _ => panic!("{row:?} is not tried"),
+    }
+    lent
+}
+
+#[test]
+fn link_refusals_are_what_the_drive_answers() {
+    let manual = manual();
+    let rows = table(&manual, "| Lent | Answer |");
+    assert_eq!(rows.len(), 12);
+    for row in rows {
+        assert_eq!(lent(row[0]).answer(), row[1], "{}", row[0]);
+    }
+}
+
+/// The names of the definitions in the crates' specs/.
+fn definitions() -> BTreeSet<String> {
+    let mut names = BTreeSet::new();
+    for folder in fs::read_dir(format!("{ROOT}/crates")).expect("the crates are there") {
+        let Ok(files) = fs::read_dir(folder.expect("an entry").path().join("specs")) else {
+            continue;
+        };
+        for file in files {
+            let text = fs::read_to_string(file.expect("an entry").path()).expect("text");
+            for line in text.lines().filter(|line| !line.starts_with(' ')) {
+                let declared = line.split_once("pub ").and_then(|(_, rest)| rest.split_once(" :"));
+                names.extend(declared.map(|(name, _)| name.to_owned()));
+            }
+        }
+    }
+    names
+}
+
+#[test]
+fn definitions_are_there() {
+    let definitions = definitions();
+    let manual = manual();
+    let prose = manual.lines().filter(|line| !line.starts_with("#> ") && !line.contains("```"));
+    let mut named = 0;
+    for line in prose {
+        for name in line.split('`').skip(1).step_by(2) {
+            let is_name = name.chars().all(char::is_alphanumeric);
+            assert!(!is_name || definitions.contains(name), "{name} is no definition: {line}");
+            named += usize::from(is_name);
+        }
+    }
+    assert!(named > 100, "{named} definitions are named");
+}
+
+/// Every command has its chapter, and no other has.
+#[test]
+fn commands_are_all_there() {
+    let manual = manual();
+    let chapters: Vec<u8> = manual
+        .lines()
+        .filter_map(|line| line.strip_prefix("## ")?.split_once("h ")?.0.get(..2))
+        .filter_map(|opcode| u8::from_str_radix(opcode, 16).ok())
+        .collect();
+    assert_eq!(chapters, blocks::OPCODES);
+}

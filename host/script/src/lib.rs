@@ -1,0 +1,195 @@
+//! A script of commands: a line for each, the command block in hexadecimal and where its data comes
+//! from. host/README.md describes the format, which tools/trace reads too.
+//!
+//! Nothing here needs the linked drive, so a script is looked at before that is built.
+
+#![forbid(unsafe_code)]
+
+use blocks::{Block, BLOCK_LENGTH, SECTOR_BYTES};
+use std::fmt;
+use std::fs::File;
+use std::io::Read;
+use std::path::Path;
+
+/// The capacities of a disc, in blocks.
+pub const SMALLEST_CAPACITY: u32 = 256;
+pub const LARGEST_CAPACITY: u32 = 143_444;
+
+/// The capacity of a script that names none.
+const CAPACITY: u32 = 300;
+
+/// No script has more bytes.
+const LONGEST_SCRIPT: usize = 16 << 20;
+
+/// Commands from a blank disc on.
+#[derive(Debug)]
+pub struct Part {
+    pub capacity: u32,
+    pub commands: Vec<Command>,
+}
+
+/// One command.
+#[derive(Debug)]
+pub struct Command {
+    pub block: Block,
+    pub data: Data,
+}
+
+/// The data that goes with a command.
+#[derive(Clone, Debug, PartialEq, Eq)]
+pub enum Data {
+    /// As much as the command asks for; every sector tells its address.
+    Stamp,
+    /// As much as the command asks for, of one byte.
+    Fill(u8),
+    /// So many zeros, whatever the command asks for.
+    Zeros(usize),
+    /// These bytes.
+    Bytes(Vec<u8>),
+}
+
+/// What is wrong with a script, and in which line, from 1.
+#[derive(Debug, PartialEq, Eq)]
+pub struct ScriptError {
+    pub line: usize,
+    pub message: String,
+}
+
+impl fmt::Display for ScriptError {
+    fn fmt(&self, out: &mut fmt::Formatter) -> fmt::Result {
+        write!(out, "line {}: {}", self.line, self.message)
+    }
+}
+
+/// The script in a file. An error begins with the file's name.
+pub fn read(path: &Path) -> Result<Vec<Part>, String> {
+    let bytes = read_at_most(path, LONGEST_SCRIPT)?
+        .ok_or_else(|| format!("{} has more bytes than any script", path.display()))?;
+    let folder = path.parent().unwrap_or(Path::new(""));
+    parse(&String::from_utf8_lossy(&bytes), folder)
+        .map_err(|error| format!("{}: {error}", path.display()))
+}
+
+/// The parts of a script, one for each disc. Files that it names are found from the folder given.
+pub fn parse(text: &str, folder: &Path) -> Result<Vec<Part>, ScriptError> {
+    let mut parts: Vec<Part> = Vec::new();
+    for (index, line) in text.lines().enumerate() {
+        let at = |message: String| ScriptError { line: index + 1, message };
+        let words: Vec<&str> =
+            line.split('#').next().unwrap_or_default().split_whitespace().collect();
+        match words.as_slice() {
+            [] => {}
+            ["disc", rest @ ..] => parts.push(blank_disc(rest).map_err(at)?),
+            words => {
+                let command = command(words, folder).map_err(at)?;
+                if parts.is_empty() {
+                    parts.push(Part { capacity: CAPACITY, commands: Vec::new() });
+                }
+                parts.last_mut().expect("there is one now").commands.push(command);
+            }
+        }
+    }
+    match parts.iter().any(|part| !part.commands.is_empty()) {
+        true => Ok(parts),
+        false => {
+            let line = text.lines().count().max(1);
+            Err(ScriptError { line, message: "the script has no command".into() })
+        }
+    }
+}
+
+/// `disc BLOCKS`: a new blank disc.
+fn blank_disc(words: &[&str]) -> Result<Part, String> {
+    let [word] = words else {
+        return Err("write `disc` and the number of blocks".into());
+    };
+    let capacity = word.parse().map_err(|_| format!("{word:?} is not a number of blocks"))?;
+    if !(SMALLEST_CAPACITY..=LARGEST_CAPACITY).contains(&capacity) {
+        return Err(format!(
+            "a disc has {SMALLEST_CAPACITY} to {LARGEST_CAPACITY} blocks, this one {capacity}"
+        ));
+    }
+    Ok(Part { capacity, commands: Vec::new() })
+}
+
+fn command(words: &[&str], folder: &Path) -> Result<Command, String> {
+    let end = words.iter().position(|&word| word == "data").unwrap_or(words.len());
+    let block = command_block(&words[..end])?;
+    let data = match words.get(end + 1..) {
+        None => Data::Stamp,
+        Some(source) => data(source, &block, folder)?,
+    };
+    Ok(Command { block, data })
+}
+
+/// Bytes in hexadecimal, apart or not; those missing at the end are zero.
+fn command_block(words: &[&str]) -> Result<Block, String> {
+    let mut bytes = Vec::new();
+    for word in words {
+        bytes.extend(hex_bytes(word)?);
+    }
+    let count = bytes.len();
+    if !(1..=BLOCK_LENGTH).contains(&count) {
+        return Err(format!("a command block has 1 to {BLOCK_LENGTH} bytes, this one {count}"));
+    }
+    let mut block = [0; BLOCK_LENGTH];
+    block[..count].copy_from_slice(&bytes);
+    Ok(block)
+}
+
+fn hex_bytes(word: &str) -> Result<Vec<u8>, String> {
+    let digits: Option<Vec<u8>> =
+        word.chars().map(|digit| digit.to_digit(16).map(|value| value as u8)).collect();
+    let digits = digits.ok_or_else(|| {
+        format!("\"{word}\" is neither bytes in hexadecimal nor one of the words `disc` and `data`")
+    })?;
+    if digits.len() % 2 != 0 {
+        return Err(format!("\"{word}\" has an odd number of hexadecimal digits"));
+    }
+    Ok(digits.chunks(2).map(|pair| 16 * pair[0] + pair[1]).collect())
+}
+
+/// Where data comes from.
+fn data(words: &[&str], block: &Block, folder: &Path) -> Result<Data, String> {
+    match words {
+        ["stamp"] => Ok(Data::Stamp),
+        ["fill", byte] => match hex_bytes(byte).as_deref() {
+            Ok([byte]) => Ok(Data::Fill(*byte)),
+            _ => Err(format!("`fill` takes one byte in hexadecimal, not {byte:?}")),
+        },
+        ["length", count] => {
+            let count: usize =
+                count.parse().map_err(|_| format!("{count:?} is not a number of bytes"))?;
+            if count > blocks::LONGEST_DATA {
+                return Err(format!("no command takes {count} bytes of data"));
+            }
+            Ok(Data::Zeros(count))
+        }
+        ["file", name] => file(&folder.join(name), block),
+        _ => Err("data is `stamp`, `fill BYTE`, `file NAME` or `length COUNT`".into()),
+    }
+}
+
+/// A file's bytes, its last sector filled up with zeros. No more is read than the command takes.
+fn file(path: &Path, block: &Block) -> Result<Data, String> {
+    let wanted = blocks::data_length(block) / SECTOR_BYTES;
+    let says = |has: String| format!("{} has {has}, the command takes {wanted}", path.display());
+    let Some(mut bytes) = read_at_most(path, wanted * SECTOR_BYTES)? else {
+        return Err(says(format!("more than {wanted} sectors")));
+    };
+    let sectors = bytes.len().div_ceil(SECTOR_BYTES);
+    if sectors != wanted {
+        return Err(says(format!("{sectors} sectors")));
+    }
+    bytes.resize(sectors * SECTOR_BYTES, 0);
+    Ok(Data::Bytes(bytes))
+}
+
+/// A file's bytes, or nothing where it has more than so many.
+fn read_at_most(path: &Path, limit: usize) -> Result<Option<Vec<u8>>, String> {
+    let named = |error| format!("{}: {error}", path.display());
+    let file = File::open(path).map_err(named)?;
+    let mut bytes = Vec::new();
+    file.take(limit as u64 + 1).read_to_end(&mut bytes).map_err(named)?;
+    Ok((bytes.len() <= limit).then_some(bytes))
+}

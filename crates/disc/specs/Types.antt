@@ -21,6 +21,8 @@ pub use Rattle.disc.specs.declared.state.TailNext.{TailNext}
 pub use Rattle.disc.specs.declared.state.TailNext.the-variants.{Address, NoTail}
 pub use Rattle.disc.specs.declared.blank.Blank.{Blank}
 pub use Rattle.protocol.specs.declared.reply.Reply.{Reply}
+pub use Rattle.protocol.specs.declared.reports.DiscReport.{DiscReport}
+pub use Rattle.protocol.specs.declared.reports.TrackReport.{TrackReport}
 pub use Rattle.disc.specs.declared.verdict.Flush.{Flush}
 pub use Rattle.disc.specs.declared.verdict.Flush.the-variants.{Skip, Record}
 pub use Rattle.disc.specs.declared.verdict.Transfer.{Transfer}

@@ -20,7 +20,8 @@ use Rattle.disc.specs.Read.{allReadable, read}
 use Rattle.disc.specs.Write.{flushOthers, flushOthersPlan, gather, writeTo, writeFound, write}
 use Rattle.disc.specs.Reserve.{splitTail, reserve}
 use Rattle.disc.specs.Close.{appendTail, closeIncomplete, closeFragment, closeTail, openSession, closeSession, finalize, close}
-use Rattle.disc.specs.Reports.{senseBytes, requestSense, readCapacity, sessionState, discStatus, discInformation, readDiscInformation, nextWritableOrZero, freeSectors, trackInformation, trackReport, trackFound, trackNumbered, readTrackInformation}
+use Rattle.disc.specs.Reports.{requestSense, readCapacity, sessionState, discStatus, readDiscInformation, nextWritableOrZero, freeSectors, trackVerdict, trackFound, trackNumbered, readTrackInformation}
+use Rattle.protocol.specs.Reports.{senseBytes, discBytes, trackBytes}
 use Rattle.disc.specs.Judge.{testUnitReady, perform, judgeCommand, judge, judgeAsAsked}
 
 -- what a command shows: the answer's number, the blocks recorded, the reply, and of the disc after it the sense, the tail's next
@@ -125,6 +126,6 @@ unfolding
     finalizedComplete sound allowedState
     flush flushPlan synchronizeCache allReadable read flushOthers flushOthersPlan gather writeTo writeFound write
     splitTail reserve appendTail closeIncomplete closeFragment closeTail openSession closeSession finalize close
-    senseBytes requestSense readCapacity sessionState discStatus discInformation readDiscInformation nextWritableOrZero freeSectors
-    trackInformation trackReport trackFound trackNumbered readTrackInformation testUnitReady
+    senseBytes requestSense readCapacity sessionState discStatus discBytes readDiscInformation nextWritableOrZero freeSectors
+    trackBytes trackVerdict trackFound trackNumbered readTrackInformation testUnitReady
 shift = refl

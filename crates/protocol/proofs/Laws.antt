@@ -1,3 +1,4 @@
 -- One file a topic, named as in specs/.
 pub mod Answer
 pub mod Lengths
+pub mod Reports

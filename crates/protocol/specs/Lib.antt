@@ -4,3 +4,4 @@ pub mod Answer
 pub mod Command
 pub mod Lengths
 pub mod Reply
+pub mod Reports

@@ -1,4 +1,5 @@
--- The types of src/ by their short names.
+-- The types of src/ and of the crate below by their short names.
+pub use Rattle.fragments.specs.declared.address.Lba.{Lba}
 pub use Rattle.protocol.specs.declared.answer.Sense.{Sense}
 pub use Rattle.protocol.specs.declared.answer.LinkRefusal.{LinkRefusal}
 pub use Rattle.protocol.specs.declared.answer.LinkRefusal.the-variants.{CommandBlockLength, MediumSize, UnsoundState, TransferLength}
@@ -9,3 +10,5 @@ pub use Rattle.protocol.specs.declared.answer.Answer.the-variants.{Accep
 pub use Rattle.protocol.specs.declared.command.Command.{Command}
 pub use Rattle.protocol.specs.declared.command.Command.the-variants.{TestUnitReady, RequestSense, ReadCapacity, Read, Write, SynchronizeCache, ReserveTrack, CloseTrackSession, ReadDiscInformation, ReadTrackInformation, Unlisted}
 pub use Rattle.protocol.specs.declared.reply.Reply.{Reply}
+pub use Rattle.protocol.specs.declared.reports.DiscReport.{DiscReport}
+pub use Rattle.protocol.specs.declared.reports.TrackReport.{TrackReport}

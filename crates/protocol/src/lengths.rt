@@ -13,13 +13,13 @@ pub const SECTOR_LENGTH: usize = 2048;
 pub const BLOCK_LENGTH: usize = 32768;
 
 // The whole reports of 03h, 25h, 51h and 52h.
-pub const SENSE_LENGTH: usize = 18;
+pub(crate) const SENSE_LENGTH: usize = 18;
 
-pub const CAPACITY_LENGTH: usize = 8;
+pub(crate) const CAPACITY_LENGTH: usize = 8;
 
-pub const DISC_INFORMATION_LENGTH: usize = 34;
+pub(crate) const DISC_INFORMATION_LENGTH: usize = 34;
 
-pub const TRACK_INFORMATION_LENGTH: usize = 36;
+pub(crate) const TRACK_INFORMATION_LENGTH: usize = 36;
 
 // How much of a report an allocation length lets through.
 pub(crate) fn cut(whole: usize, allocation: usize) -> usize

@@ -14,7 +14,7 @@ impl Reply {
     pub const LIMIT: usize = 36;
 
     // The report of the first `length` bytes, of which at most the allocation length is sent.
-    pub fn report(bytes: [u8; Reply::LIMIT], length: usize, allocation: usize) -> Reply
+    pub(crate) fn report(bytes: [u8; Reply::LIMIT], length: usize, allocation: usize) -> Reply
         ensures { λ r. ⌜ r ≡ cutReply bytes length allocation ⌝ }
     {
         let length = lengths::cut(length, allocation);

@@ -21,7 +21,8 @@ use Rattle.protocol.specs.Lengths.{lengthsFit, replyRoom, capacityLength, dataL
 use Rattle.disc.specs.Verdict.{refuseLink, noPlan, refuse, accepted, accept, rise}
 use Rattle.protocol.specs.Reply.{report}
 use Rattle.disc.specs.Read.{allReadable, read}
-use Rattle.disc.specs.Reports.{bytes32, senseBytes, requestSense, readCapacity, discInformation, readDiscInformation, trackInformation, trackReport, trackFound, trackNumbered, readTrackInformation}
+use Rattle.disc.specs.Reports.{requestSense, readCapacity, discReport, readDiscInformation, trackReport, trackVerdict, trackFound, trackNumbered, readTrackInformation}
+use Rattle.protocol.specs.Reports.{senseBytes, capacityBytes, discBytes, trackBytes}
 use Rattle.disc.specs.Judge.{judgeAsAsked, testUnitReady, perform, judgeCommand, judge, Judged}
 use mathlib.Core.Logic.{⊎-elim, _⊎_, inl, inr}
 use Rattle.disc.specs.Recorded.{recordsBlock, flushes, transfers}
@@ -69,18 +70,18 @@ sense-outcome d n r = report-outcome d (RequestSense n) (senseBytes (d .sense)) 
 
 capacity-outcome : (d : Disc) → Ready d → Outcome d ReadCapacity (readCapacity d)
 unfolding readCapacity replyRoom
-capacity-outcome d r = report-outcome d ReadCapacity (bytes32 (lastReadable (records d) .0) ++ bytes32 2048) capacityLength (le-refl _) r
+capacity-outcome d r = report-outcome d ReadCapacity (capacityBytes (lastReadable (records d))) capacityLength (le-refl _) r
 
 disc-outcome : (d : Disc) (t n : ℕ) → Ready d → Outcome d (ReadDiscInformation t n) (readDiscInformation d t n)
-unfolding readDiscInformation discInformation replyRoom
+unfolding readDiscInformation discBytes replyRoom
 disc-outcome d t n r =
     let c = ReadDiscInformation t n in
-    cond-cases (Outcome d c) (eqb t 0) _ _ (λ e. report-outcome d c (discInformation d) n (le-refl _) r) (λ e. refused InvalidFieldInCommand)
+    cond-cases (Outcome d c) (eqb t 0) _ _ (λ e. report-outcome d c (discBytes (discReport d)) n (le-refl _) r) (λ e. refused InvalidFieldInCommand)
 
 module _ (d : Disc) (t n m : ℕ) (r : Ready d) where
-  track-report : (k : ℕ) → Outcome d (ReadTrackInformation t n m) (trackReport d m k)
-  unfolding trackReport trackInformation replyRoom
-  track-report k = report-outcome d (ReadTrackInformation t n m) (trackInformation d k) m (le-refl _) r
+  track-report : (k : ℕ) → Outcome d (ReadTrackInformation t n m) (trackVerdict d m k)
+  unfolding trackVerdict trackBytes replyRoom
+  track-report k = report-outcome d (ReadTrackInformation t n m) (trackBytes (trackReport d k)) m (le-refl _) r
 
   found-report : (w : Found) → Outcome d (ReadTrackInformation t n m) (trackFound d m w)
   unfolding trackFound

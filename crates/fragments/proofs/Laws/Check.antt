@@ -1,16 +1,18 @@
 -- The walk along the list, step by step.
 use Prim.Native.Nat.{ℕ, _+_, _≤_, _<_}
 use mathlib.Core.Path.{_≡_, refl}
-use mathlib.Core.Bool.{Bool, true, false, not, _&&_}
+use mathlib.Core.Bool.{Bool, true, false, not, _&&_, _||_}
 use mathlib.Core.List.{List, [], _∷_}
 use native.Mathlib.Numerals.{add-one}
-use borrow.Author.Tests.{eq-eqb, ne-eqb}
+use borrow.Author.Tests.{eq-eqb, ne-eqb, eqb-true}
+use lib.Dec.{eqb}
 use lib.ListN.{length, getD, drop, drop-of-length-le}
 use native.Mathlib.Omega.{arith}
 use lib.Seq.{drop-cons}
 use Rattle.fragments.specs.Types.{Fragment}
-use Rattle.fragments.specs.Fragment.{isZero, complete}
+use Rattle.fragments.specs.Fragment.{isZero, end, complete, isTail, nextFragmentStart}
 use Rattle.fragments.specs.List.{every}
+use Rattle.fragments.proofs.Laws.Bool.{and-right, or-cases}
 use Rattle.fragments.specs.Check.{within, beginsList, continues, openAfter, endsList, walk, listSound}
 
 -- the record at an index of the walk: none in use there, or one that must fit
@@ -36,3 +38,13 @@ pub list-start :
 unfolding listSound
 list-start [] d c fin h = absurd (omega arith)
 list-start (f ∷ fs) d c fin h = refl
+
+-- a record that may stand after another leaves a block between them
+pub continues-apart : (o : Bool) (p f : Fragment) → continues o p f ≡ true → end p .0 + 1 ≤ f .start .0
+unfolding continues
+continues-apart o p f e =
+    or-cases (eqb (f .session) (p .session) && eqb (f .start .0) (nextFragmentStart (end p) .0)) _
+    (λ s. omega (arith, eqb-true _ _ (and-right (eqb (f .session) (p .session)) _ s)))
+    (λ s.
+    omega (arith, eqb-true _ _ (and-right (eqb (f .session) (p .session + 1)) _ (and-right (not o) _ s))))
+    (and-right (not (isTail p)) _ e)

@@ -22,7 +22,7 @@ use Rattle.disc.specs.Read.{allReadable, read}
 use Rattle.disc.specs.Write.{flushOthers, flushOthersPlan, gather, Writable, writeTo, writeFound, write}
 use Rattle.disc.specs.Reserve.{reservedAt, splitTail, reserve}
 use Rattle.disc.specs.Close.{shortenedRecord, appendTail, closeIncomplete, closeFragment, hasIncompleteReserved, closeTail, openSession, closeSession, finalized, finalize, close}
-use Rattle.disc.specs.Reports.{requestSense, readCapacity, readDiscInformation, readTrackInformation, trackReport, trackFound, trackNumbered}
+use Rattle.disc.specs.Reports.{requestSense, readCapacity, readDiscInformation, readTrackInformation, trackVerdict, trackFound, trackNumbered}
 use Rattle.disc.specs.Judge.{testUnitReady, perform}
 use Rattle.fragments.proofs.Laws.Bool.{and-both, and-left, and-right, or-cases, contradiction, by-cases, cond-yes, cond-no, cond-cases}
 use Rattle.fragments.proofs.Laws.Numbers.{equal-cases, below-limit}
@@ -408,12 +408,12 @@ module _
         (λ l. cond-cases (Noted k) (allReadable d a count) _ _ (λ t. noted-sent a count) (λ t. noted-refused k BlankCheck)))
 
     noted-track-found : (allocation : ℕ) (x : Found) → Noted k (trackFound d allocation x)
-    unfolding trackFound trackReport
+    unfolding trackFound trackVerdict
     noted-track-found allocation (Number j) = noted-same k _ refl
     noted-track-found allocation Nowhere = noted-refused k AddressOutOfRange
 
     noted-track : (addressType number allocation : ℕ) → Noted k (readTrackInformation d addressType number allocation)
-    unfolding readTrackInformation trackNumbered trackReport
+    unfolding readTrackInformation trackNumbered trackVerdict
     noted-track addressType number allocation =
         cond-cases (Noted k) (eqb addressType 0) _ _ (λ t. noted-track-found allocation (atAddress d (lba number)))
         (λ t.

@@ -15,7 +15,8 @@ use Rattle.disc.specs.Sound.{usedFirst, firstAtZero, followsFrom, inOrder, ends
 use Rattle.protocol.specs.Lengths.{dataLength, replyRoom, lengthsFit}
 use Rattle.disc.specs.Flush.{flush, flushPlan}
 use Rattle.disc.specs.Write.{flushOthers, flushOthersPlan, gather, writeTo, writeFound, write}
-use Rattle.disc.specs.Reports.{sessionState, discStatus, discInformation, readDiscInformation}
+use Rattle.disc.specs.Reports.{sessionState, discStatus, readDiscInformation}
+use Rattle.protocol.specs.Reports.{discBytes}
 use Rattle.disc.specs.Judge.{perform, judgeCommand, judge}
 use Rattle.disc.specs.Verdict.{accepted, accept}
 use Rattle.drive.specs.Reply.{sentBytes}
@@ -49,7 +50,7 @@ computed :
     (one .answer ≡ Accepted) × (one .recorded ≡ 1)
     × ((m : List ℕ) → sentBytes (two .plan .transfer) (two .reply) m ≡ 0x00 ∷ 0x20 ∷ 0x05 ∷ 1 ∷ 1 ∷ 1 ∷ 1 ∷ replicate 27 0)
     × (three .answer ≡ Accepted) × (three .recorded ≡ 1)
-unfolding sentBytes decode listed some every find sumRecorded firstOfSession usedFirst firstAtZero followsFrom inOrder endsWithin recordedWithin zeroedWithin incompleteLast tailLast tailOrFull pendingNamed finalizedComplete sound allowedState isRefusalSense allowedSense blank dataLength replyRoom lengthsFit accepted accept flush flushPlan flushOthers flushOthersPlan gather writeTo writeFound write sessionState discStatus discInformation readDiscInformation perform judgeCommand judge
+unfolding sentBytes decode listed some every find sumRecorded firstOfSession usedFirst firstAtZero followsFrom inOrder endsWithin recordedWithin zeroedWithin incompleteLast tailLast tailOrFull pendingNamed finalizedComplete sound allowedState isRefusalSense allowedSense blank dataLength replyRoom lengthsFit accepted accept flush flushPlan flushOthers flushOthersPlan gather writeTo writeFound write sessionState discStatus discBytes readDiscInformation perform judgeCommand judge
 computed = (refl, refl, λ m. refl, refl, refl)
 
 module _ (s : Drive) (start : Start 300 s) where

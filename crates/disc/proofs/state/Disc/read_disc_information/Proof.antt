@@ -1,22 +1,25 @@
-use Rattle.disc.proofs.Laws.Reports.{disc-report}
-use Rattle.disc.specs.Reports.{readDiscInformation}
 use borrow.Author.Tests.{eq-eqb, ne-eqb}
+use Rattle.disc.specs.Reports.{readDiscInformation}
 use borrow.Author.Needs.{needs}
 use Rattle.disc.proofs.state.Disc.read_disc_information.Statement.{statement}
 use Rattle.disc.proofs.state.Disc.read_disc_information.Tie as tie
+use Rattle.disc.proofs.state.Disc.disc_report.Reads as disc-report-reads
+use Rattle.disc.proofs.verdict.Verdict.refused.Reads as refused-reads
+use Rattle.disc.proofs.verdict.Verdict.unchanged.Reads as unchanged-reads
+use Rattle.protocol.proofs.reply.Reply.of_disc.Reads as of-disc-reads
 
-disc-information-requires : tie.Need-disc-information-requires
-disc-information-requires c κs = search needs
+disc-report-requires : tie.Need-disc-report-requires
+disc-report-requires c κs = search needs
 
-report-requires : tie.Need-report-requires
-report-requires c κs = search needs
+of-disc-requires : tie.Need-of-disc-requires
+of-disc-requires c κs = search needs
 
 unchanged-requires : tie.Need-unchanged-requires
 unchanged-requires c κs = search needs
 
 returns : tie.Need-returns
 unfolding readDiscInformation
-returns c = simp (c .unchanged .ensures, c .before .report .ensures, c .before .before .disc-information .ensures, eq-eqb _ _ (c .before .before .before .if1 .taken), disc-report)
+returns c = simp (c .unchanged .ensures, c .before .of-disc .ensures, c .before .before .disc-report .ensures, eq-eqb _ _ (c .before .before .before .if1 .taken))
 
 refused-requires : tie.Need-refused-requires
 refused-requires c κs = search needs
@@ -29,8 +32,8 @@ pub read-disc-information-spec : {M : Type 1} → statement M
 read-disc-information-spec =
     tie.close
     (tie.spec
-    disc-information-requires
-    report-requires
+    disc-report-requires
+    of-disc-requires
     unchanged-requires
     returns
     refused-requires

@@ -11,8 +11,8 @@ at-address-requires c κs = search needs
 enum-known-found : tie.Need-enum-known-found
 enum-known-found c = search needs
 
-track-report-requires : tie.Need-track-report-requires
-track-report-requires c κs =
+track-verdict-requires : tie.Need-track-verdict-requires
+track-verdict-requires c κs =
     let b = address-number (c .before .before .before .before .args .self) (c .before .before .before .before .args .address) _ (sym (c .before .before .before .at-address .ensures) ∙ c .before .found .given .1) in
     (c .before .before .before .before .pre, b .0, b .1)
 
@@ -24,7 +24,7 @@ refused-requires c κs = search needs
 
 returns : tie.Need-returns
 unfolding trackFound
-returns c = simp (c .track-report .ensures, c .before .before .found .given .1, ← c .before .before .before .before .at-address .ensures)
+returns c = simp (c .track-verdict .ensures, c .before .before .found .given .1, ← c .before .before .before .before .at-address .ensures)
 
 returns-2 : tie.Need-returns-2
 unfolding trackFound
@@ -36,7 +36,7 @@ track-at-spec =
     (tie.spec
     at-address-requires
     enum-known-found
-    track-report-requires
+    track-verdict-requires
     enum-told
     refused-requires
     returns

@@ -1,22 +1,69 @@
-use Rattle.disc.proofs.Laws.Reports.{track-report}
-use Rattle.disc.specs.Reports.{trackReport}
+use mathlib.Core.Path.{_≡_}
+use native.Mathlib.Omega.{arith}
+use lib.ListN.{length}
+use Rattle.fragments.specs.List.{limit}
+use Rattle.fragments.proofs.Laws.List.{array-length}
+use Rattle.disc.proofs.Laws.Reports.{used-most}
 use borrow.Author.Needs.{needs}
 use Rattle.disc.proofs.state.Disc.track_report.Statement.{statement}
 use Rattle.disc.proofs.state.Disc.track_report.Tie as tie
+use Rattle.disc.proofs.state.Disc.free_sectors.Reads as free-sectors-reads
+use Rattle.disc.proofs.state.Disc.is_blank.Reads as is-blank-reads
+use Rattle.disc.proofs.state.Disc.next_writable_or_zero.Reads as next-writable-or-zero-reads
+use Rattle.disc.proofs.state.Disc.numbered.Reads as numbered-reads
+use Rattle.fragments.proofs.address.Block.first_sector.Reads as first-sector-reads
+use Rattle.fragments.proofs.sectors_in.Reads as sectors-in-reads
+use Rattle.fragments.proofs.fragment.Fragment.is_complete.Reads as is-complete-reads
+use Rattle.fragments.proofs.fragment.Fragment.last_recorded.Reads as last-recorded-reads
+use Rattle.fragments.proofs.fragment.Kind.is_reserved.Reads as is-reserved-reads
 
-track-information-requires : tie.Need-track-information-requires
-track-information-requires c κs = search needs
+numbered-requires : tie.Need-numbered-requires
+numbered-requires c κs =
+    let l : length (c .args .self .fragments) ≡ limit = search array-length in
+    (c .pre .1, omega (arith, used-most (c .args .self) l))
 
-report-requires : tie.Need-report-requires
-report-requires c κs = search needs
+next-writable-or-zero-requires : tie.Need-next-writable-or-zero-requires
+next-writable-or-zero-requires c κs = search needs
 
-unchanged-requires : tie.Need-unchanged-requires
-unchanged-requires c κs = search needs
+cast-t6 : tie.Need-cast-t6
+cast-t6 c = search needs
+
+is-reserved-requires : tie.Need-is-reserved-requires
+is-reserved-requires c κs = search needs
+
+is-blank-requires : tie.Need-is-blank-requires
+is-blank-requires c κs = search needs
+
+is-complete-requires : tie.Need-is-complete-requires
+is-complete-requires c κs = search needs
+
+first-sector-requires : tie.Need-first-sector-requires
+first-sector-requires c κs = search needs
+
+free-sectors-requires : tie.Need-free-sectors-requires
+free-sectors-requires c κs = search needs
+
+sectors-in-requires : tie.Need-sectors-in-requires
+sectors-in-requires c κs = search needs
+
+last-recorded-requires : tie.Need-last-recorded-requires
+last-recorded-requires c κs = search needs
 
 returns : tie.Need-returns
-unfolding trackReport
-returns c = rw (c .unchanged .ensures, c .before .report .ensures, c .before .before .track-information .ensures, track-report (c .before .before .before .args .self) (c .before .before .before .args .number) (c .before .before .before .args .allocation))
+returns c = rw (c .last-recorded .ensures, c .before .sectors-in .ensures, c .before .before .free-sectors .ensures, c .before .before .before .first-sector .ensures, c .before .before .before .before .is-complete .ensures, c .before .before .before .before .before .before .is-blank .ensures, c .before .before .before .before .before .before .before .is-reserved .ensures, c .before .before .before .before .before .before .before .before .before .next-writable-or-zero .ensures, c .before .before .before .before .before .before .before .before .before .before .numbered .ensures)
 
 pub track-report-spec : {M : Type 1} → statement M
 track-report-spec =
-    tie.close (tie.spec track-information-requires report-requires unchanged-requires returns)
+    tie.close
+    (tie.spec
+    numbered-requires
+    next-writable-or-zero-requires
+    cast-t6
+    is-reserved-requires
+    is-blank-requires
+    is-complete-requires
+    first-sector-requires
+    free-sectors-requires
+    sectors-in-requires
+    last-recorded-requires
+    returns)

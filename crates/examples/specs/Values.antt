@@ -1,0 +1,72 @@
+-- What the simple promises of the lower crates say on chosen inputs. Each value rules out the wrong answers beside it: an off by one,
+-- the other direction, the neighbour's field.
+use Prim.Native.Nat.{ℕ}
+use mathlib.Core.Path.{_≡_, refl}
+use mathlib.Core.Bool.{Bool, true, false, cond}
+use mathlib.Core.List.{List, [], _∷_, map}
+use lib.ListN.{length, replicate}
+use Rattle.examples.specs.Types.{Lba, Sense, Fragment, Reserved, Appended, Found, Number, Nowhere, DiscReport, TrackReport, InvalidOperationCode, EndOfUserArea, UnsoundState, TransferLength, Accepted, Link, Drive}
+use Rattle.fragments.specs.Address.{sectorsIn, blocksFor, wholeBlocks, leftOver, missing, block, lba, firstSector, passes}
+use Rattle.fragments.specs.Fragment.{fragment, unusedRecord, isReserved, complete, isTail, isIncompleteReserved, end, nextFragmentStart, nextSessionStart, nextAfter, lastRecorded, holdsRun}
+use Rattle.fragments.specs.List.{listed, lastOf, holderOf, takerOf, pendingOf, firstOfSession, lastReadable, some, find}
+use Rattle.protocol.specs.Answer.{sense, noSense, allowedSense, isRefusalSense, number}
+use Rattle.protocol.specs.Command.{decode}
+use Rattle.protocol.specs.Lengths.{dataLength, replyRoom, lengthsFit}
+
+-- sixteen sectors a block: 2 blocks and 1 sector are 33 sectors; a block of 4 lacks 12, one of 17 nothing
+pub conversions :
+    (sectorsIn 2 ∷ blocksFor 32 ∷ blocksFor 33 ∷ wholeBlocks 33 ∷ leftOver 33 ∷ missing 4 ∷ missing 17 ∷ firstSector (block 3) .0 ∷ [])
+    ≡ (32 ∷ 2 ∷ 3 ∷ 2 ∷ 1 ∷ 12 ∷ 0 ∷ 48 ∷ [])
+conversions = refl
+
+-- a run of 2 from 30 ends at 32, one of 3 passes it
+pub runs : (passes (lba 30) 2 (lba 32) ∷ passes (lba 30) 3 (lba 32) ∷ passes (lba 33) 0 (lba 32) ∷ []) ≡ (false ∷ true ∷ true ∷ [])
+runs = refl
+
+-- three fragments of two sessions: a written tail that was closed, a reserved one with two of three blocks recorded, a tail
+abbrev first : Fragment
+first = fragment 1 0 2 2 12 Appended
+
+abbrev second : Fragment
+second = fragment 2 130 3 2 0 Reserved
+
+abbrev third : Fragment
+third = fragment 2 134 166 0 0 Appended
+
+abbrev list : List Fragment
+list = first ∷ second ∷ third ∷ replicate 61 unusedRecord
+
+-- of one record: kinds, and the numbers around it
+pub kinds :
+    (isReserved Reserved ∷ isReserved Appended ∷ complete first ∷ complete second ∷ isTail first ∷ isTail second ∷ isTail third ∷ [])
+    ≡ (true ∷ false ∷ true ∷ false ∷ false ∷ false ∷ true ∷ [])
+kinds = refl
+
+pub places :
+    (nextFragmentStart (end first) .0 ∷ nextSessionStart (end first) .0 ∷ firstSector (end second) .0 ∷ nextAfter 5 second .0
+    ∷ lastRecorded second .0 ∷ lastRecorded third .0 ∷ unusedRecord .length ∷ [])
+    ≡ (3 ∷ 130 ∷ 2128 ∷ 2117 ∷ 2111 ∷ 0 ∷ 0 ∷ [])
+places = refl
+
+-- of the list: three records, the third is last; sector 2127 lies in the second, 2128 in none; with 5 sectors pending in the second
+-- its next writable address is 2117, without them 2112
+abbrev found : Found → ℕ
+found (Number n) = n
+found Nowhere = 0
+
+pub walks :
+    (length (listed list) ∷ lastOf list .number ∷ lastOf list .fragment .start .0 ∷ found (holderOf list (lba 31)) ∷ found (holderOf list (lba 32))
+    ∷ found (holderOf list (lba 2127)) ∷ found (holderOf list (lba 2128)) ∷ found (takerOf list 5 2 (lba 2117))
+    ∷ found (takerOf list 5 2 (lba 2112)) ∷ found (takerOf list 5 2 (lba 2144)) ∷ found (takerOf list 5 2 (lba 32))
+    ∷ pendingOf 5 2 2 ∷ pendingOf 5 2 3 ∷ firstOfSession 1 1 (listed list) ∷ firstOfSession 2 1 (listed list)
+    ∷ firstOfSession 3 1 (listed list) ∷ lastReadable (listed list) .0 ∷ [])
+    ≡ (3 ∷ 3 ∷ 134 ∷ 1 ∷ 0 ∷ 2 ∷ 0 ∷ 2 ∷ 0 ∷ 3 ∷ 0 ∷ 5 ∷ 0 ∷ 1 ∷ 2 ∷ 4 ∷ 2111 ∷ [])
+unfolding listed find firstOfSession lastReadable
+walks = refl
+
+pub tests :
+    (some isIncompleteReserved (listed list) ∷ some isIncompleteReserved (first ∷ third ∷ []) ∷ some (holdsRun (lba 30) 2) (listed list)
+    ∷ some (holdsRun (lba 30) 3) (listed list) ∷ some (holdsRun (lba 2080) 32) (listed list) ∷ some (holdsRun (lba 2080) 33) (listed list) ∷ [])
+    ≡ (true ∷ false ∷ true ∷ false ∷ true ∷ false ∷ [])
+unfolding listed some
+tests = refl

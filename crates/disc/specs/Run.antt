@@ -1,27 +1,18 @@
--- A run of sectors: the fragment that holds it, and the part of the medium that an accepted 28h hands out.
+-- The part of the medium that an accepted 28h hands out. It is decided without the lengths of data, reply and pending buffer, which
+-- the lower layer never sees: a 28h that is refused for those has its run here all the same.
 use Prim.Native.Nat.{ℕ, _+_, _*_, _<_}
 use mathlib.Core.Path.{_≡_}
-use mathlib.Core.Bool.{Bool, true, not, cond, _&&_}
+use mathlib.Core.Bool.{Bool, true, cond, _&&_}
 use mathlib.Core.List.{List, []}
 use lib.ListN.{length, take, drop}
-use lib.Dec.{eqb, leb, ltb}
-use Rattle.disc.specs.Types.{Lba, Fragment, Disc, Transfer, Nothing, Send, Gather, Fill, Command, TestUnitReady, RequestSense, ReadCapacity, Read, Write, SynchronizeCache, ReserveTrack, CloseTrackSession, ReadDiscInformation, ReadTrackInformation, Unlisted}
-use Rattle.fragments.specs.Address.{lba, firstSector}
+use lib.Dec.{eqb}
+use Rattle.disc.specs.Types.{Lba, Disc, Transfer, Nothing, Send, Gather, Fill, Command, TestUnitReady, RequestSense, ReadCapacity, Read, Write, SynchronizeCache, ReserveTrack, CloseTrackSession, ReadDiscInformation, ReadTrackInformation, Unlisted}
+use Rattle.fragments.specs.Address.{lba}
 use Rattle.protocol.specs.Command.{decode}
-use Rattle.fragments.specs.Fragment.{firstUnrecorded}
 use Rattle.disc.specs.Records.{readable}
 use Rattle.disc.specs.Sound.{allowedState}
 use Rattle.disc.specs.Blank.{inRange}
 use Rattle.disc.specs.Read.{read}
-
--- n sectors from an address on go past another address
-abbrev pub passes : Lba → ℕ → Lba → Bool
-passes a n end = ltb (end .0) (a .0 + n)
-
--- they lie in the fragment's recorded blocks. The code decides a READ by this: on a sound list a run of recorded sectors lies in
--- one fragment (proofs/Laws/Read)
-abbrev pub holdsRun : Lba → ℕ → Fragment → Bool
-holdsRun a n f = leb (firstSector (f .start) .0) (a .0) && not (passes a n (firstSector (firstUnrecorded f)))
 
 -- the bytes of n sectors from an address on
 abbrev pub stretch : Lba → ℕ → List ℕ → List ℕ

@@ -2,3 +2,4 @@
 pub mod Types
 pub mod Shift
 pub mod States
+pub mod Values

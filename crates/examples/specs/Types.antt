@@ -1,5 +1,11 @@
 -- The types of the lower layer by their short names.
 pub use Rattle.protocol.specs.declared.answer.Sense.{Sense}
+pub use Rattle.protocol.specs.declared.answer.LinkRefusal.the-variants.{CommandBlockLength, MediumSize, UnsoundState, TransferLength}
+pub use Rattle.protocol.specs.declared.answer.DriveRefusal.the-variants.{BlankCheck}
+pub use Rattle.protocol.specs.declared.answer.Answer.the-variants.{Accepted, Link, Drive}
+pub use Rattle.protocol.specs.declared.command.Command.the-variants.{RequestSense, ReadCapacity, Read, Write, SynchronizeCache, ReadDiscInformation, ReadTrackInformation}
+pub use Rattle.fragments.specs.declared.list.Found.{Found}
+pub use Rattle.fragments.specs.declared.list.Found.the-variants.{Number, Nowhere}
 pub use Rattle.fragments.specs.declared.fragment.Kind.{Kind}
 pub use Rattle.fragments.specs.declared.fragment.Kind.the-variants.{Reserved, Appended}
 pub use Rattle.fragments.specs.declared.fragment.Fragment.{Fragment}

@@ -2,16 +2,17 @@
 -- the other direction, the neighbour's field.
 use Prim.Native.Nat.{ℕ}
 use mathlib.Core.Path.{_≡_, refl}
-use mathlib.Core.Bool.{Bool, true, false, cond}
+use mathlib.Core.Bool.{true, false}
 use mathlib.Core.List.{List, [], _∷_, map}
-use lib.ListN.{length, replicate}
-use Rattle.examples.specs.Types.{Lba, Sense, Fragment, Reserved, Appended, Found, Number, Nowhere, DiscReport, TrackReport, InvalidOperationCode, EndOfUserArea, UnsoundState, TransferLength, Accepted, Link, Drive}
+use lib.ListN.{length, take, replicate}
+use Rattle.examples.specs.Types.{Fragment, Reserved, Appended, Found, Number, Nowhere, Accepted, Link, Drive, CommandBlockLength, MediumSize, UnsoundState, TransferLength, BlankCheck, Read, Write, RequestSense, ReadCapacity, SynchronizeCache, ReadDiscInformation, ReadTrackInformation}
 use Rattle.fragments.specs.Address.{sectorsIn, blocksFor, wholeBlocks, leftOver, missing, block, lba, firstSector, passes}
 use Rattle.fragments.specs.Fragment.{fragment, unusedRecord, isReserved, complete, isTail, isIncompleteReserved, end, nextFragmentStart, nextSessionStart, nextAfter, lastRecorded, holdsRun}
 use Rattle.fragments.specs.List.{listed, lastOf, holderOf, takerOf, pendingOf, firstOfSession, lastReadable, some, find}
-use Rattle.protocol.specs.Answer.{sense, noSense, allowedSense, isRefusalSense, number}
-use Rattle.protocol.specs.Command.{decode}
+use Rattle.protocol.specs.Answer.{sense, noSense, senseNumber, refusalSense, driveRefusals, allowedSense, isRefusalSense, number}
 use Rattle.protocol.specs.Lengths.{dataLength, replyRoom, lengthsFit}
+use Rattle.protocol.specs.Reply.{report, noReply}
+use Rattle.protocol.specs.Reports.{senseBytes, capacityBytes}
 
 -- sixteen sectors a block: 2 blocks and 1 sector are 33 sectors; a block of 4 lacks 12, one of 17 nothing
 pub conversions :
@@ -70,3 +71,44 @@ pub tests :
     ≡ (true ∷ false ∷ true ∷ false ∷ true ∷ false ∷ [])
 unfolding listed some
 tests = refl
+
+-- of an answer: its number, and the ten senses in the order of document 01's table
+pub answers :
+    map number (Accepted ∷ Link CommandBlockLength ∷ Link MediumSize ∷ Link UnsoundState ∷ Link TransferLength ∷ Drive BlankCheck ∷ [])
+    ≡ (0 ∷ 1 ∷ 2 ∷ 3 ∷ 4 ∷ 0x080000 ∷ [])
+answers = refl
+
+pub senses :
+    map (λ r. senseNumber (refusalSense r)) driveRefusals
+    ≡ (0x052000 ∷ 0x072700 ∷ 0x052400 ∷ 0x052100 ∷ 0x080000 ∷ 0x052102 ∷ 0x057203 ∷ 0x057204 ∷ 0x057205 ∷ 0x056300 ∷ [])
+senses = refl
+
+-- 5/21/02 is left by a command, 5/21/01 by none
+pub allowed : map allowedSense (noSense ∷ sense 0x5 0x21 0x02 ∷ sense 0x5 0x21 0x01 ∷ sense 0x0 0x21 0x02 ∷ []) ≡ (true ∷ true ∷ false ∷ false ∷ [])
+unfolding allowedSense isRefusalSense
+allowed = refl
+
+-- of a command: only a WRITE brings data; a READ needs room for its sectors, a report for what its allocation length lets through
+pub lengths :
+    (map dataLength (Write (lba 0) 3 ∷ Read (lba 0) 3 ∷ SynchronizeCache ∷ []) ≡ (6144 ∷ 0 ∷ 0 ∷ []))
+    × (map replyRoom
+    (Read (lba 0) 3 ∷ Write (lba 0) 3 ∷ ReadCapacity ∷ RequestSense 17 ∷ RequestSense 19 ∷ ReadDiscInformation 0 40
+    ∷ ReadTrackInformation 1 1 35 ∷ ReadTrackInformation 1 1 40 ∷ [])
+    ≡ (6144 ∷ 0 ∷ 8 ∷ 17 ∷ 18 ∷ 34 ∷ 35 ∷ 36 ∷ []))
+unfolding dataLength replyRoom
+lengths = (refl, refl)
+
+pub fits :
+    (lengthsFit (Write (lba 0) 3) 6144 0 ∷ lengthsFit (Write (lba 0) 3) 6145 0 ∷ lengthsFit (Write (lba 0) 3) 6143 0
+    ∷ lengthsFit (Read (lba 0) 3) 0 6144 ∷ lengthsFit (Read (lba 0) 3) 0 6143 ∷ lengthsFit SynchronizeCache 1 0 ∷ [])
+    ≡ (true ∷ false ∷ false ∷ true ∷ false ∷ false ∷ [])
+unfolding lengthsFit dataLength replyRoom
+fits = refl
+
+-- of a reply: 03h's first 14 bytes at an allocation of 14, and 25h's eight
+pub sent :
+    (report (senseBytes (sense 0x5 0x21 0x02)) 14 .length ≡ 14)
+    × (take 14 (report (senseBytes (sense 0x5 0x21 0x02)) 14 .bytes) ≡ (0x70 ∷ 0 ∷ 5 ∷ 0 ∷ 0 ∷ 0 ∷ 0 ∷ 0x0A ∷ 0 ∷ 0 ∷ 0 ∷ 0 ∷ 0x21 ∷ 2 ∷ []))
+    × (capacityBytes (lba 0x01020304) ≡ (1 ∷ 2 ∷ 3 ∷ 4 ∷ 0 ∷ 0 ∷ 8 ∷ 0 ∷ [])) × (noReply .length ≡ 0)
+unfolding senseBytes
+sent = (refl, refl, refl, refl)

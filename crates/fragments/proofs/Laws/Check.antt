@@ -10,7 +10,7 @@ use lib.ListN.{length, getD, drop, drop-of-length-le}
 use native.Mathlib.Omega.{arith}
 use lib.Seq.{drop-cons}
 use Rattle.fragments.specs.Types.{Fragment}
-use Rattle.fragments.specs.Fragment.{isZero, end, complete, isTail, nextFragmentStart}
+use Rattle.fragments.specs.Fragment.{isZero, end, complete, isTail, nextFragmentStart, nextSessionStart}
 use Rattle.fragments.specs.List.{every}
 use Rattle.fragments.proofs.Laws.Bool.{and-right, or-cases}
 use Rattle.fragments.specs.Check.{within, beginsList, continues, openAfter, endsList, walk, listSound}
@@ -43,8 +43,11 @@ list-start (f ∷ fs) d c fin h = refl
 pub continues-apart : (o : Bool) (p f : Fragment) → continues o p f ≡ true → end p .0 + 1 ≤ f .start .0
 unfolding continues
 continues-apart o p f e =
-    or-cases (eqb (f .session) (p .session) && eqb (f .start .0) (nextFragmentStart (end p) .0)) _
-    (λ s. omega (arith, eqb-true _ _ (and-right (eqb (f .session) (p .session)) _ s)))
-    (λ s.
-    omega (arith, eqb-true _ _ (and-right (eqb (f .session) (p .session + 1)) _ (and-right (not o) _ s))))
-    (and-right (not (isTail p)) _ e)
+    let same = eqb (f .session) (p .session) in
+    let near = eqb (f .start .0) (nextFragmentStart (end p) .0) in
+    let later = eqb (f .session) (p .session + 1) in
+    let far = eqb (f .start .0) (nextSessionStart (end p) .0) in
+    or-cases (same && near) (not o && (later && far))
+    (λ s. omega (arith, eqb-true (f .start .0) (nextFragmentStart (end p) .0) (and-right same near s)))
+    (λ s. omega (arith, eqb-true (f .start .0) (nextSessionStart (end p) .0) (and-right later far (and-right (not o) (later && far) s))))
+    (and-right (not (isTail p)) (same && near || not o && (later && far)) e)

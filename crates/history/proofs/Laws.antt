@@ -9,6 +9,9 @@ pub mod Recording
 pub mod Credit
 pub mod Kept
 pub mod Examples
+pub mod Stale
+pub mod Decided
 pub mod Witness
 pub mod Useful
 pub mod Figures
+pub mod Cases

@@ -5,5 +5,7 @@ pub mod Cut
 pub mod Demand
 pub mod Account
 pub mod Kept
+pub mod Stale
 pub mod Examples
 pub mod Witness
+pub mod Cases

@@ -1,0 +1,3 @@
+-- Worked examples, computed from the definitions of the disc.
+pub mod Types
+pub mod Tour

@@ -1,0 +1,1 @@
+// Worked examples of the disc: computed tables alone, no functions. specs/ states them.

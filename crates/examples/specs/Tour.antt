@@ -134,23 +134,30 @@ firstRun =
     -- WRITE 0 of 5: five sectors pending, no block recorded
     line (block (0x2A ∷ 0 ∷ 0 ∷ 0 ∷ 0 ∷ 0 ∷ 0 ∷ 0 ∷ 5 ∷ [])) 10240 0 0 0 [] (sense 0 0 0) 5 5 tailOnly
     -- 51h: an incomplete session and disc, 4 x 1 + 1; sectors that are only pending make the tail no blank one
-    ∷ line (block (0x51 ∷ 0 ∷ 0 ∷ 0 ∷ 0 ∷ 0 ∷ 0 ∷ 0 ∷ 0x22 ∷ [])) 0 34 0 0 (0 ∷ 0x20 ∷ 5 ∷ 1 ∷ 1 ∷ 1 ∷ 1 ∷ replicate 27 0) (sense 0 0 0) 5 5 tailOnly
+    ∷ line (block (0x51 ∷ 0 ∷ 0 ∷ 0 ∷ 0 ∷ 0 ∷ 0 ∷ 0 ∷ 34 ∷ [])) 0 34 0 0
+    (0 ∷ 0x20 ∷ 5 ∷ 1 ∷ 1 ∷ 1 ∷ 1 ∷ replicate 27 0)
+    (sense 0 0 0) 5 5 tailOnly
     -- 52h FFh, the tail: neither reserved nor blank, W = 0, next 5, free 9,600 - 5 = 9,595
-    ∷ line (block (0x52 ∷ 1 ∷ 0 ∷ 0 ∷ 0 ∷ 0xFF ∷ 0 ∷ 0 ∷ 0x24 ∷ [])) 0 36 0 0 (0 ∷ 0x22 ∷ 1 ∷ 1 ∷ 0 ∷ 4 ∷ 1 ∷ 1 ∷ 0 ∷ 0 ∷ 0 ∷ 0 ∷ 0 ∷ 0 ∷ 0 ∷ 5 ∷ 0 ∷ 0 ∷ 0x25 ∷ 0x7B ∷ 0 ∷ 0 ∷ 0 ∷ 0x10 ∷ 0 ∷ 0 ∷ 0x25 ∷ 0x80 ∷ replicate 8 0) (sense 0 0 0) 5 5 tailOnly
+    ∷ line (block (0x52 ∷ 1 ∷ 0 ∷ 0 ∷ 0 ∷ 0xFF ∷ 0 ∷ 0 ∷ 36 ∷ [])) 0 36 0 0
+    (0 ∷ 0x22 ∷ 1 ∷ 1 ∷ 0 ∷ 4 ∷ 1 ∷ 1 ∷ 0 ∷ 0 ∷ 0 ∷ 0 ∷ 0 ∷ 0 ∷ 0 ∷ 5 ∷ 0 ∷ 0 ∷ 0x25 ∷ 0x7B
+    ∷ 0 ∷ 0 ∷ 0 ∷ 0x10 ∷ 0 ∷ 0 ∷ 0x25 ∷ 0x80 ∷ replicate 8 0)
+    (sense 0 0 0) 5 5 tailOnly
     -- 25h: nothing can be read
     ∷ line (block (0x25 ∷ [])) 0 8 0 0 (0 ∷ 0 ∷ 0 ∷ 0 ∷ 0 ∷ 0 ∷ 8 ∷ 0 ∷ []) (sense 0 0 0) 5 5 tailOnly
     -- READ 0 of 1: a pending sector is unrecorded to a reader
     ∷ line (block (0x28 ∷ 0 ∷ 0 ∷ 0 ∷ 0 ∷ 0 ∷ 0 ∷ 0 ∷ 1 ∷ [])) 0 2048 0x080000 0 [] (sense 0x8 0x00 0x00) 5 5 tailOnly
     -- 03h of 18: key 8
-    ∷ line (block (3 ∷ 0 ∷ 0 ∷ 0 ∷ 0x12 ∷ [])) 0 18 0 0 (0x70 ∷ 0 ∷ 8 ∷ 0 ∷ 0 ∷ 0 ∷ 0 ∷ 0x0A ∷ replicate 10 0) (sense 0 0 0) 5 5 tailOnly
+    ∷ line (block (0x03 ∷ 0 ∷ 0 ∷ 0 ∷ 0x12 ∷ [])) 0 18 0 0 (0x70 ∷ 0 ∷ 8 ∷ 0 ∷ 0 ∷ 0 ∷ 0 ∷ 0x0A ∷ replicate 10 0) (sense 0 0 0) 5 5 tailOnly
     -- WRITE 9 of 1: not the next writable address
     ∷ line (block (0x2A ∷ 0 ∷ 0 ∷ 0 ∷ 0 ∷ 9 ∷ 0 ∷ 0 ∷ 1 ∷ [])) 2048 0 0x052102 0 [] (sense 0x5 0x21 0x02) 5 5 tailOnly
     -- 03h cut to the 14 bytes of byte 4, not to the 18 of byte 3: key 5, ASC 21h, ASCQ 02h
-    ∷ line (block (3 ∷ 0 ∷ 0 ∷ 0x12 ∷ 0x0E ∷ [])) 0 14 0 0 (0x70 ∷ 0 ∷ 5 ∷ 0 ∷ 0 ∷ 0 ∷ 0 ∷ 0x0A ∷ 0 ∷ 0 ∷ 0 ∷ 0 ∷ 0x21 ∷ 2 ∷ []) (sense 0 0 0) 5 5 tailOnly
+    ∷ line (block (0x03 ∷ 0 ∷ 0 ∷ 0x12 ∷ 0x0E ∷ [])) 0 14 0 0
+    (0x70 ∷ 0 ∷ 5 ∷ 0 ∷ 0 ∷ 0 ∷ 0 ∷ 0x0A ∷ 0 ∷ 0 ∷ 0 ∷ 0 ∷ 0x21 ∷ 2 ∷ [])
+    (sense 0 0 0) 5 5 tailOnly
     -- 03h again: the last one cleared the sense
-    ∷ line (block (3 ∷ 0 ∷ 0 ∷ 0 ∷ 0x12 ∷ [])) 0 18 0 0 (0x70 ∷ 0 ∷ 0 ∷ 0 ∷ 0 ∷ 0 ∷ 0 ∷ 0x0A ∷ replicate 10 0) (sense 0 0 0) 5 5 tailOnly
+    ∷ line (block (0x03 ∷ 0 ∷ 0 ∷ 0 ∷ 0x12 ∷ [])) 0 18 0 0 (0x70 ∷ 0 ∷ 0 ∷ 0 ∷ 0 ∷ 0 ∷ 0 ∷ 0x0A ∷ replicate 10 0) (sense 0 0 0) 5 5 tailOnly
     -- WRITE 5 of 27: 5 + 27 = 32 sectors are two blocks
-    ∷ line (block (0x2A ∷ 0 ∷ 0 ∷ 0 ∷ 0 ∷ 5 ∷ 0 ∷ 0 ∷ 0x1B ∷ [])) 55296 0 0 2 [] (sense 0 0 0) 32 0 written
+    ∷ line (block (0x2A ∷ 0 ∷ 0 ∷ 0 ∷ 0 ∷ 5 ∷ 0 ∷ 0 ∷ 27 ∷ [])) 55296 0 0 2 [] (sense 0 0 0) 32 0 written
     -- 25h: the last of 32 sectors
     ∷ line (block (0x25 ∷ [])) 0 8 0 0 (0 ∷ 0 ∷ 0 ∷ 0x1F ∷ 0 ∷ 0 ∷ 8 ∷ 0 ∷ []) (sense 0 0 0) 32 0 written
     -- 5B/001 number 1: L = 2, and a tail at block 0 + 2 + 1
@@ -158,43 +165,58 @@ firstRun =
     -- 25h: 31 still, though nothing of the last fragment is recorded
     ∷ line (block (0x25 ∷ [])) 0 8 0 0 (0 ∷ 0 ∷ 0 ∷ 0x1F ∷ 0 ∷ 0 ∷ 8 ∷ 0 ∷ []) (sense 0 0 0) 48 0 closed
     -- RESERVE 32: two blocks exactly, and a tail at 3 + 2 + 1
-    ∷ line (block (0x53 ∷ 0 ∷ 0 ∷ 0 ∷ 0 ∷ 0 ∷ 0 ∷ 0 ∷ 0x20 ∷ [])) 0 0 0 0 [] (sense 0 0 0) 96 0 reserved
+    ∷ line (block (0x53 ∷ 0 ∷ 0 ∷ 0 ∷ 0 ∷ 0 ∷ 0 ∷ 0 ∷ 32 ∷ [])) 0 0 0 0 [] (sense 0 0 0) 96 0 reserved
     -- 52h number 2: reserved and blank, 01h + 80h + 40h; next 48, free 32 of 32
-    ∷ line (block (0x52 ∷ 1 ∷ 0 ∷ 0 ∷ 0 ∷ 2 ∷ 0 ∷ 0 ∷ 0x24 ∷ [])) 0 36 0 0 (0 ∷ 0x22 ∷ 2 ∷ 1 ∷ 0 ∷ 4 ∷ 0xC1 ∷ 1 ∷ 0 ∷ 0 ∷ 0 ∷ 0x30 ∷ 0 ∷ 0 ∷ 0 ∷ 0x30 ∷ 0 ∷ 0 ∷ 0 ∷ 0x20 ∷ 0 ∷ 0 ∷ 0 ∷ 0x10 ∷ 0 ∷ 0 ∷ 0 ∷ 0x20 ∷ replicate 8 0) (sense 0 0 0) 96 0 reserved
+    ∷ line (block (0x52 ∷ 1 ∷ 0 ∷ 0 ∷ 0 ∷ 2 ∷ 0 ∷ 0 ∷ 36 ∷ [])) 0 36 0 0
+    (0 ∷ 0x22 ∷ 2 ∷ 1 ∷ 0 ∷ 4 ∷ 0xC1 ∷ 1 ∷ 0 ∷ 0 ∷ 0 ∷ 0x30 ∷ 0 ∷ 0 ∷ 0 ∷ 0x30 ∷ 0 ∷ 0 ∷ 0 ∷ 0x20
+    ∷ 0 ∷ 0 ∷ 0 ∷ 0x10 ∷ 0 ∷ 0 ∷ 0 ∷ 0x20 ∷ replicate 8 0)
+    (sense 0 0 0) 96 0 reserved
     -- WRITE 48 of 20 to it: one block, four sectors pending
-    ∷ line (block (0x2A ∷ 0 ∷ 0 ∷ 0 ∷ 0 ∷ 0x30 ∷ 0 ∷ 0 ∷ 0x14 ∷ [])) 40960 0 0 1 [] (sense 0 0 0) 96 4 halfReserved
+    ∷ line (block (0x2A ∷ 0 ∷ 0 ∷ 0 ∷ 0 ∷ 0x30 ∷ 0 ∷ 0 ∷ 20 ∷ [])) 40960 0 0 1 [] (sense 0 0 0) 96 4 halfReserved
     -- 52h of address 50: W > 0 and incomplete, 02h + 01h; next 16 x 4 + 4 = 68, free 80 - 68 = 12, last recorded 63
-    ∷ line (block (0x52 ∷ 0 ∷ 0 ∷ 0 ∷ 0 ∷ 0x32 ∷ 0 ∷ 0 ∷ 0x24 ∷ [])) 0 36 0 0 (0 ∷ 0x22 ∷ 2 ∷ 1 ∷ 0 ∷ 4 ∷ 0x81 ∷ 3 ∷ 0 ∷ 0 ∷ 0 ∷ 0x30 ∷ 0 ∷ 0 ∷ 0 ∷ 0x44 ∷ 0 ∷ 0 ∷ 0 ∷ 0x0C ∷ 0 ∷ 0 ∷ 0 ∷ 0x10 ∷ 0 ∷ 0 ∷ 0 ∷ 0x20 ∷ 0 ∷ 0 ∷ 0 ∷ 0x3F ∷ replicate 4 0) (sense 0 0 0) 96 4 halfReserved
+    ∷ line (block (0x52 ∷ 0 ∷ 0 ∷ 0 ∷ 0 ∷ 0x32 ∷ 0 ∷ 0 ∷ 36 ∷ [])) 0 36 0 0
+    (0 ∷ 0x22 ∷ 2 ∷ 1 ∷ 0 ∷ 4 ∷ 0x81 ∷ 3 ∷ 0 ∷ 0 ∷ 0 ∷ 0x30 ∷ 0 ∷ 0 ∷ 0 ∷ 0x44 ∷ 0 ∷ 0 ∷ 0 ∷ 0x0C
+    ∷ 0 ∷ 0 ∷ 0 ∷ 0x10 ∷ 0 ∷ 0 ∷ 0 ∷ 0x20 ∷ 0 ∷ 0 ∷ 0 ∷ 0x3F ∷ replicate 4 0)
+    (sense 0 0 0) 96 4 halfReserved
     -- 52h of address 32, in the dividing block
-    ∷ line (block (0x52 ∷ 0 ∷ 0 ∷ 0 ∷ 0 ∷ 0x20 ∷ 0 ∷ 0 ∷ 0x24 ∷ [])) 0 36 0x052100 0 [] (sense 0x5 0x21 0x00) 96 4 halfReserved
+    ∷ line (block (0x52 ∷ 0 ∷ 0 ∷ 0 ∷ 0 ∷ 0x20 ∷ 0 ∷ 0 ∷ 36 ∷ [])) 0 36 0x052100 0 [] (sense 0x5 0x21 0x00) 96 4 halfReserved
     -- 52h type 2, number 4, number 0: no such type, no such fragment
-    ∷ line (block (0x52 ∷ 2 ∷ 0 ∷ 0 ∷ 0 ∷ 1 ∷ 0 ∷ 0 ∷ 0x24 ∷ [])) 0 36 0x052400 0 [] (sense 0x5 0x24 0x00) 96 4 halfReserved
-    ∷ line (block (0x52 ∷ 1 ∷ 0 ∷ 0 ∷ 0 ∷ 4 ∷ 0 ∷ 0 ∷ 0x24 ∷ [])) 0 36 0x052400 0 [] (sense 0x5 0x24 0x00) 96 4 halfReserved
-    ∷ line (block (0x52 ∷ 1 ∷ 0 ∷ 0 ∷ 0 ∷ 0 ∷ 0 ∷ 0 ∷ 0x24 ∷ [])) 0 36 0x052400 0 [] (sense 0x5 0x24 0x00) 96 4 halfReserved
+    ∷ line (block (0x52 ∷ 2 ∷ 0 ∷ 0 ∷ 0 ∷ 1 ∷ 0 ∷ 0 ∷ 36 ∷ [])) 0 36 0x052400 0 [] (sense 0x5 0x24 0x00) 96 4 halfReserved
+    ∷ line (block (0x52 ∷ 1 ∷ 0 ∷ 0 ∷ 0 ∷ 4 ∷ 0 ∷ 0 ∷ 36 ∷ [])) 0 36 0x052400 0 [] (sense 0x5 0x24 0x00) 96 4 halfReserved
+    ∷ line (block (0x52 ∷ 1 ∷ 0 ∷ 0 ∷ 0 ∷ 0 ∷ 0 ∷ 0 ∷ 36 ∷ [])) 0 36 0x052400 0 [] (sense 0x5 0x24 0x00) 96 4 halfReserved
     -- 5B/010: as after the flush the reserved fragment is complete, F = 12; the blank tail goes; e = 5, session 2 at 5 + 128
     ∷ line (block (0x5B ∷ 0 ∷ 2 ∷ [])) 0 0 0 1 [] (sense 0 0 0) 2128 0 nextSession
     -- 5B/010 again: the last session is only a blank tail, nothing is done
     ∷ line (block (0x5B ∷ 0 ∷ 2 ∷ [])) 0 0 0 0 [] (sense 0 0 0) 2128 0 nextSession
     -- 51h: session 2, its first and last fragment is number 3; 4 x 0 + 1, the disc is not blank
-    ∷ line (block (0x51 ∷ 0 ∷ 0 ∷ 0 ∷ 0 ∷ 0 ∷ 0 ∷ 0 ∷ 0x22 ∷ [])) 0 34 0 0 (0 ∷ 0x20 ∷ 1 ∷ 1 ∷ 2 ∷ 3 ∷ 3 ∷ replicate 27 0) (sense 0 0 0) 2128 0 nextSession
+    ∷ line (block (0x51 ∷ 0 ∷ 0 ∷ 0 ∷ 0 ∷ 0 ∷ 0 ∷ 0 ∷ 34 ∷ [])) 0 34 0 0
+    (0 ∷ 0x20 ∷ 1 ∷ 1 ∷ 2 ∷ 3 ∷ 3 ∷ replicate 27 0)
+    (sense 0 0 0) 2128 0 nextSession
     -- 52h FFh: the blank tail in session 2, first and next 2,128, free 16 x 467 = 7,472
-    ∷ line (block (0x52 ∷ 1 ∷ 0 ∷ 0 ∷ 0 ∷ 0xFF ∷ 0 ∷ 0 ∷ 0x24 ∷ [])) 0 36 0 0 (0 ∷ 0x22 ∷ 3 ∷ 2 ∷ 0 ∷ 4 ∷ 0x41 ∷ 1 ∷ 0 ∷ 0 ∷ 8 ∷ 0x50 ∷ 0 ∷ 0 ∷ 8 ∷ 0x50 ∷ 0 ∷ 0 ∷ 0x1D ∷ 0x30 ∷ 0 ∷ 0 ∷ 0 ∷ 0x10 ∷ 0 ∷ 0 ∷ 0x1D ∷ 0x30 ∷ replicate 8 0) (sense 0 0 0) 2128 0 nextSession
+    ∷ line (block (0x52 ∷ 1 ∷ 0 ∷ 0 ∷ 0 ∷ 0xFF ∷ 0 ∷ 0 ∷ 36 ∷ [])) 0 36 0 0
+    (0 ∷ 0x22 ∷ 3 ∷ 2 ∷ 0 ∷ 4 ∷ 0x41 ∷ 1 ∷ 0 ∷ 0 ∷ 8 ∷ 0x50 ∷ 0 ∷ 0 ∷ 8 ∷ 0x50 ∷ 0 ∷ 0 ∷ 0x1D ∷ 0x30
+    ∷ 0 ∷ 0 ∷ 0 ∷ 0x10 ∷ 0 ∷ 0 ∷ 0x1D ∷ 0x30 ∷ replicate 8 0)
+    (sense 0 0 0) 2128 0 nextSession
     -- 25h: the last sector of fragment 2, 16 x 5 - 1
     ∷ line (block (0x25 ∷ [])) 0 8 0 0 (0 ∷ 0 ∷ 0 ∷ 0x4F ∷ 0 ∷ 0 ∷ 8 ∷ 0 ∷ []) (sense 0 0 0) 2128 0 nextSession
     -- WRITE 2128 of 1, and the 51h after it: session state 1
     ∷ line (block (0x2A ∷ 0 ∷ 0 ∷ 0 ∷ 8 ∷ 0x50 ∷ 0 ∷ 0 ∷ 1 ∷ [])) 2048 0 0 0 [] (sense 0 0 0) 2129 1 nextSession
-    ∷ line (block (0x51 ∷ 0 ∷ 0 ∷ 0 ∷ 0 ∷ 0 ∷ 0 ∷ 0 ∷ 0x22 ∷ [])) 0 34 0 0 (0 ∷ 0x20 ∷ 5 ∷ 1 ∷ 2 ∷ 3 ∷ 3 ∷ replicate 27 0) (sense 0 0 0) 2129 1 nextSession
+    ∷ line (block (0x51 ∷ 0 ∷ 0 ∷ 0 ∷ 0 ∷ 0 ∷ 0 ∷ 0 ∷ 34 ∷ [])) 0 34 0 0
+    (0 ∷ 0x20 ∷ 5 ∷ 1 ∷ 2 ∷ 3 ∷ 3 ∷ replicate 27 0)
+    (sense 0 0 0) 2129 1 nextSession
     -- RESERVE 16: the tail is not blank
-    ∷ line (block (0x53 ∷ 0 ∷ 0 ∷ 0 ∷ 0 ∷ 0 ∷ 0 ∷ 0 ∷ 0x10 ∷ [])) 0 0 0x057205 0 [] (sense 0x5 0x72 0x05) 2129 1 nextSession
+    ∷ line (block (0x53 ∷ 0 ∷ 0 ∷ 0 ∷ 0 ∷ 0 ∷ 0 ∷ 0 ∷ 16 ∷ [])) 0 0 0x057205 0 [] (sense 0x5 0x72 0x05) 2129 1 nextSession
     -- 5B/111: no such function; 5B/001 number 4: unlisted
     ∷ line (block (0x5B ∷ 0 ∷ 7 ∷ [])) 0 0 0x052400 0 [] (sense 0x5 0x24 0x00) 2129 1 nextSession
     ∷ line (block (0x5B ∷ 0 ∷ 1 ∷ 0 ∷ 0 ∷ 4 ∷ [])) 0 0 0x052400 0 [] (sense 0x5 0x24 0x00) 2129 1 nextSession
     -- 51h of type 1
-    ∷ line (block (0x51 ∷ 1 ∷ 0 ∷ 0 ∷ 0 ∷ 0 ∷ 0 ∷ 0 ∷ 0x22 ∷ [])) 0 34 0x052400 0 [] (sense 0x5 0x24 0x00) 2129 1 nextSession
+    ∷ line (block (0x51 ∷ 1 ∷ 0 ∷ 0 ∷ 0 ∷ 0 ∷ 0 ∷ 0 ∷ 34 ∷ [])) 0 34 0x052400 0 [] (sense 0x5 0x24 0x00) 2129 1 nextSession
     -- 5B/110: the flush records a block with 15 sectors of zeros, the tail ends with it, no tail follows
     ∷ line (block (0x5B ∷ 0 ∷ 6 ∷ [])) 0 0 0 1 [] (sense 0 0 0) 0 0 twoSessions
     -- 51h: finalized, 4 x 3 + 2
-    ∷ line (block (0x51 ∷ 0 ∷ 0 ∷ 0 ∷ 0 ∷ 0 ∷ 0 ∷ 0 ∷ 0x22 ∷ [])) 0 34 0 0 (0 ∷ 0x20 ∷ 0x0E ∷ 1 ∷ 2 ∷ 3 ∷ 3 ∷ replicate 27 0) (sense 0 0 0) 0 0 twoSessions
+    ∷ line (block (0x51 ∷ 0 ∷ 0 ∷ 0 ∷ 0 ∷ 0 ∷ 0 ∷ 0 ∷ 34 ∷ [])) 0 34 0 0
+    (0 ∷ 0x20 ∷ 0x0E ∷ 1 ∷ 2 ∷ 3 ∷ 3 ∷ replicate 27 0)
+    (sense 0 0 0) 0 0 twoSessions
     -- 5B/110 and 5B/010 again: nothing is done
     ∷ line (block (0x5B ∷ 0 ∷ 6 ∷ [])) 0 0 0 0 [] (sense 0 0 0) 0 0 twoSessions
     ∷ line (block (0x5B ∷ 0 ∷ 2 ∷ [])) 0 0 0 0 [] (sense 0 0 0) 0 0 twoSessions
@@ -203,14 +225,19 @@ firstRun =
     ∷ line (block (0x2A ∷ 0 ∷ 0 ∷ 0 ∷ 8 ∷ 0x60 ∷ 0 ∷ 0 ∷ 1 ∷ [])) 2048 0 0x072700 0 [] (sense 0x7 0x27 0x00) 0 0 twoSessions
     ∷ line (block (0x53 ∷ [])) 0 0 0x072700 0 [] (sense 0x7 0x27 0x00) 0 0 twoSessions
     -- 52h FFh: there is no tail
-    ∷ line (block (0x52 ∷ 1 ∷ 0 ∷ 0 ∷ 0 ∷ 0xFF ∷ 0 ∷ 0 ∷ 0x24 ∷ [])) 0 36 0x052400 0 [] (sense 0x5 0x24 0x00) 0 0 twoSessions
+    ∷ line (block (0x52 ∷ 1 ∷ 0 ∷ 0 ∷ 0 ∷ 0xFF ∷ 0 ∷ 0 ∷ 36 ∷ [])) 0 36 0x052400 0 [] (sense 0x5 0x24 0x00) 0 0 twoSessions
     -- 52h number 3, complete: no next address, none free, last recorded 16 x 134 - 1 = 2,143; and 25h
-    ∷ line (block (0x52 ∷ 1 ∷ 0 ∷ 0 ∷ 0 ∷ 3 ∷ 0 ∷ 0 ∷ 0x24 ∷ [])) 0 36 0 0 (0 ∷ 0x22 ∷ 3 ∷ 2 ∷ 0 ∷ 4 ∷ 1 ∷ 2 ∷ 0 ∷ 0 ∷ 8 ∷ 0x50 ∷ 0 ∷ 0 ∷ 0 ∷ 0 ∷ 0 ∷ 0 ∷ 0 ∷ 0 ∷ 0 ∷ 0 ∷ 0 ∷ 0x10 ∷ 0 ∷ 0 ∷ 0 ∷ 0x10 ∷ 0 ∷ 0 ∷ 8 ∷ 0x5F ∷ replicate 4 0) (sense 0 0 0) 0 0 twoSessions
+    ∷ line (block (0x52 ∷ 1 ∷ 0 ∷ 0 ∷ 0 ∷ 3 ∷ 0 ∷ 0 ∷ 36 ∷ [])) 0 36 0 0
+    (0 ∷ 0x22 ∷ 3 ∷ 2 ∷ 0 ∷ 4 ∷ 1 ∷ 2 ∷ 0 ∷ 0 ∷ 8 ∷ 0x50 ∷ 0 ∷ 0 ∷ 0 ∷ 0 ∷ 0 ∷ 0 ∷ 0 ∷ 0
+    ∷ 0 ∷ 0 ∷ 0 ∷ 0x10 ∷ 0 ∷ 0 ∷ 0 ∷ 0x10 ∷ 0 ∷ 0 ∷ 8 ∷ 0x5F ∷ replicate 4 0)
+    (sense 0 0 0) 0 0 twoSessions
     ∷ line (block (0x25 ∷ [])) 0 8 0 0 (0 ∷ 0 ∷ 8 ∷ 0x5F ∷ 0 ∷ 0 ∷ 8 ∷ 0 ∷ []) (sense 0 0 0) 0 0 twoSessions
     -- 52h number 2, reserved and complete, cut to 12 bytes
-    ∷ line (block (0x52 ∷ 1 ∷ 0 ∷ 0 ∷ 0 ∷ 2 ∷ 0 ∷ 0 ∷ 0x0C ∷ [])) 0 12 0 0 (0 ∷ 0x22 ∷ 2 ∷ 1 ∷ 0 ∷ 4 ∷ 0x81 ∷ 2 ∷ 0 ∷ 0 ∷ 0 ∷ 0x30 ∷ []) (sense 0 0 0) 0 0 twoSessions
+    ∷ line (block (0x52 ∷ 1 ∷ 0 ∷ 0 ∷ 0 ∷ 2 ∷ 0 ∷ 0 ∷ 12 ∷ [])) 0 12 0 0
+    (0 ∷ 0x22 ∷ 2 ∷ 1 ∷ 0 ∷ 4 ∷ 0x81 ∷ 2 ∷ 0 ∷ 0 ∷ 0 ∷ 0x30 ∷ [])
+    (sense 0 0 0) 0 0 twoSessions
     -- 00h, and an opcode that is not listed
-    ∷ line (block ([])) 0 0 0 0 [] (sense 0 0 0) 0 0 twoSessions
+    ∷ line (block (0x00 ∷ [])) 0 0 0 0 [] (sense 0 0 0) 0 0 twoSessions
     ∷ line (block (0xFF ∷ [])) 0 0 0x052000 0 [] (sense 0x5 0x20 0x00) 0 0 twoSessions
     ∷ []
 
@@ -219,7 +246,9 @@ emptySession =
     -- 5B/110 where the last session is only a blank tail: it vanishes
     line (block (0x5B ∷ 0 ∷ 6 ∷ [])) 0 0 0 0 [] (sense 0 0 0) 0 0 oneSession
     -- 51h: session 1 is the last one, with fragments 1 and 2
-    ∷ line (block (0x51 ∷ 0 ∷ 0 ∷ 0 ∷ 0 ∷ 0 ∷ 0 ∷ 0 ∷ 0x22 ∷ [])) 0 34 0 0 (0 ∷ 0x20 ∷ 0x0E ∷ 1 ∷ 1 ∷ 1 ∷ 2 ∷ replicate 27 0) (sense 0 0 0) 0 0 oneSession
+    ∷ line (block (0x51 ∷ 0 ∷ 0 ∷ 0 ∷ 0 ∷ 0 ∷ 0 ∷ 0 ∷ 34 ∷ [])) 0 34 0 0
+    (0 ∷ 0x20 ∷ 0x0E ∷ 1 ∷ 1 ∷ 1 ∷ 2 ∷ replicate 27 0)
+    (sense 0 0 0) 0 0 oneSession
     ∷ []
 
 abbrev onBlank : List Line
@@ -238,7 +267,7 @@ fullRun =
     line (block (0x5B ∷ 0 ∷ 2 ∷ [])) 0 0 0x057203 0 [] (sense 0x5 0x72 0x03) 0 0 (fullList 1)
     ∷ line (block (0x5B ∷ 0 ∷ 6 ∷ [])) 0 0 0x057203 0 [] (sense 0x5 0x72 0x03) 0 0 (fullList 1)
     -- its last block is written
-    ∷ line (block (0x2A ∷ 0 ∷ 0 ∷ 0 ∷ 7 ∷ 0xF0 ∷ 0 ∷ 0 ∷ 0x10 ∷ [])) 32768 0 0 1 [] (sense 0 0 0) 0 0 (fullList 2)
+    ∷ line (block (0x2A ∷ 0 ∷ 0 ∷ 0 ∷ 7 ∷ 0xF0 ∷ 0 ∷ 0 ∷ 16 ∷ [])) 32768 0 0 1 [] (sense 0 0 0) 0 0 (fullList 2)
     -- 5B/010: 64 records are kept
     ∷ line (block (0x5B ∷ 0 ∷ 2 ∷ [])) 0 0 0x057205 0 [] (sense 0x5 0x72 0x05) 0 0 (fullList 2)
     ∷ []
@@ -246,7 +275,7 @@ fullRun =
 abbrev droppedRun : List Line
 droppedRun =
     -- RESERVE 16 with 64 records; then 5B/010, which drops the blank tail and keeps 63: e = 125, session 2 at 253
-    line (block (0x53 ∷ 0 ∷ 0 ∷ 0 ∷ 0 ∷ 0 ∷ 0 ∷ 0 ∷ 0x10 ∷ [])) 0 0 0x057205 0 [] (sense 0x5 0x72 0x05) 2016 0 droppedList
+    line (block (0x53 ∷ 0 ∷ 0 ∷ 0 ∷ 0 ∷ 0 ∷ 0 ∷ 0 ∷ 16 ∷ [])) 0 0 0x057205 0 [] (sense 0x5 0x72 0x05) 2016 0 droppedList
     ∷ line (block (0x5B ∷ 0 ∷ 2 ∷ [])) 0 0 0 0 [] (sense 0 0 0) 4048 0 openedList
     ∷ []
 
@@ -265,33 +294,36 @@ upTo172 =
 abbrev largestRun : List Line
 largestRun =
     -- 52h number 1: 16 x 143,444 = 230540h sectors free
-    line (block (0x52 ∷ 1 ∷ 0 ∷ 0 ∷ 0 ∷ 1 ∷ 0 ∷ 0 ∷ 0x24 ∷ [])) 0 36 0 0 (0 ∷ 0x22 ∷ 1 ∷ 1 ∷ 0 ∷ 4 ∷ 0x41 ∷ 1 ∷ 0 ∷ 0 ∷ 0 ∷ 0 ∷ 0 ∷ 0 ∷ 0 ∷ 0 ∷ 0 ∷ 0x23 ∷ 5 ∷ 0x40 ∷ 0 ∷ 0 ∷ 0 ∷ 0x10 ∷ 0 ∷ 0x23 ∷ 5 ∷ 0x40 ∷ replicate 8 0) (sense 0 0 0) 0 0 largest
+    line (block (0x52 ∷ 1 ∷ 0 ∷ 0 ∷ 0 ∷ 1 ∷ 0 ∷ 0 ∷ 36 ∷ [])) 0 36 0 0
+    (0 ∷ 0x22 ∷ 1 ∷ 1 ∷ 0 ∷ 4 ∷ 0x41 ∷ 1 ∷ 0 ∷ 0 ∷ 0 ∷ 0 ∷ 0 ∷ 0 ∷ 0 ∷ 0 ∷ 0 ∷ 0x23 ∷ 5 ∷ 0x40
+    ∷ 0 ∷ 0 ∷ 0 ∷ 0x10 ∷ 0 ∷ 0x23 ∷ 5 ∷ 0x40 ∷ replicate 8 0)
+    (sense 0 0 0) 0 0 largest
     -- READ of the last sector, and of two from there on
     ∷ line (block (0x28 ∷ 0 ∷ 0 ∷ 0x23 ∷ 5 ∷ 0x3F ∷ 0 ∷ 0 ∷ 1 ∷ [])) 0 2048 0x080000 0 [] (sense 0x8 0x00 0x00) 0 0 largest
     ∷ line (block (0x28 ∷ 0 ∷ 0 ∷ 0x23 ∷ 5 ∷ 0x3F ∷ 0 ∷ 0 ∷ 2 ∷ [])) 0 4096 0x052100 0 [] (sense 0x5 0x21 0x00) 0 0 largest
     -- RESERVE of 16 x 143,442 + 1 sectors leaves no tail a block, one sector fewer does
-    ∷ line (block (0x53 ∷ 0 ∷ 0 ∷ 0 ∷ 0 ∷ 0 ∷ 0x23 ∷ 5 ∷ 0x21 ∷ [])) 0 0 0x056300 0 [] (sense 0x5 0x63 0x00) 0 0 largest
-    ∷ line (block (0x53 ∷ 0 ∷ 0 ∷ 0 ∷ 0 ∷ 0 ∷ 0x23 ∷ 5 ∷ 0x20 ∷ [])) 0 0 0 0 [] (sense 0 0 0) 2295088 0 largestReserved
+    ∷ line (block (0x53 ∷ 0 ∷ 0 ∷ 0 ∷ 0 ∷ 0 ∷ 35 ∷ 5 ∷ 33 ∷ [])) 0 0 0x056300 0 [] (sense 0x5 0x63 0x00) 0 0 largest
+    ∷ line (block (0x53 ∷ 0 ∷ 0 ∷ 0 ∷ 0 ∷ 0 ∷ 35 ∷ 5 ∷ 32 ∷ [])) 0 0 0 0 [] (sense 0 0 0) 2295088 0 largestReserved
     ∷ []
 
 abbrev wrongAllRun : List Line
 wrongAllRun =
     -- a block of 11 bytes, C = 255, a finalized disc that is not complete, data of one byte: L1
-    line (0 ∷ 0 ∷ 0 ∷ 0 ∷ 0 ∷ 0 ∷ 0 ∷ 0 ∷ 0 ∷ 0 ∷ 0 ∷ []) 1 0 1 0 [] (sense 0 0 0) 0 0 smallList
+    line (replicate 11 0) 1 0 1 0 [] (sense 0 0 0) 0 0 smallList
     -- the same with 12 bytes: L2
-    ∷ line (block ([])) 1 0 2 0 [] (sense 0 0 0) 0 0 smallList
+    ∷ line (block (0x00 ∷ [])) 1 0 2 0 [] (sense 0 0 0) 0 0 smallList
     ∷ []
 
 abbrev wrongStateRun : List Line
 wrongStateRun =
     -- C = 300: L3, before the data is looked at
-    line (block ([])) 1 0 3 0 [] (sense 0 0 0) 0 0 threeHundred
+    line (block (0x00 ∷ [])) 1 0 3 0 [] (sense 0 0 0) 0 0 threeHundred
     ∷ []
 
 abbrev wrongSenseRun : List Line
 wrongSenseRun =
     -- a sense that no refusal gives: L3
-    line (block []) 1 0 3 0 [] (sense 0x5 0x21 0x01) 0 0 threeHundred
+    line (block (0x00 ∷ [])) 1 0 3 0 [] (sense 0x5 0x21 0x01) 0 0 threeHundred
     ∷ []
 
 abbrev lengthsRun : List Line
@@ -305,17 +337,17 @@ lengthsRun =
     -- READ 0 of 1, 25h, 03h cut to 14, 51h and 52h with a reply buffer one byte short; the sense stays
     ∷ line (block (0x28 ∷ 0 ∷ 0 ∷ 0 ∷ 0 ∷ 0 ∷ 0 ∷ 0 ∷ 1 ∷ [])) 0 2047 4 0 [] (sense 0x5 0x21 0x02) 0 0 threeHundred
     ∷ line (block (0x25 ∷ [])) 0 7 4 0 [] (sense 0x5 0x21 0x02) 0 0 threeHundred
-    ∷ line (block (3 ∷ 0 ∷ 0 ∷ 0x12 ∷ 0x0E ∷ [])) 0 13 4 0 [] (sense 0x5 0x21 0x02) 0 0 threeHundred
-    ∷ line (block (0x51 ∷ 0 ∷ 0 ∷ 0 ∷ 0 ∷ 0 ∷ 0 ∷ 0 ∷ 0x22 ∷ [])) 0 33 4 0 [] (sense 0x5 0x21 0x02) 0 0 threeHundred
-    ∷ line (block (0x52 ∷ 1 ∷ 0 ∷ 0 ∷ 0 ∷ 1 ∷ 0 ∷ 0 ∷ 0x24 ∷ [])) 0 35 4 0 [] (sense 0x5 0x21 0x02) 0 0 threeHundred
+    ∷ line (block (0x03 ∷ 0 ∷ 0 ∷ 0x12 ∷ 0x0E ∷ [])) 0 13 4 0 [] (sense 0x5 0x21 0x02) 0 0 threeHundred
+    ∷ line (block (0x51 ∷ 0 ∷ 0 ∷ 0 ∷ 0 ∷ 0 ∷ 0 ∷ 0 ∷ 34 ∷ [])) 0 33 4 0 [] (sense 0x5 0x21 0x02) 0 0 threeHundred
+    ∷ line (block (0x52 ∷ 1 ∷ 0 ∷ 0 ∷ 0 ∷ 1 ∷ 0 ∷ 0 ∷ 36 ∷ [])) 0 35 4 0 [] (sense 0x5 0x21 0x02) 0 0 threeHundred
     -- 00h: accepted
-    ∷ line (block ([])) 0 0 0 0 [] (sense 0 0 0) 0 0 threeHundred
+    ∷ line (block (0x00 ∷ [])) 0 0 0 0 [] (sense 0 0 0) 0 0 threeHundred
     ∷ []
 
 abbrev tooLargeRun : List Line
 tooLargeRun =
     -- C = 143,445: L2
-    line (block ([])) 0 0 2 0 [] (sense 0 0 0) 0 0 tooLarge
+    line (block (0x00 ∷ [])) 0 0 2 0 [] (sense 0 0 0) 0 0 tooLarge
     ∷ []
 
 abbrev pub runs : List Run

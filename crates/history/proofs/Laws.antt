@@ -8,6 +8,10 @@ pub mod Account
 pub mod Recording
 pub mod Credit
 pub mod Kept
+pub mod Places
+pub mod Brought
+pub mod Traces
+pub mod ReadBack
 pub mod Examples
 pub mod Stale
 pub mod Decided

@@ -5,6 +5,7 @@ pub mod Cut
 pub mod Demand
 pub mod Account
 pub mod Kept
+pub mod Brought
 pub mod Stale
 pub mod Examples
 pub mod Witness

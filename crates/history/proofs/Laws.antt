@@ -12,6 +12,8 @@ pub mod Places
 pub mod Brought
 pub mod Traces
 pub mod ReadBack
+pub mod Past
+pub mod Recalled
 pub mod Examples
 pub mod Stale
 pub mod Decided

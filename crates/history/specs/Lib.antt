@@ -6,6 +6,7 @@ pub mod Demand
 pub mod Account
 pub mod Kept
 pub mod Brought
+pub mod Past
 pub mod Stale
 pub mod Examples
 pub mod Witness

@@ -38,7 +38,7 @@ abbrev pub taken : Disc → ℕ → ℕ
 taken d n = 16 * numbered d n .recorded + pendingIn d n
 
 -- where it has any afterwards it starts as before, and they lie in the blocks that it had
-pub record Placed (d e : Disc) (n : ℕ) : Type 0 where
+pub record InPlace (d e : Disc) (n : ℕ) : Type 0 where
   pub start : (taken e n ≡ 0 → ⊥) → numbered e n .start .0 ≡ numbered d n .start .0
   pub within : taken e n ≤ 16 * numbered d n .length
 
@@ -78,13 +78,13 @@ grown-places : (d e : Disc) → Grown d e → SamePlaces d e
 grown-places d e g = record { start = g .start; size = g .size }
 
 module _ (d : Disc) (n : ℕ) (r : Ready d) (one : 1 ≤ n) where
-  places-placed : (e : Disc) → Sound e → SamePlaces d e → Placed d e n
+  places-placed : (e : Disc) → Sound e → SamePlaces d e → InPlace d e n
   places-placed e s p =
       record { start = λ z. p .start (n - 1); within = omega (arith, taken-within e n s one, p .size (n - 1)) }
 
   -- a change that records nothing, behind one that keeps the places and leaves nothing pending
   counts-placed :
-      (e f : Disc) → Sound e → SamePlaces d e → e .pending ≡ 0 → SameCounts e f → f .pending ≡ 0 → Placed d f n
+      (e f : Disc) → Sound e → SamePlaces d e → e .pending ≡ 0 → SameCounts e f → f .pending ≡ 0 → InPlace d f n
   counts-placed e f s p none same after =
       let count = same .recorded (n - 1) in
       let was = taken-within e n s one in
@@ -95,13 +95,13 @@ module _ (d : Disc) (n : ℕ) (r : Ready d) (one : 1 ≤ n) where
 
   -- an accepted verdict
   abbrev Moved : Verdict → Type 0
-  Moved v = v .answer ≡ Accepted → Placed d (v .disc) n
+  Moved v = v .answer ≡ Accepted → InPlace d (v .disc) n
 
   moved-refused : (x : DriveRefusal) → Moved (refuse d x)
   unfolding refuse
   moved-refused x e = absurd (let z : _≡_ {A = ℕ} 0 1 = cc in omega arith)
 
-  moved-accepted : (after : Disc) (reply : Reply) (w : Plan) → Placed d after n → Moved (accept d after reply w)
+  moved-accepted : (after : Disc) (reply : Reply) (w : Plan) → InPlace d after n → Moved (accept d after reply w)
   unfolding accept accepted
   moved-accepted after reply w p e = record { start = p .start; within = p .within }
 

@@ -27,7 +27,7 @@ use Rattle.history.specs.Types.{Lba, Disc, Answer, Accepted, Link, Drive
 use Rattle.history.specs.Sequence.{Start, Turn, found, result, final, Admissible}
 use Rattle.history.specs.Account.{Extent, Account, opened, extentOf, written, flushed, filled, credited, noted, accountFrom, account}
 use Rattle.history.specs.Brought.{Written, writeOf, acceptedWrite, writes, broughtTo, sole, broughtIn}
-use Rattle.history.proofs.Laws.Places.{taken, Placed, taken-within, moved-performed}
+use Rattle.history.proofs.Laws.Places.{taken, InPlace, taken-within, moved-performed}
 use Rattle.history.proofs.Laws.Credit.{covers-own, covers-else}
 use Rattle.history.proofs.Laws.Kept.{HoldsOn, answer-holds, found-holds, served-sound, blank-counts, blank-held}
 use Rattle.history.proofs.Laws.Brought.{brought-append, brought-one, brought-none, count-split, count-none, count-each, count-same, apart, Pads, pads-same, pads-on, pads-flushed, pads-filled}
@@ -62,7 +62,7 @@ fresh-behind d ws n s one f a behind inside =
 
 -- one fragment, over an accepted command that brings vs
 module _
-    (d e : Disc) (ws vs : List Written) (n : ℕ) (k l : Account) (s : Sound d) (one : 1 ≤ n) (p : Placed d e n) (f : Fresh d ws)
+    (d e : Disc) (ws vs : List Written) (n : ℕ) (k l : Account) (s : Sound d) (one : 1 ≤ n) (p : InPlace d e n) (f : Fresh d ws)
     (before : k .recorded + k .pending ≡ taken d n) (after : l .recorded + l .pending ≡ taken e n) (tr : Traces d ws n k)
   where
     -- more sectors behind those that it has
@@ -137,7 +137,7 @@ writing a count x = record { address = a; count = count; sectors = x }
 
 -- the sectors of a WRITE to the fragment itself
 traces-written :
-    (d e : Disc) (ws : List Written) (n : ℕ) (k : Account) (a count : ℕ) (x : List ℕ) → Sound d → 1 ≤ n → Placed d e n → Fresh d ws
+    (d e : Disc) (ws : List Written) (n : ℕ) (k : Account) (a count : ℕ) (x : List ℕ) → Sound d → 1 ≤ n → InPlace d e n → Fresh d ws
     → k .recorded + k .pending ≡ taken d n → written a count x k .recorded + written a count x k .pending ≡ taken e n → Traces d ws n k
     → a ≡ base d n + taken d n → Traces e (ws ++ (writing a count x ∷ [])) n (written a count x k)
 unfolding written sole
@@ -192,7 +192,7 @@ pub record Traced (d : Disc) (ws : List Written) (ks : ℕ → Account) : Type 0
 
 -- an accepted command: disc d becomes e, the accounts ks become ls
 module _
-    (d e : Disc) (ws : List Written) (ks ls : ℕ → Account) (s : Sound d) (p : (n : ℕ) → 1 ≤ n → Placed d e n)
+    (d e : Disc) (ws : List Written) (ks ls : ℕ → Account) (s : Sound d) (p : (n : ℕ) → 1 ≤ n → InPlace d e n)
     (before : (n : ℕ) → 1 ≤ n → ks n .recorded + ks n .pending ≡ taken d n) (after : (n : ℕ) → 1 ≤ n → ls n .recorded + ls n .pending ≡ taken e n)
     (tr : Traced d ws ks)
   where
@@ -320,10 +320,10 @@ module _
       unfolding step carriedOut
       performs = sym (ap (λ (v : Verdict). v .answer) performed) ∙ accepted
 
-      command-placed : (n : ℕ) → 1 ≤ n → Placed (s .disc) (step s q .after .disc) n
+      command-placed : (n : ℕ) → 1 ≤ n → InPlace (s .disc) (step s q .after .disc) n
       unfolding step carriedOut
       command-placed n one =
-          subst (λ (v : Verdict). Placed (s .disc) (v .disc) n) (sym performed) (moved-performed (s .disc) n ready one c performs)
+          subst (λ (v : Verdict). InPlace (s .disc) (v .disc) n) (sym performed) (moved-performed (s .disc) n ready one c performs)
 
       command-taken : (n : ℕ) → 1 ≤ n → noting c n .recorded + noting c n .pending ≡ taken (step s q .after .disc) n
       unfolding noted

@@ -21,3 +21,4 @@ pub mod Witness
 pub mod Useful
 pub mod Figures
 pub mod Cases
+pub mod Wide

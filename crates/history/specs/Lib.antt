@@ -11,3 +11,4 @@ pub mod Stale
 pub mod Examples
 pub mod Witness
 pub mod Cases
+pub mod Wide

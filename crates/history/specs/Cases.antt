@@ -1,6 +1,6 @@
--- Cases of the theorems: two controllers that send the same log, and what they and a reader see. Each is drawn from `Demand3` or
--- `KeptAccount` alone (proofs/Laws/Cases), so a statement that is weaker no longer gives it.
-use Prim.Native.Nat.{ℕ, _+_, _<_}
+-- Cases of the theorems: two controllers that send the same log, and what they and a reader see. Each is drawn from a statement
+-- alone and not from its proof (proofs/Laws/Cases), so a statement that is weaker no longer gives it.
+use Prim.Native.Nat.{ℕ, _+_, _≤_, _<_}
 use mathlib.Core.Bool.{true, false}
 use mathlib.Core.Path.{_≡_}
 use mathlib.Core.List.{List, [], _∷_, _++_}
@@ -10,10 +10,12 @@ use Rattle.disc.specs.Blank.{blank}
 use Rattle.disc.specs.Records.{readable}
 use Rattle.drive.specs.Bytes.{zeros}
 use Rattle.drive.specs.Step.{Drive, drive, Request, request}
-use Rattle.drive.specs.Alike.{pendingSectors}
+use Rattle.drive.specs.Alike.{pendingSectors, Alike}
 use Rattle.history.specs.Types.{Answer, Accepted, Link, LinkRefusal, MediumSize, UnsoundState}
-use Rattle.history.specs.Sequence.{Turn, result, final}
-use Rattle.history.specs.Account.{sectorAt, account}
+use Rattle.history.specs.Sequence.{Turn, result, final, Admissible}
+use Rattle.history.specs.Account.{extentOf, sectorAt, account}
+use Rattle.history.specs.Brought.{writes, broughtTo, broughtInto}
+use Rattle.history.specs.Past.{beginning, past, StaleApart, StaleChanges}
 use Rattle.history.specs.Stale.{Change, unchanged, Given, after, given, turn}
 use Rattle.history.specs.Examples.{writeBlock}
 
@@ -109,12 +111,16 @@ pub record ByteForByte (s : Drive) (l : Log) (x y : ℕ) : Type 0 where
   pub medium : final (given (older l y (λ i. unchanged)) s) s .medium ≡ final (given (newer l x (λ i. unchanged)) s) s .medium
   pub pending : final (given (older l y (λ i. unchanged)) s) s .pending ≡ final (given (newer l x (λ i. unchanged)) s) s .pending
 
+-- the newer controller's first three commands: five sectors, then thirteen, of which two are pending
+abbrev pub early : Log → ℕ → (ℕ → Change) → List Given
+early l x j = after (j 0) (writing 0 5 (firstFive l)) ∷ after (j 1) (asking x) ∷ after (j 2) (writing 5 13 (nextThirteen l)) ∷ []
+
 -- the block that the second WRITE completed, after it and at the end
 abbrev pub BlockStays : Drive → Log → ℕ → (ℕ → Change) → Type 0
 BlockStays s l x j =
     (i : ℕ) → i < 32768
     → getD (final (given (newer l x j) s) s .medium) i 0
-    ≡ getD (final (given (after (j 0) (writing 0 5 (firstFive l)) ∷ after (j 1) (asking x) ∷ after (j 2) (writing 5 13 (nextThirteen l)) ∷ []) s) s .medium) i 0
+    ≡ getD (final (given (early l x j) s) s .medium) i 0
 
 -- behind RESERVE 33, so in a fragment of 48 sectors: WRITE 0 of 49 does not fit, WRITE 0 of 48 does; each in two parts
 abbrev pub reserving : Request
@@ -156,6 +162,28 @@ pub record Read (s : Drive) (l : Log) (x : ℕ) (j : ℕ → Change) : Type 0 wh
   pub zeroSectors : account 1 (given (newer l x j) s) s .zeroFilled ≡ 14
   pub pendingSectors : account 1 (given (newer l x j) s) s .pending ≡ 0
 
+-- the same log by its requests: READ 0 of 16 and READ 16 of 16 behind the flush
+pub record Requested (s : Drive) (l : Log) (x : ℕ) (j : ℕ → Change) : Type 0 where
+  -- sector 7 is the one that the second WRITE brought there, and nobody brought anything to sector 20
+  pub brought : sectorAt 7 (getD (replies (given (newer l x j ++ (after (j 5) (reading 0 x) ∷ [])) s) s) 5 []) ≡ sectorAt 2 (nextThirteen l)
+  pub none : sectorAt 4 (getD (replies (given (newer l x j ++ (after (j 5) (reading 16 x) ∷ [])) s) s) 5 []) ≡ zeros 2048
+  -- nobody brings a second sector to an address
+  pub once : length (broughtTo 7 (writes (given (newer l x j) s) s)) ≤ 1
+  -- 18 sectors lie in the fragment as it is listed; the account has as many
+  pub listed : broughtInto (extentOf (final (given (newer l x j) s) s .disc) 1) (writes (given (newer l x j) s) s) ≡ 18
+  pub counted : broughtInto (extentOf (final (given (newer l x j) s) s .disc) 1) (writes (given (newer l x j) s) s) ≡ account 1 (given (newer l x j) s) s .accepted
+  -- before the flush two sectors are held; behind it block 1 is recorded, block 2 is not, and none is held
+  pub held : past (given (early l x j) s) s .held ≡ 2
+  pub flushed : past (given (newer l x j) s) s .recorded 1 ≡ true
+  pub behind : past (given (newer l x j) s) s .recorded 2 ≡ false
+  pub settled : past (given (newer l x j) s) s .held ≡ 0
+  -- what came from outside was stale bytes alone, and every sequence of which that is so is covered
+  pub outside : StaleChanges (given (newer l x j) s) s beginning
+  pub covered : (ts : List Turn) → StaleChanges ts s beginning → Admissible ts s
+  -- a drive is alike at the end exactly when it differs in stale bytes at most
+  pub apart : (e : Drive) → Alike (final (given (newer l x j) s) s) e → StaleApart (past (given (newer l x j) s) s) (final (given (newer l x j) s) s) e
+  pub alike : (e : Drive) → StaleApart (past (given (newer l x j) s) s) (final (given (newer l x j) s) s) e → Alike (final (given (newer l x j) s) s) e
+
 -- for every flash, log, reply buffers and changes
 pub record Cases : Type 0 where
   pub controllers : (f g : Flash) (l : Log) (x y : ℕ) (j k : ℕ → Change) → TwoControllers (blankOver f) (blankOver g) l x y j k
@@ -164,3 +192,4 @@ pub record Cases : Type 0 where
   pub fitting :
       (f : Flash) (x y z : List ℕ) → length x ≡ 81920 → length y ≡ 18432 → length z ≡ 16384 → (j : ℕ → Change) → Fitting (blankOver f) x y z j
   pub reader : (f : Flash) (l : Log) (x : ℕ) (j : ℕ → Change) → Read (blankOver f) l x j
+  pub requested : (f : Flash) (l : Log) (x : ℕ) (j : ℕ → Change) → Requested (blankOver f) l x j

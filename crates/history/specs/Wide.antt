@@ -6,11 +6,12 @@ use mathlib.Core.Path.{_≡_}
 use mathlib.Core.List.{List, [], _∷_, _++_, map}
 use lib.Dec.{eqb, leb}
 use lib.ListN.{length, getD, take, drop}
+use Rattle.disc.specs.Address.{lba}
 use Rattle.disc.specs.Blank.{inRange, blank}
 use Rattle.disc.specs.Command.{decode}
 use Rattle.disc.specs.Reports.{low, high, bytes32}
 use Rattle.drive.specs.Bytes.{zeros}
-use Rattle.drive.specs.Step.{Drive, drive, Request, request}
+use Rattle.drive.specs.Step.{Drive, drive, Request, request, step}
 use Rattle.drive.specs.Alike.{recordedByte}
 use Rattle.drive.specs.Requests.{WriteOf}
 use Rattle.history.specs.Types.{Lba, Answer, Accepted, Link, Drive as byDrive, Command, TestUnitReady, RequestSense, ReadCapacity, Read, Write, SynchronizeCache, ReserveTrack, CloseTrackSession, ReadDiscInformation, ReadTrackInformation, Unlisted}
@@ -93,6 +94,8 @@ pub record Wide : Type 0 where
   pub again :
       (cuts : List (List ℕ)) (gs hs : List Given) (s e : Drive) → map (λ (h : Given). h .request) hs ≡ second cuts gs s
       → Again s (given gs s) (given hs e)
+  -- WRITEs of any length are accepted on a start of any capacity, so there is something to cut
+  pub accepted : (c : ℕ) (s : Drive) → Start c s → (q : Request) (n : ℕ) → WriteOf q (lba 0) n → n ≤ 16 * c → step s q .answer ≡ Accepted
   -- an accepted WRITE is then in as many parts as there are lengths
   pub parts :
       (q : Request) (a : Lba) (n : ℕ) (ks : List ℕ) → WriteOf q a n → 2 ≤ length ks → total ks ≡ n → nameable ks ≡ true → a .0 + n ≤ 0x100000000

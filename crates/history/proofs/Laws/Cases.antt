@@ -1,7 +1,7 @@
 -- The cases, each from a statement and not from its proof: whoever weakens `Demand3`, `KeptAccount` or a word that they use loses one.
 use Prim.Native.Nat.{ℕ, _+_, _*_, _/_, _≤_, _<_}
 use mathlib.Core.Path.{_≡_, refl, sym, ap, _∙_, subst}
-use mathlib.Core.Bool.{true}
+use mathlib.Core.Bool.{true, false}
 use mathlib.Core.Logic.{_⊎_, inl, inr}
 use mathlib.Core.List.{List, [], _∷_, _++_}
 use native.Mathlib.Omega.{arith}
@@ -33,13 +33,17 @@ use Rattle.history.specs.Cut.{Parts, none, part, CutOf, SameCommand, Aga
 use Rattle.history.specs.Demand.{Demand3}
 use Rattle.history.specs.Account.{Account, opened, extentOf, sectorAt, written, flushed, credited, noted, account, contentAt, recordedAt}
 use Rattle.history.specs.Kept.{Keeps, KeptAccount}
+use Rattle.history.specs.Brought.{Written, writeOf, acceptedWrite, writes, broughtTo, sole, ReadBack, broughtInto, ListedKeeps, KeptAsListed}
+use Rattle.history.specs.Past.{RecordedByHistory}
 use Rattle.history.specs.Stale.{Change, unchanged, Given, after, turn, given}
 use Rattle.history.specs.Examples.{writeBlock}
 use Rattle.history.specs.Witness.{Shape, shape, discAfter}
-use Rattle.history.specs.Cases.{answers, replies, counts, Flash, blankOver, Log, firstFive, nextThirteen, writing, asking, reading, flushing, newer, older, TwoControllers, ByteForByte, BlockStays, reserving, inTwo, Fitting, Read, Cases}
+use Rattle.history.specs.Cases.{answers, replies, counts, Flash, blankOver, Log, firstFive, nextThirteen, writing, asking, reading, flushing, newer, older, early, TwoControllers, ByteForByte, BlockStays, reserving, inTwo, Fitting, Read, Requested, Cases}
 use Rattle.history.proofs.Laws.Parts.{write-request}
 use Rattle.history.proofs.Laws.Demand.{demand-3}
 use Rattle.history.proofs.Laws.Kept.{kept-account}
+use Rattle.history.proofs.Laws.ReadBack.{read-back, kept-as-listed}
+use Rattle.history.proofs.Laws.Recalled.{recorded-by-history}
 use Rattle.history.proofs.Laws.Stale.{turn-alike, given-admissible, given-undisturbed}
 use Rattle.history.proofs.Laws.Decided.{decisions, accountBy, shapes, known-answers, known-disc, known-content, known-recorded}
 
@@ -102,9 +106,6 @@ newerShapes =
 
 abbrev earlyShapes : List Shape
 earlyShapes = shape (writeBlock 0 5) 10240 0 ∷ shape (asking 0 .block) 0 36 ∷ shape (writeBlock 5 13) 26624 0 ∷ []
-
-abbrev early : Log → ℕ → (ℕ → Change) → List Given
-early l x j = after (j 0) (writing 0 5 (firstFive l)) ∷ after (j 1) (asking x) ∷ after (j 2) (writing 5 13 (nextThirteen l)) ∷ []
 
 newer-shapes : (s : Drive) (l : Log) (x : ℕ) (j : ℕ → Change) → shapes (given (newer l x j) s) ≡ newerShapes
 unfolding given
@@ -373,23 +374,31 @@ fits demand f x y z a b c j =
     }
 
 -- what the history says of the newer controller's log, computed: where an address lies, and what stands there
-abbrev lateShapes : List Shape
-lateShapes = newerShapes ++ (shape (reading 16 0 .block) 0 32768 ∷ [])
+abbrev lateShapes : ℕ → List Shape
+lateShapes a = newerShapes ++ (shape (reading a 0 .block) 0 32768 ∷ [])
 
-abbrev late : Log → ℕ → (ℕ → Change) → List Given
-late l x j = newer l x j ++ (after (j 5) (reading 16 x) ∷ [])
+abbrev late : ℕ → Log → ℕ → (ℕ → Change) → List Given
+late a l x j = newer l x j ++ (after (j 5) (reading a x) ∷ [])
 
-decided-late : decisions lateShapes (blank 256) ≡ replicate 6 Accepted
+decided-late : (decisions (lateShapes 0) (blank 256) ≡ replicate 6 Accepted) × (decisions (lateShapes 16) (blank 256) ≡ replicate 6 Accepted)
 unfolding decisions decode listed some every find sumRecorded usedFirst firstAtZero followsFrom inOrder endsWithin recordedWithin zeroedWithin incompleteLast tailLast tailOrFull pendingNamed finalizedComplete sound allowedState isRefusalSense allowedSense blank dataLength replyRoom lengthsFit accepted accept refuse flush flushPlan synchronizeCache allReadable read flushOthers flushOthersPlan gather writeTo writeFound write nextWritableOrZero freeSectors trackInformation trackReport trackFound trackNumbered readTrackInformation perform judgeCommand judge
-decided-late = refl
+decided-late = (refl, refl)
 
-late-shapes : (s : Drive) (l : Log) (x : ℕ) (j : ℕ → Change) → shapes (given (late l x j) s) ≡ lateShapes
+late-shapes : (s : Drive) (a : ℕ) (l : Log) (x : ℕ) (j : ℕ → Change) → shapes (given (late a l x j) s) ≡ lateShapes a
 unfolding given
-late-shapes s l x j =
+late-shapes s a l x j =
     λ i.
     shape (writeBlock 0 5) (five-length l i) 0 ∷ shape (asking 0 .block) 0 (length-replicate {A = ℕ} 36 x i)
     ∷ shape (writeBlock 5 13) (thirteen-length l i) 0 ∷ shape (reading 0 0 .block) 0 (length-replicate {A = ℕ} 32768 x i)
-    ∷ shape (flushing .block) 0 0 ∷ shape (reading 16 0 .block) 0 (length-replicate {A = ℕ} 32768 x i) ∷ []
+    ∷ shape (flushing .block) 0 0 ∷ shape (reading a 0 .block) 0 (length-replicate {A = ℕ} 32768 x i) ∷ []
+
+late-answers :
+    (f : Flash) (a : ℕ) (l : Log) (x : ℕ) (j : ℕ → Change) → decisions (lateShapes a) (blank 256) ≡ replicate 6 Accepted
+    → getD (answers (given (late a l x j) (blankOver f)) (blankOver f)) 5 Accepted ≡ Accepted
+late-answers f a l x j e =
+    let s = blankOver f in
+    let known = known-answers 256 s (flash-start f) (given (late a l x j) s) (given-admissible (late a l x j) s) (lateShapes a) (late-shapes s a l x j) in
+    ap (λ (r : List Answer). getD r 5 Accepted) (known ∙ e)
 
 early-places : (atAddress (discAfter earlyShapes (blank 256)) (lba 3) ≡ Number 1) × (atAddress (discAfter earlyShapes (blank 256)) (lba 7) ≡ Number 1)
 unfolding discAfter decode listed some every find sumRecorded usedFirst firstAtZero followsFrom inOrder endsWithin recordedWithin zeroedWithin incompleteLast tailLast tailOrFull pendingNamed finalizedComplete sound allowedState isRefusalSense allowedSense blank dataLength replyRoom lengthsFit accepted accept refuse flush flushPlan synchronizeCache allReadable read flushOthers flushOthersPlan gather writeTo writeFound write nextWritableOrZero freeSectors trackInformation trackReport trackFound trackNumbered readTrackInformation perform judgeCommand judge
@@ -431,6 +440,12 @@ newer-figures :
 unfolding discAfter decode listed some every find sumRecorded usedFirst firstAtZero followsFrom inOrder endsWithin recordedWithin zeroedWithin incompleteLast tailLast tailOrFull pendingNamed finalizedComplete sound allowedState isRefusalSense allowedSense blank dataLength replyRoom lengthsFit accepted accept refuse flush flushPlan synchronizeCache allReadable read flushOthers flushOthersPlan gather writeTo writeFound write nextWritableOrZero freeSectors trackInformation trackReport trackFound trackNumbered readTrackInformation perform judgeCommand judge
 newer-figures = (refl, refl, refl)
 
+pending-figures :
+    (discAfter earlyShapes (blank 256) .pending ≡ 2) × (discAfter newerShapes (blank 256) .pending ≡ 0)
+    × (readable (discAfter newerShapes (blank 256)) (lba 32) ≡ false)
+unfolding discAfter decode listed some every find sumRecorded usedFirst firstAtZero followsFrom inOrder endsWithin recordedWithin zeroedWithin incompleteLast tailLast tailOrFull pendingNamed finalizedComplete sound allowedState isRefusalSense allowedSense blank dataLength replyRoom lengthsFit accepted accept refuse flush flushPlan synchronizeCache allReadable read flushOthers flushOthersPlan gather writeTo writeFound write nextWritableOrZero freeSectors trackInformation trackReport trackFound trackNumbered readTrackInformation perform judgeCommand judge
+pending-figures = (refl, refl, refl)
+
 -- L2 and L3 are neither L1 nor L4
 abbrev OwnLength : LinkRefusal → Type 0
 OwnLength q = (q ≡ CommandBlockLength) ⊎ (q ≡ TransferLength)
@@ -466,11 +481,6 @@ module _ (kept : KeptAccount) (f : Flash) (l : Log) (x : ℕ) (j : ℕ → Chang
   log-admissible : Admissible logTurns disc₀
   log-admissible = given-admissible (newer l x j) disc₀
 
-  late-answers : answers (given (late l x j) disc₀) disc₀ ≡ replicate 6 Accepted
-  late-answers =
-      known-answers 256 disc₀ start₀ (given (late l x j) disc₀) (given-admissible (late l x j) disc₀) lateShapes (late-shapes disc₀ l x j)
-      ∙ decided-late
-
   read-early :
       (a : ℕ) → a < 16 → sectorAt a (getD (replies logTurns disc₀) 3 []) ≡ contentAt earlyTurns disc₀ (0 + a)
   unfolding given final answers replies decode
@@ -480,11 +490,11 @@ module _ (kept : KeptAccount) (f : Flash) (l : Log) (x : ℕ) (j : ℕ → Chang
       (newer-answer disc₀ start₀ l x j 3) a h
 
   read-late :
-      (a : ℕ) → a < 16 → sectorAt a (getD (replies (given (late l x j) disc₀) disc₀) 5 []) ≡ contentAt logTurns disc₀ (16 + a)
+      (a : ℕ) → a < 16 → sectorAt a (getD (replies (given (late 16 l x j) disc₀) disc₀) 5 []) ≡ contentAt logTurns disc₀ (16 + a)
   unfolding given final answers replies decode
   read-late a h =
       kept .back 256 disc₀ start₀ logTurns log-admissible (turn (after (j 5) (reading 16 x)) logEnd) (turn-alike (after (j 5) (reading 16 x)) logEnd) (lba 16) 16 refl
-      (ap (λ (r : List Answer). getD r 5 Accepted) late-answers) a h
+      (late-answers f 16 l x j (decided-late .1)) a h
 
   early-known : (a : ℕ) → atAddress (discAfter earlyShapes (blank 256)) (lba a) ≡ Number 1 → contentAt earlyTurns disc₀ a ≡ earlyAccount disc₀ l x j .content a
   early-known a e = known-content 256 disc₀ start₀ earlyTurns early-admissible earlyShapes (early-shapes disc₀ l x j) a 1 e
@@ -538,16 +548,103 @@ module _ (kept : KeptAccount) (f : Flash) (l : Log) (x : ℕ) (j : ℕ → Chang
         pendingSectors = k .pending ∙ c .2;
       }
 
+-- the same by requests
+module _ (back : ReadBack) (count : KeptAsListed) (history : RecordedByHistory) (f : Flash) (l : Log) (x : ℕ) (j : ℕ → Change) where
+  abbrev disc₁ : Drive
+  disc₁ = blankOver f
+
+  abbrev start₁ : Start 256 disc₁
+  start₁ = flash-start f
+
+  abbrev turns₁ : List Turn
+  turns₁ = given (newer l x j) disc₁
+
+  abbrev end₁ : Drive
+  end₁ = final turns₁ disc₁
+
+  admissible₁ : Admissible turns₁ disc₁
+  admissible₁ = given-admissible (newer l x j) disc₁
+
+  -- the sequence around the second WRITE
+  abbrev front₁ : List Given
+  front₁ = after (j 0) (writing 0 5 (firstFive l)) ∷ after (j 1) (asking x) ∷ []
+
+  abbrev write₁ : Given
+  write₁ = after (j 2) (writing 5 13 (nextThirteen l))
+
+  brought₁ : sectorAt 7 (getD (replies (given (newer l x j ++ (after (j 5) (reading 0 x) ∷ [])) disc₁) disc₁) 5 []) ≡ sectorAt 2 (nextThirteen l)
+  unfolding given final answers replies decode
+  brought₁ =
+      let ts = given front₁ disc₁ in
+      let w = turn write₁ (final ts disc₁) in
+      let us = given (after (j 3) (reading 0 x) ∷ after (j 4) flushing ∷ []) (result w (final ts disc₁) .after) in
+      back .later 256 disc₁ start₁ ts w us admissible₁ (lba 5) 13 refl (newer-answer disc₁ start₁ l x j 2)
+      (turn (after (j 5) (reading 0 x)) end₁) (turn-alike (after (j 5) (reading 0 x)) end₁) (lba 0) 16 refl
+      (late-answers f 0 l x j (decided-late .0)) 2 7 (omega arith) (omega arith) refl
+
+  none₁ : sectorAt 4 (getD (replies (given (late 16 l x j) disc₁) disc₁) 5 []) ≡ zeros 2048
+  unfolding given final answers replies decode writes acceptedWrite writeOf broughtTo sole
+  none₁ =
+      back .back 256 disc₁ start₁ turns₁ admissible₁ (turn (after (j 5) (reading 16 x)) end₁) (turn-alike (after (j 5) (reading 16 x)) end₁) (lba 16) 16 refl
+      (late-answers f 16 l x j (decided-late .1)) 4 (omega arith)
+      ∙ ap (λ (r : List Answer). sole (broughtTo 20 (bring (getD r 0 Accepted) (getD r 1 Accepted) (getD r 2 Accepted) (getD r 3 Accepted) (getD r 4 Accepted))))
+      (newer-answers disc₁ start₁ l x j)
+    where
+      bring : Answer → Answer → Answer → Answer → Answer → List Written
+      bring a b c d e =
+          acceptedWrite a (writing 0 5 (firstFive l)) ++ (acceptedWrite b (asking x) ++ (acceptedWrite c (writing 5 13 (nextThirteen l))
+          ++ (acceptedWrite d (reading 0 x) ++ (acceptedWrite e flushing ++ []))))
+
+  last-disc : end₁ .disc ≡ discAfter newerShapes (blank 256)
+  last-disc = known-disc 256 disc₁ start₁ turns₁ admissible₁ newerShapes (newer-shapes disc₁ l x j)
+
+  early-disc : final (given (early l x j) disc₁) disc₁ .disc ≡ discAfter earlyShapes (blank 256)
+  early-disc = known-disc 256 disc₁ start₁ (given (early l x j) disc₁) (given-admissible (early l x j) disc₁) earlyShapes (early-shapes disc₁ l x j)
+
+  listed₁ : ListedKeeps (writes turns₁ disc₁) (discAfter newerShapes (blank 256)) 1
+  listed₁ =
+      subst (λ (d : Disc). ListedKeeps (writes turns₁ disc₁) d 1) last-disc (count .keeps 256 disc₁ start₁ turns₁ admissible₁ 1 (omega arith))
+
+  requested : Requested disc₁ l x j
+  requested =
+      let k = listed₁ in
+      let c = newer-figures in
+      record {
+        brought = brought₁;
+        none = none₁;
+        once = back .once 256 disc₁ start₁ turns₁ admissible₁ 7;
+        listed =
+            ap (λ (d : Disc). broughtInto (extentOf d 1) (writes turns₁ disc₁)) last-disc
+            ∙ omega (arith, k .kept, k .within, c .0, c .1, c .2);
+        counted = sym (count .accepted 256 disc₁ start₁ turns₁ admissible₁ 1 (omega arith));
+        held =
+            sym (history .pending 256 disc₁ start₁ (given (early l x j) disc₁) (given-admissible (early l x j) disc₁))
+            ∙ (ap (λ (d : Disc). d .pending) early-disc ∙ pending-figures .0);
+        flushed =
+            sym (history .recorded 256 disc₁ start₁ turns₁ admissible₁ 16)
+            ∙ (ap (λ (d : Disc). readable d (lba 16)) last-disc ∙ tail-readable (discAfter newerShapes (blank 256)) 2 14 16 newer-list (omega arith));
+        behind =
+            sym (history .recorded 256 disc₁ start₁ turns₁ admissible₁ 32)
+            ∙ (ap (λ (d : Disc). readable d (lba 32)) last-disc ∙ pending-figures .2);
+        settled =
+            sym (history .pending 256 disc₁ start₁ turns₁ admissible₁) ∙ (ap (λ (d : Disc). d .pending) last-disc ∙ pending-figures .1);
+        outside = history .stale 256 disc₁ start₁ turns₁ admissible₁;
+        covered = history .admissible 256 disc₁ start₁;
+        apart = history .apart 256 disc₁ start₁ turns₁ admissible₁;
+        alike = history .alike 256 disc₁ start₁ turns₁ admissible₁;
+      }
+
 -- all of them
-pub drawn : Demand3 → KeptAccount → Cases
-drawn demand kept =
+pub drawn : Demand3 → KeptAccount → ReadBack → KeptAsListed → RecordedByHistory → Cases
+drawn demand kept back count history =
     record {
       controllers = two-controllers demand;
       exactly = byte-for-byte demand;
       stays = block-stays demand;
       fitting = fits demand;
       reader = reads kept;
+      requested = requested back count history;
     }
 
 pub cases : Cases
-cases = drawn demand-3 kept-account
+cases = drawn demand-3 kept-account read-back kept-as-listed recorded-by-history

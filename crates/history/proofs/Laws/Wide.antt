@@ -1,28 +1,36 @@
 -- Wide witnesses: admissible sequences of any requests over any stale bytes, and the same again with accepted WRITEs cut in any way.
-use Prim.Native.Nat.{ℕ, suc, _+_, _*_, _/_, _%_, _≤_, _<_}
+use Prim.Native.Nat.{ℕ, suc, _+_, _-_, _*_, _/_, _%_, _≤_, _<_}
 use mathlib.Core.Path.{_≡_, refl, sym, ap, _∙_, subst}
 use mathlib.Core.Bool.{Bool, true, false, _&&_}
 use mathlib.Core.Logic.{_⊎_, inl, inr}
 use mathlib.Core.List.{List, [], _∷_, _++_, map}
 use native.Mathlib.Omega.{arith}
-use borrow.Author.Tests.{eq-eqb, eqb-true, le-leb, leb-true, le-ltb}
+use borrow.Author.Tests.{eq-eqb, ne-eqb, eqb-true, le-leb, leb-true, le-ltb}
 use lib.Dec.{eqb, leb}
 use lib.ListN.{length, getD, take, drop, length-drop, take-append-drop}
 use lib.Seq.{length-take-le}
 use Rattle.disc.specs.Address.{lba}
+use Rattle.disc.specs.Blank.{inRange, blank}
 use Rattle.disc.specs.Command.{decode}
 use Rattle.disc.specs.Reports.{low, high}
+use Rattle.disc.specs.Write.{write}
+use Rattle.disc.proofs.Laws.Accepts.{Takes, takes-accepted}
+use Rattle.disc.proofs.Laws.Blank.{range-least, blank-allowed, blank-capacity}
+use Rattle.disc.proofs.Laws.Judge.{allowed-ready}
+use Rattle.disc.proofs.Laws.Rules.{sound-rules}
 use Rattle.disc.proofs.Laws.Bool.{and-left, and-right, and-both, by-cases, cond-yes, cond-no}
 use Rattle.drive.specs.Bytes.{zeros}
-use Rattle.drive.specs.Step.{Drive, Request, request}
+use Rattle.drive.specs.Step.{Drive, Request, request, carriedOut, step}
 use Rattle.drive.specs.Alike.{recordedByte}
 use Rattle.drive.specs.Requests.{WriteOf}
 use Rattle.drive.proofs.Laws.Bytes.{length-zeros}
-use Rattle.history.specs.Types.{Lba, Answer, Accepted, Link, Drive as byDrive, Command, TestUnitReady, RequestSense, ReadCapacity, Read, Write, SynchronizeCache, ReserveTrack, CloseTrackSession, ReadDiscInformation, ReadTrackInformation, Unlisted}
-use Rattle.history.specs.Sequence.{Turn, result, final, requests}
+use Rattle.drive.proofs.Laws.Cut.{write-verdict}
+use Rattle.history.specs.Types.{Lba, Disc, Verdict, Answer, Accepted, Link, Drive as byDrive, Command, TestUnitReady, RequestSense, ReadCapacity, Read, Write, SynchronizeCache, ReserveTrack, CloseTrackSession, ReadDiscInformation, ReadTrackInformation, Unlisted}
+use Rattle.history.specs.Sequence.{Start, Turn, result, final, requests}
 use Rattle.history.specs.Cut.{Parts, none, part, CutOf, Again, ends, same, cut}
 use Rattle.history.specs.Stale.{pendingByte, Given, turn, given}
 use Rattle.history.specs.Wide.{filledBy, writeBytes, partsOf, total, nameable, isCut, recutCommand, recut, second, Wide}
+use Rattle.history.proofs.Laws.Served.{start-served}
 use Rattle.history.proofs.Laws.Stale.{length-stirred, stirred-stale, given-admissible, given-requests}
 
 -- a number by its four bytes
@@ -266,6 +274,27 @@ filled-byte f n i h =
     let here : 0 + i ≡ i = omega arith in
     stirred-stale (λ i. false) (λ i x. f i) 0 i (zeros n) refl (omega (arith, h, length-zeros n)) ∙ ap f here
 
+-- a blank disc takes a WRITE at 0 that fits
+blank-takes : (c n : ℕ) → inRange c ≡ true → n ≤ 16 * c → Takes (blank c) (lba 0) n
+unfolding blank
+blank-takes c n range fits =
+    let least = range-least c range in
+    let s = sound-rules (blank c) (allowed-ready (blank c) range (blank-allowed c range) .sound) in
+    record {
+      number = 1;
+      here = record { from = omega arith; listed = s .some; incomplete = ne-eqb 0 (c - 0) (λ z. omega (arith, z, least)); here = refl };
+      fits = omega (arith, fits);
+    }
+
+blank-accepted : (c : ℕ) (s : Drive) → Start c s → (q : Request) (n : ℕ) → WriteOf q (lba 0) n → n ≤ 16 * c → step s q .answer ≡ Accepted
+unfolding step carriedOut
+blank-accepted c s start q n w fits =
+    let range = start .range in
+    let taken : write (blank c) (lba 0) n .answer ≡ Accepted =
+    takes-accepted (blank c) (lba 0) n (allowed-ready (blank c) (ap inRange (blank-capacity c) ∙ range) (blank-allowed c range)) (blank-takes c n range fits) in
+    ap (λ (v : Verdict). v .answer) (write-verdict s q (lba 0) n w (start-served c s start))
+    ∙ (ap (λ (d : Disc). write d (lba 0) n .answer) (start .disc) ∙ taken)
+
 -- the theorem
 pub wide : Wide
 wide =
@@ -285,5 +314,6 @@ wide =
           stirred-stale (pendingByte s) (g .change .pending) 0 i (s .pending) (le-ltb (0 + i) (2048 * s .disc .pending) (omega (arith, t))) h
           ∙ ap (λ (k : ℕ). g .change .pending k (getD (s .pending) i 0)) here;
       again = again-given;
+      accepted = blank-accepted;
       parts = recut-parts;
     }

@@ -1,4 +1,4 @@
--- Whole sequences of commands. A reader starts at Demand, the statement.
+-- Whole sequences of commands. A reader starts at Demand, the statement, and goes on to Kept, Brought and Past; Cases has them at work.
 pub mod Types
 pub mod Sequence
 pub mod Cut

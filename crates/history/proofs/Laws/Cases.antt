@@ -38,7 +38,7 @@ use Rattle.history.specs.Past.{RecordedByHistory}
 use Rattle.history.specs.Stale.{Change, unchanged, Given, after, turn, given}
 use Rattle.history.specs.Examples.{writeBlock}
 use Rattle.history.specs.Witness.{Shape, shape, discAfter}
-use Rattle.history.specs.Cases.{answers, replies, counts, Flash, blankOver, Log, firstFive, nextThirteen, writing, asking, reading, flushing, newer, older, early, TwoControllers, ByteForByte, BlockStays, reserving, inTwo, Fitting, Read, Requested, Cases}
+use Rattle.history.specs.Cases.{answers, replies, counts, Flash, blankOver, Log, firstFive, nextThirteen, writing, asking, reading, flushing, newer, older, early, TwoControllers, ByteForByte, BlockStays, reserving, inTwo, Fitting, behindAll, Read, Requested, Cases}
 use Rattle.history.proofs.Laws.Parts.{write-request}
 use Rattle.history.proofs.Laws.Demand.{demand-3}
 use Rattle.history.proofs.Laws.Kept.{kept-account}
@@ -240,7 +240,7 @@ module _ (demand : Demand3) (f g : Flash) (l : Log) (x y : ℕ) (j k : ℕ → C
   newer-disc : final newTurns fresh .disc ≡ discAfter newerShapes (blank 256)
   newer-disc = known-disc 256 fresh (flash-start f) newTurns (given-admissible (newer l x j) fresh) newerShapes (newer-shapes fresh l x j)
 
-  two-controllers : TwoControllers fresh other l x y j k
+  two-controllers : TwoControllers newTurns fresh oldTurns other
   two-controllers =
       let a = both .1 in
       record {
@@ -272,7 +272,9 @@ unchanged-older s l x =
     (writing 0 2 (l .one) ∷ writing 2 1 (l .two) ∷ writing 3 2 (l .three) ∷ asking x ∷ writing 5 3 (l .four) ∷ writing 8 10 (l .five) ∷ reading 0 x
     ∷ flushing ∷ []) s
 
-byte-for-byte : Demand3 → (f : Flash) (l : Log) (x y : ℕ) → ByteForByte (blankOver f) l x y
+byte-for-byte :
+    Demand3 → (f : Flash) (l : Log) (x y : ℕ)
+    → ByteForByte (given (newer l x (λ i. unchanged)) (blankOver f)) (given (older l y (λ i. unchanged)) (blankOver f)) (blankOver f)
 byte-for-byte demand f l x y =
     let s = blankOver f in
     let none : ℕ → Change = λ i. unchanged in
@@ -288,7 +290,9 @@ newer-split :
 unfolding given final
 newer-split s l x j = refl
 
-block-stays : Demand3 → (f : Flash) (l : Log) (x : ℕ) (j : ℕ → Change) → BlockStays (blankOver f) l x j
+block-stays :
+    Demand3 → (f : Flash) (l : Log) (x : ℕ) (j : ℕ → Change)
+    → BlockStays (given (early l x j) (blankOver f)) (given (newer l x j) (blankOver f)) (blankOver f)
 block-stays demand f l x j i h =
     let s = blankOver f in
     let ts = given (early l x j) s in
@@ -490,7 +494,7 @@ module _ (kept : KeptAccount) (f : Flash) (l : Log) (x : ℕ) (j : ℕ → Chang
       (newer-answer disc₀ start₀ l x j 3) a h
 
   read-late :
-      (a : ℕ) → a < 16 → sectorAt a (getD (replies (given (late 16 l x j) disc₀) disc₀) 5 []) ≡ contentAt logTurns disc₀ (16 + a)
+      (a : ℕ) → a < 16 → sectorAt a (behindAll logTurns disc₀ (after (j 5) (reading 16 x)) .reply) ≡ contentAt logTurns disc₀ (16 + a)
   unfolding given final answers replies decode
   read-late a h =
       kept .back 256 disc₀ start₀ logTurns log-admissible (turn (after (j 5) (reading 16 x)) logEnd) (turn-alike (after (j 5) (reading 16 x)) logEnd) (lba 16) 16 refl
@@ -522,7 +526,7 @@ module _ (kept : KeptAccount) (f : Flash) (l : Log) (x : ℕ) (j : ℕ → Chang
       (known-disc 256 disc₀ start₀ logTurns log-admissible newerShapes (newer-shapes disc₀ l x j))
       (kept .keeps 256 disc₀ start₀ logTurns log-admissible 1 (omega arith))
 
-  reads : Read disc₀ l x j
+  reads : Read l x logTurns disc₀ (j 5)
   reads =
       let k = log-kept in
       let c = newer-figures in
@@ -535,9 +539,9 @@ module _ (kept : KeptAccount) (f : Flash) (l : Log) (x : ℕ) (j : ℕ → Chang
         padding = log-readable 31 (newer-places .2);
         behind = log-readable 32 (newer-places .3);
         accepted =
-            λ r e.
-            kept .readable 256 disc₀ start₀ logTurns log-admissible (turn (after (j 5) r) logEnd) (turn-alike (after (j 5) r) logEnd) (lba 16)
-            (subst (λ (q : Request). ReadOf q (lba 16) 1) (sym e) one-read) (log-recorded 16 (newer-places .4));
+            let r = request (0x28 ∷ 0 ∷ 0 ∷ 0 ∷ 0 ∷ 16 ∷ 0 ∷ 0 ∷ 1 ∷ 0 ∷ 0 ∷ 0 ∷ []) [] (replicate 2048 x) in
+            kept .readable 256 disc₀ start₀ logTurns log-admissible (turn (after (j 5) r) logEnd) (turn-alike (after (j 5) r) logEnd) (lba 16) one-read
+            (log-recorded 16 (newer-places .4));
         served =
             λ r q e.
             let w = kept .lengths 256 disc₀ start₀ logTurns log-admissible (turn (after (j 5) r) logEnd) (turn-alike (after (j 5) r) logEnd) q e in
@@ -572,7 +576,7 @@ module _ (back : ReadBack) (count : KeptAsListed) (history : RecordedByHistory) 
   abbrev write₁ : Given
   write₁ = after (j 2) (writing 5 13 (nextThirteen l))
 
-  brought₁ : sectorAt 7 (getD (replies (given (newer l x j ++ (after (j 5) (reading 0 x) ∷ [])) disc₁) disc₁) 5 []) ≡ sectorAt 2 (nextThirteen l)
+  brought₁ : sectorAt 7 (behindAll turns₁ disc₁ (after (j 5) (reading 0 x)) .reply) ≡ sectorAt 2 (nextThirteen l)
   unfolding given final answers replies decode
   brought₁ =
       let ts = given front₁ disc₁ in
@@ -582,7 +586,7 @@ module _ (back : ReadBack) (count : KeptAsListed) (history : RecordedByHistory) 
       (turn (after (j 5) (reading 0 x)) end₁) (turn-alike (after (j 5) (reading 0 x)) end₁) (lba 0) 16 refl
       (late-answers f 0 l x j (decided-late .0)) 2 7 (omega arith) (omega arith) refl
 
-  none₁ : sectorAt 4 (getD (replies (given (late 16 l x j) disc₁) disc₁) 5 []) ≡ zeros 2048
+  none₁ : sectorAt 4 (behindAll turns₁ disc₁ (after (j 5) (reading 16 x)) .reply) ≡ zeros 2048
   unfolding given final answers replies decode writes acceptedWrite writeOf broughtTo sole
   none₁ =
       back .back 256 disc₁ start₁ turns₁ admissible₁ (turn (after (j 5) (reading 16 x)) end₁) (turn-alike (after (j 5) (reading 16 x)) end₁) (lba 16) 16 refl
@@ -605,7 +609,7 @@ module _ (back : ReadBack) (count : KeptAsListed) (history : RecordedByHistory) 
   listed₁ =
       subst (λ (d : Disc). ListedKeeps (writes turns₁ disc₁) d 1) last-disc (count .keeps 256 disc₁ start₁ turns₁ admissible₁ 1 (omega arith))
 
-  requested : Requested disc₁ l x j
+  requested : Requested l x (given (early l x j) disc₁) turns₁ disc₁ (j 5)
   requested =
       let k = listed₁ in
       let c = newer-figures in

@@ -134,7 +134,7 @@ behindAll ts s g = result (turn g (final ts s)) (final ts s)
 
 -- what a reader finds of the log, in the newer controller's turns ts from the drive s on: READ 0 of 16 before the flush, and behind it READs
 -- after a change c
-pub record Read (l : Log) (x : ℕ) (ts : List Turn) (s : Drive) (c : Change) : Type 0 where
+pub record Reader (l : Log) (x : ℕ) (ts : List Turn) (s : Drive) (c : Change) : Type 0 where
   -- sectors 3 and 7 are sector 3 of the first WRITE and sector 2 of the second
   pub first : sectorAt 3 (getD (replies ts s) 3 []) ≡ sectorAt 3 (firstFive l)
   pub second : sectorAt 7 (getD (replies ts s) 3 []) ≡ sectorAt 2 (nextThirteen l)
@@ -191,7 +191,7 @@ pub record Cases : Type 0 where
       (f : Flash) (l : Log) (x : ℕ) (j : ℕ → Change) → BlockStays (given (early l x j) (blankOver f)) (given (newer l x j) (blankOver f)) (blankOver f)
   pub fitting :
       (f : Flash) (x y z : List ℕ) → length x ≡ 81920 → length y ≡ 18432 → length z ≡ 16384 → (j : ℕ → Change) → Fitting (blankOver f) x y z j
-  pub reader : (f : Flash) (l : Log) (x : ℕ) (j : ℕ → Change) → Read l x (given (newer l x j) (blankOver f)) (blankOver f) (j 5)
+  pub reader : (f : Flash) (l : Log) (x : ℕ) (j : ℕ → Change) → Reader l x (given (newer l x j) (blankOver f)) (blankOver f) (j 5)
   pub requested :
       (f : Flash) (l : Log) (x : ℕ) (j : ℕ → Change)
       → Requested l x (given (early l x j) (blankOver f)) (given (newer l x j) (blankOver f)) (blankOver f) (j 5)

@@ -38,7 +38,7 @@ use Rattle.history.specs.Past.{RecordedByHistory}
 use Rattle.history.specs.Stale.{Change, unchanged, Given, after, turn, given}
 use Rattle.history.specs.Examples.{writeBlock}
 use Rattle.history.specs.Witness.{Shape, shape, discAfter}
-use Rattle.history.specs.Cases.{answers, replies, counts, Flash, blankOver, Log, firstFive, nextThirteen, writing, asking, reading, flushing, newer, older, early, TwoControllers, ByteForByte, BlockStays, reserving, inTwo, Fitting, behindAll, Read, Requested, Cases}
+use Rattle.history.specs.Cases.{answers, replies, counts, Flash, blankOver, Log, firstFive, nextThirteen, writing, asking, reading, flushing, newer, older, early, TwoControllers, ByteForByte, BlockStays, reserving, inTwo, Fitting, behindAll, Reader, Requested, Cases}
 use Rattle.history.proofs.Laws.Parts.{write-request}
 use Rattle.history.proofs.Laws.Demand.{demand-3}
 use Rattle.history.proofs.Laws.Kept.{kept-account}
@@ -354,7 +354,9 @@ module _
         let r = final ts s in
         let t = turn (after (j 1) (writing 0 p (joined x y))) r in
         let gs = after (j 1) (writing 0 40 x) ∷ after (j 2) (writing 40 n y) ∷ [] in
-        let w = demand .whole 256 s start ts (given-admissible (after (j 0) reserving ∷ []) s) t (given gs r) (turn-alike (after (j 1) (writing 0 p (joined x y))) r) (given-admissible gs r) whole in (
+        let w =
+        demand .whole 256 s start ts (given-admissible (after (j 0) reserving ∷ []) s) t (given gs r)
+        (turn-alike (after (j 1) (writing 0 p (joined x y))) r) (given-admissible gs r) whole in (
           λ a b. (λ i. b i ∷ w .0 a .0 i ∷ w .0 a .1 .0 i ∷ []),
           λ a. w .1 (ap (λ (l : List Answer). getD l 1 Accepted) a, (ap (λ (l : List Answer). getD l 2 Accepted) a, tt)),
         )
@@ -526,7 +528,7 @@ module _ (kept : KeptAccount) (f : Flash) (l : Log) (x : ℕ) (j : ℕ → Chang
       (known-disc 256 disc₀ start₀ logTurns log-admissible newerShapes (newer-shapes disc₀ l x j))
       (kept .keeps 256 disc₀ start₀ logTurns log-admissible 1 (omega arith))
 
-  reads : Read l x logTurns disc₀ (j 5)
+  reads : Reader l x logTurns disc₀ (j 5)
   reads =
       let k = log-kept in
       let c = newer-figures in

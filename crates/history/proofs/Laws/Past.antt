@@ -294,7 +294,9 @@ module _ (d : Disc) (h : Past) (r : Ready d) (w : Recalls d h) where
         (λ e.
         let own = own-pending d j e in
         let here : a .0 ≡ h .next =
-        v .here ∙ (ap (λ (i : ℕ). 16 * (numbered d i .start .0 + numbered d i .recorded) + pendingIn d j) (sym e) ∙ (ap (λ (i : ℕ). 16 * pendingBlock d + i) own ∙ sym (w .next z))) in
+        v .here
+        ∙ (ap (λ (i : ℕ). 16 * (numbered d i .start .0 + numbered d i .recorded) + pendingIn d j) (sym e)
+        ∙ (ap (λ (i : ℕ). 16 * pendingBlock d + i) own ∙ sym (w .next z))) in
         subst (λ (g : Past). Meets g) (sym (cond-yes (eqb (a .0) (h .next)) h (pastFlushed h) (eq-eqb (a .0) (h .next) here)))
         (same-meets (own-plan e) (sym own)))
         (λ e.
@@ -455,12 +457,15 @@ module _ (d : Disc) (h : Past) (r : Ready d) (w : Recalls d h) where
         by-cases (extentOf d j .reserved)
         (λ t. recalled-as (accept d (flush d) noReply (plan (flushPlan d) Nothing)) (closed-filled j t) (recalled-accepted _ (flush d) noReply _ (tells-complete c)))
         (λ t.
-        recalled-as (accept d (flush d) noReply (plan (flushPlan d) Nothing)) (closed-flushed 0b001 j (no-second (eqb 0b001 0b001) (extentOf d j .reserved) t)) (recalled-flush (flush d) noReply))
+        recalled-as (accept d (flush d) noReply (plan (flushPlan d) Nothing))
+        (closed-flushed 0b001 j (no-second (eqb 0b001 0b001) (extentOf d j .reserved) t)) (recalled-flush (flush d) noReply))
 
     recalled-incomplete : (q : Kind) → closing .kind ≡ q → Recalled (closedPast 0b001 j) (closeIncomplete d (flush d) j q)
     unfolding closeIncomplete
     recalled-incomplete Reserved c =
-        recalled-as (accept d (withRecord (flush d) j (filledRecord closing)) noReply (plan (flushPlan d) (Fill (firstUnrecorded closing) (closing .length - closing .recorded))))
+        recalled-as
+        (accept d (withRecord (flush d) j (filledRecord closing)) noReply
+        (plan (flushPlan d) (Fill (firstUnrecorded closing) (closing .length - closing .recorded))))
         (closed-filled j (same-kind Reserved c)) (recalled-accepted _ _ noReply _ tells-fill)
     recalled-incomplete Appended c =
         recalled-as (accept d (appendTail (withRecord (flush d) j (shortenedRecord closing)) j) noReply (plan (flushPlan d) Nothing))

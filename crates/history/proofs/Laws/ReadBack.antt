@@ -148,7 +148,10 @@ read-back =
           let there = brought-there ts w us s a n i is accepted l in
           let most = subst (λ (y : List (List ℕ)). length y ≤ 1) there (traced c s start (ts ++ (w ∷ us)) h .once (a .0 + i)) in
           point-back c s start (ts ++ (w ∷ us)) h t alike b m e read j k
-          ∙ (ap (λ (x : ℕ). sole (broughtTo x ws)) (sym same) ∙ (ap sole there ∙ sole-of (broughtTo (a .0 + i) (writes ts s)) (sectorAt i (w .request .sectors)) (broughtTo (a .0 + i) (writes us (result w (final ts s) .after))) most));
+          ∙ (ap (λ (x : ℕ). sole (broughtTo x ws)) (sym same)
+          ∙ (ap sole there
+          ∙ sole-of (broughtTo (a .0 + i) (writes ts s)) (sectorAt i (w .request .sectors))
+          (broughtTo (a .0 + i) (writes us (result w (final ts s) .after))) most));
     }
 
 pub kept-as-listed : KeptAsListed

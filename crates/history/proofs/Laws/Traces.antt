@@ -148,7 +148,9 @@ traces-written d e ws n k a count x s one p f before after tr here =
     let covers : (i : ℕ) → i < count → among a count (b + c + i) ≡ true = λ i h. among-between a count (b + c + i) (omega (arith, here)) (omega (arith, here, h)) in
     traces-more d e ws (w ∷ []) n k (written a count x k) s one p f before after tr count (omega (arith, before, after))
     (λ i h. brought-none (b + i) w (λ from below. omega (arith, from, here, h)))
-    (λ i h. cond-no (among a count (b + i)) _ _ (by-cases (among a count (b + i)) (λ t. absurd (let from = among-from a count (b + i) t in omega (arith, from, here, h))) (λ t. t)))
+    (λ i h.
+    cond-no (among a count (b + i)) _ _
+    (by-cases (among a count (b + i)) (λ t. absurd (let from = among-from a count (b + i) t in omega (arith, from, here, h))) (λ t. t)))
     (λ i h. cond-yes (among a count (b + c + i)) _ _ (covers i h) ∙ ap sole (sym (brought-one (b + c + i) w (covers i h))))
     (omega (arith, count-each (b + c) count (w ∷ []) (λ i h. ap (length {A = List ℕ}) (brought-one (b + c + i) w (covers i h)))))
 
@@ -235,7 +237,9 @@ module _
         let total : taken e j ≡ taken d j + count = sym (after j own) ∙ size in
         let start : base e j ≡ base d j = ap (λ (y : ℕ). 16 * y) (p j own .start (λ z. omega (arith, z, total, some))) in
         let grows : (n : ℕ) → 1 ≤ n → taken d n ≤ taken e n =
-        λ n one. equal-cases n j (λ q. subst (λ (i : ℕ). taken d i ≤ taken e i) (sym q) (omega (arith, total))) (λ q. omega (arith, before n one, after n one, pads n one q .size)) in
+        λ n one.
+        equal-cases n j (λ q. subst (λ (i : ℕ). taken d i ≤ taken e i) (sym q) (omega (arith, total)))
+        (λ q. omega (arith, before n one, after n one, pads n one q .size)) in
         let new : (b : ℕ) → among (a .0) count b ≡ true → broughtTo b ws ≡ [] =
         λ b t.
         let from = among-from (a .0) count b t in

@@ -138,7 +138,8 @@ cut-of q a n ks is c =
       several = subst (λ (k : ℕ). 2 ≤ k) (sym (length-parts (a .0) ks (q .sectors))) (c .several);
       parts =
           subst (λ (k : ℕ). Parts a k (q .sectors) (partsOf (a .0) ks (q .sectors))) (c .whole)
-          (parts-of (a .0) ks (q .sectors) (c .named) (c .sectors ∙ ap (λ (k : ℕ). 2048 * k) (sym (c .whole))) (subst (λ (k : ℕ). a .0 + k ≤ 0x100000000) (sym (c .whole)) (c .near)));
+          (parts-of (a .0) ks (q .sectors) (c .named) (c .sectors ∙ ap (λ (k : ℕ). 2048 * k) (sym (c .whole)))
+          (subst (λ (k : ℕ). a .0 + k ≤ 0x100000000) (sym (c .whole)) (c .near)));
     }
 
 abbrev Recut : Request → List Request → Type 0

@@ -47,6 +47,31 @@ use Rattle.history.proofs.Laws.Recalled.{recorded-by-history}
 use Rattle.history.proofs.Laws.Stale.{turn-alike, given-admissible, given-undisturbed}
 use Rattle.history.proofs.Laws.Decided.{decisions, accountBy, shapes, known-answers, known-disc, known-content, known-recorded}
 
+-- there is flash, and there is a log, of any byte
+pub some-flash : ℕ → Flash
+some-flash x =
+    record {
+      medium = replicate 8388608 x;
+      pending = replicate 32768 x;
+      mediumLength = length-replicate {A = ℕ} 8388608 x;
+      pendingLength = length-replicate {A = ℕ} 32768 x;
+    }
+
+pub some-log : ℕ → Log
+some-log x =
+    record {
+      one = replicate 4096 x;
+      two = replicate 2048 x;
+      three = replicate 4096 x;
+      four = replicate 6144 x;
+      five = replicate 20480 x;
+      oneLength = length-replicate {A = ℕ} 4096 x;
+      twoLength = length-replicate {A = ℕ} 2048 x;
+      threeLength = length-replicate {A = ℕ} 4096 x;
+      fourLength = length-replicate {A = ℕ} 6144 x;
+      fiveLength = length-replicate {A = ℕ} 20480 x;
+    }
+
 -- any flash is a start
 flash-start : (f : Flash) → Start 256 (blankOver f)
 flash-start f = record { range = refl; disc = refl; medium = f .mediumLength; pending = f .pendingLength }

@@ -89,6 +89,18 @@ twoSessions = fragment 1 0 2 2 0 Appended ∷ fragment 1 3 2 2 12 Reserved ∷ f
 abbrev oneSession : List Fragment
 oneSession = fragment 1 0 2 2 0 Appended ∷ fragment 1 3 2 2 12 Reserved ∷ []
 
+abbrev threePending : List Fragment
+threePending = fragment 1 0 4 1 0 Reserved ∷ fragment 1 5 595 0 0 Appended ∷ []
+
+abbrev otherFlushed : List Fragment
+otherFlushed = fragment 1 0 4 2 13 Reserved ∷ fragment 1 5 595 0 0 Appended ∷ []
+
+abbrev bothFilled : List Fragment
+bothFilled = fragment 1 0 4 4 45 Reserved ∷ fragment 1 5 595 1 15 Appended ∷ []
+
+abbrev allComplete : List Fragment
+allComplete = fragment 1 0 4 4 45 Reserved ∷ fragment 1 5 1 1 15 Appended ∷ []
+
 abbrev ends171 : List Fragment
 ends171 = fragment 1 0 300 170 0 Appended ∷ []
 
@@ -158,6 +170,11 @@ firstRun =
     ∷ line (block (0x03 ∷ 0 ∷ 0 ∷ 0 ∷ 0x12 ∷ [])) 0 18 0 0 (0x70 ∷ 0 ∷ 0 ∷ 0 ∷ 0 ∷ 0 ∷ 0 ∷ 0x0A ∷ replicate 10 0) (sense 0 0 0) 5 5 tailOnly
     -- WRITE 5 of 27: 5 + 27 = 32 sectors are two blocks
     ∷ line (block (0x2A ∷ 0 ∷ 0 ∷ 0 ∷ 0 ∷ 5 ∷ 0 ∷ 0 ∷ 27 ∷ [])) 55296 0 0 2 [] (sense 0 0 0) 32 0 written
+    -- 52h number 1, written: 02h + 01h; next 32, free 9,600 - 32 = 9,568, last recorded 31
+    ∷ line (block (0x52 ∷ 1 ∷ 0 ∷ 0 ∷ 0 ∷ 1 ∷ 0 ∷ 0 ∷ 36 ∷ [])) 0 36 0 0
+    (0 ∷ 0x22 ∷ 1 ∷ 1 ∷ 0 ∷ 4 ∷ 1 ∷ 3 ∷ 0 ∷ 0 ∷ 0 ∷ 0 ∷ 0 ∷ 0 ∷ 0 ∷ 0x20 ∷ 0 ∷ 0 ∷ 0x25 ∷ 0x60
+    ∷ 0 ∷ 0 ∷ 0 ∷ 0x10 ∷ 0 ∷ 0 ∷ 0x25 ∷ 0x80 ∷ 0 ∷ 0 ∷ 0 ∷ 0x1F ∷ replicate 4 0)
+    (sense 0 0 0) 32 0 written
     -- 25h: the last of 32 sectors
     ∷ line (block (0x25 ∷ [])) 0 8 0 0 (0 ∷ 0 ∷ 0 ∷ 0x1F ∷ 0 ∷ 0 ∷ 8 ∷ 0 ∷ []) (sense 0 0 0) 32 0 written
     -- 5B/001 number 1: L = 2, and a tail at block 0 + 2 + 1
@@ -239,6 +256,21 @@ firstRun =
     -- 00h, and an opcode that is not listed
     ∷ line (block (0x00 ∷ [])) 0 0 0 0 [] (sense 0 0 0) 0 0 twoSessions
     ∷ line (block (0xFF ∷ [])) 0 0 0x052000 0 [] (sense 0x5 0x20 0x00) 0 0 twoSessions
+    ∷ []
+
+abbrev fillingRun : List Line
+fillingRun =
+    -- WRITE 80 of 1 to the tail: the 3 sectors pending in fragment 1 are flushed first, F = 13; one is pending in the tail
+    line (block (0x2A ∷ 0 ∷ 0 ∷ 0 ∷ 0 ∷ 0x50 ∷ 0 ∷ 0 ∷ 1 ∷ [])) 2048 0 0 1 [] (sense 0 0 0) 81 1 otherFlushed
+    -- 5B/001 number 1: the flush records a block of the tail, F = 15; then two blocks of fragment 1 become zeros, F = 13 + 32
+    ∷ line (block (0x5B ∷ 0 ∷ 1 ∷ 0 ∷ 0 ∷ 1 ∷ [])) 0 0 0 3 [] (sense 0 0 0) 96 0 bothFilled
+    -- 5B/001 again: it is complete, nothing is done
+    ∷ line (block (0x5B ∷ 0 ∷ 1 ∷ 0 ∷ 0 ∷ 1 ∷ [])) 0 0 0 0 [] (sense 0 0 0) 96 0 bothFilled
+    -- READ of its last sector and of the one behind it, in the dividing block
+    ∷ line (block (0x28 ∷ 0 ∷ 0 ∷ 0 ∷ 0 ∷ 0x3F ∷ 0 ∷ 0 ∷ 1 ∷ [])) 0 2048 0 0 [] (sense 0 0 0) 96 0 bothFilled
+    ∷ line (block (0x28 ∷ 0 ∷ 0 ∷ 0 ∷ 0 ∷ 0x40 ∷ 0 ∷ 0 ∷ 1 ∷ [])) 0 2048 0x080000 0 [] (sense 0x8 0x00 0x00) 96 0 bothFilled
+    -- 5B/110: the tail ends with its one block
+    ∷ line (block (0x5B ∷ 0 ∷ 6 ∷ [])) 0 0 0 0 [] (sense 0 0 0) 0 0 allComplete
     ∷ []
 
 abbrev emptySession : List Line
@@ -352,7 +384,8 @@ tooLargeRun =
 
 abbrev pub runs : List Run
 runs =
-    from (blank 600) firstRun ∷ from (state 600 false (sense 0 0 0) 0 0 nextSession) emptySession ∷ from (blank 600) onBlank
+    from (blank 600) firstRun ∷ from (state 600 false (sense 0 0 0) 3 1 threePending) fillingRun
+    ∷ from (state 600 false (sense 0 0 0) 0 0 nextSession) emptySession ∷ from (blank 600) onBlank
     ∷ from (state 256 false (sense 0 0 0) 0 0 (fullList 1)) fullRun ∷ from (state 256 false (sense 0 0 0) 0 0 droppedList) droppedRun
     ∷ from (state 300 false (sense 0 0 0) 15 1 ends171) upTo171 ∷ from (state 300 false (sense 0 0 0) 1 1 ends172) upTo172
     ∷ from (blank 143444) largestRun ∷ from (state 255 true (sense 0 0 0) 0 0 smallList) wrongAllRun

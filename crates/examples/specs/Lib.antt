@@ -2,4 +2,5 @@
 pub mod Types
 pub mod Shift
 pub mod States
+pub mod Tour
 pub mod Values

@@ -8,7 +8,17 @@ pub mod Account
 pub mod Recording
 pub mod Credit
 pub mod Kept
+pub mod Places
+pub mod Brought
+pub mod Traces
+pub mod ReadBack
+pub mod Past
+pub mod Recalled
 pub mod Examples
+pub mod Stale
+pub mod Decided
 pub mod Witness
 pub mod Useful
 pub mod Figures
+pub mod Cases
+pub mod Wide

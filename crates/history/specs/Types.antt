@@ -1,7 +1,7 @@
 -- The types of the layers below by their short names.
 pub use Rattle.fragments.specs.declared.address.Lba.{Lba}
 pub use Rattle.protocol.specs.declared.answer.LinkRefusal.{LinkRefusal}
-pub use Rattle.protocol.specs.declared.answer.LinkRefusal.the-variants.{CommandBlockLength, TransferLength}
+pub use Rattle.protocol.specs.declared.answer.LinkRefusal.the-variants.{CommandBlockLength, MediumSize, UnsoundState, TransferLength}
 pub use Rattle.protocol.specs.declared.answer.DriveRefusal.{DriveRefusal}
 pub use Rattle.protocol.specs.declared.answer.DriveRefusal.the-variants.{InvalidOperationCode, WriteProtected, InvalidFieldInCommand, AddressOutOfRange, BlankCheck, InvalidAddressForWrite, IncompleteTrackInSession, EmptyTrack, NoMoreReservations, EndOfUserArea}
 pub use Rattle.protocol.specs.declared.answer.Answer.{Answer}

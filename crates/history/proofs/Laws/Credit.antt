@@ -46,7 +46,7 @@ use Rattle.disc.proofs.Laws.Counts.{SameCounts, same-counts, counts-on, split-c
 
 -- the fragment that a WRITE goes to is the one that its address lies in
 module _ (d : Disc) (a : Lba) (j n : ℕ) (r : Ready d) (w : Writable d a j) where
-  covers-own : n ≡ j → among (extentOf d n .first) (extentOf d n .sectors) (a .0) ≡ true
+  pub covers-own : n ≡ j → among (extentOf d n .first) (extentOf d n .sectors) (a .0) ≡ true
   covers-own e =
       let s = sound-rules d (r .sound) in
       let room = incomplete-room d s (j - 1) (omega (arith, w .from, w .listed)) (w .incomplete) in
@@ -57,7 +57,7 @@ module _ (d : Disc) (a : Lba) (j n : ℕ) (r : Ready d) (w : Writable d a j) whe
       subst (λ (i : ℕ). among (extentOf d i .first) (extentOf d i .sectors) (a .0) ≡ true) (sym e)
       (among-between (x .first) (x .sectors) (a .0) from below)
 
-  covers-else : 1 ≤ n → (n ≡ j → ⊥) → among (extentOf d n .first) (extentOf d n .sectors) (a .0) ≡ false
+  pub covers-else : 1 ≤ n → (n ≡ j → ⊥) → among (extentOf d n .first) (extentOf d n .sectors) (a .0) ≡ false
   covers-else one other =
       let s = sound-rules d (r .sound) in
       let x = extentOf d n in

@@ -42,10 +42,10 @@ use Rattle.history.proofs.Laws.Regions.{region, unlisted-none}
 use Rattle.history.proofs.Laws.Account.{Holds, same-holds, sector-front}
 use Rattle.history.proofs.Laws.Credit.{noted-performed}
 
-abbrev HoldsOn : Drive → ℕ → Account → Type 0
+abbrev pub HoldsOn : Drive → ℕ → Account → Type 0
 HoldsOn s n k = Holds (s .disc) (s .medium) (s .pending) n k
 
-served-sound : (s : Drive) → Served s → Sound (s .disc)
+pub served-sound : (s : Drive) → Served s → Sound (s .disc)
 served-sound s w = sound-rules (s .disc) (allowed-ready (s .disc) (w .range) (w .allowed) .sound)
 
 -- one command, by its answer
@@ -64,7 +64,7 @@ module _ (s : Drive) (q : Request) (n : ℕ) (k : Account) (w : Served s) (one :
       (noted-performed d (s .medium) (s .pending) (q .sectors) n k (allowed-ready d (w .range) (w .allowed)) one (j .block)
       (lent-medium d l (length (s .pending)) (w .lends)) h c (sym (ap (λ (v : Verdict). v .answer) performed) ∙ e) (fits .flush) (fits .transfer))
 
-  answer-holds : (a : Answer) → step s q .answer ≡ a → HoldsOn (step s q .after) n (noted n (extentOf (s .disc) n) q a k)
+  pub answer-holds : (a : Answer) → step s q .answer ≡ a → HoldsOn (step s q .after) n (noted n (extentOf (s .disc) n) q a k)
   unfolding noted
   answer-holds Accepted e = accepted-holds e
   answer-holds (Link x) e = subst (λ (r : Result). HoldsOn (r .after) n k) (sym (step-link s q x e)) h
@@ -107,7 +107,7 @@ pending-alike s t n a =
     let none = cond-no (eqb (d .owner) n) (d .pending) 0 e in
     ap (λ (c : ℕ). take (2048 * c) (s .pending)) none ∙ sym (ap (λ (c : ℕ). take (2048 * c) (t .pending)) none))
 
-found-holds : (s : Drive) (t : Turn) (n : ℕ) (k : Account) → Served s → 1 ≤ n → Alike s (found t s) → HoldsOn s n k → HoldsOn (found t s) n k
+pub found-holds : (s : Drive) (t : Turn) (n : ℕ) (k : Account) → Served s → 1 ≤ n → Alike s (found t s) → HoldsOn s n k → HoldsOn (found t s) n k
 found-holds s t n k w one a h =
     record {
       recorded = h .recorded;
@@ -128,16 +128,16 @@ all-unused zero i = refl
 all-unused (suc k) zero = refl
 all-unused (suc k) (suc i) = all-unused k i
 
-blank-counts : (c i : ℕ) → (at (blank c) i .recorded ≡ 0) × (at (blank c) i .zeroed ≡ 0)
+pub blank-counts : (c i : ℕ) → (at (blank c) i .recorded ≡ 0) × (at (blank c) i .zeroed ≡ 0)
 unfolding blank
 blank-counts c zero = (refl, refl)
 blank-counts c (suc i) = let e = all-unused (limit - 1) i in (ap (λ (f : Fragment). f .recorded) e, ap (λ (f : Fragment). f .zeroed) e)
 
-blank-held : (c n : ℕ) → pendingIn (blank c) n ≡ 0
+pub blank-held : (c n : ℕ) → pendingIn (blank c) n ≡ 0
 unfolding blank
 blank-held c n = by-cases (eqb 0 n) (λ e. rw e) (λ e. rw e)
 
-start-holds : (c : ℕ) (s : Drive) → Start c s → (n : ℕ) → HoldsOn s n opened
+pub start-holds : (c : ℕ) (s : Drive) → Start c s → (n : ℕ) → HoldsOn s n opened
 start-holds c s start n =
     let b = blank-counts c (n - 1) in
     let p = blank-held c n in

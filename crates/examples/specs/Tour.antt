@@ -1,0 +1,407 @@
+-- What the shift never shows, as one table of runs: the reports after refusals, in later sessions and of every kind of fragment, the refusals
+-- of 5B/010 in order, the finalized disc, the largest C, and the link refusals in order. Each line has its own lengths of data and reply buffer,
+-- and what it must show was worked out by hand from document 01; `tour` says that the definitions give it.
+use Prim.Native.Nat.{ℕ, zero, suc, _+_, _-_}
+use mathlib.Core.Path.{_≡_, refl}
+use mathlib.Core.Bool.{Bool, true, false}
+use mathlib.Core.List.{List, [], _∷_, _++_, map}
+use lib.ListN.{length, replicate}
+use Rattle.protocol.specs.Answer.{sense, isRefusalSense, allowedSense}
+use Rattle.disc.specs.Blank.{blank}
+use Rattle.protocol.specs.Command.{decode}
+use Rattle.fragments.specs.Fragment.{fragment, unusedRecord}
+use Rattle.fragments.specs.List.{listed, some, every, find, sumRecorded, lastReadable, firstOfSession}
+use Rattle.disc.specs.Sound.{usedFirst, firstAtZero, followsFrom, inOrder, endsWithin, recordedWithin, zeroedWithin, incompleteLast, tailLast, tailOrFull, pendingNamed, finalizedComplete, sound, allowedState}
+use Rattle.protocol.specs.Lengths.{dataLength, replyRoom, lengthsFit}
+use Rattle.disc.specs.Verdict.{accepted, accept, refuse, refuseLink}
+use Rattle.disc.specs.Flush.{flush, flushPlan, synchronizeCache}
+use Rattle.disc.specs.Read.{allReadable, read}
+use Rattle.disc.specs.Write.{flushOthers, flushOthersPlan, gather, writeTo, writeFound, write}
+use Rattle.disc.specs.Reserve.{splitTail, reserve}
+use Rattle.disc.specs.Close.{appendTail, closeIncomplete, closeFragment, closeTail, openSession, closeSession, finalize, close}
+use Rattle.protocol.specs.Reports.{senseBytes, discBytes, trackBytes}
+use Rattle.disc.specs.Reports.{requestSense, readCapacity, sessionState, discStatus, readDiscInformation, nextWritableOrZero, freeSectors, trackVerdict, trackFound, trackNumbered, readTrackInformation}
+use Rattle.disc.specs.Judge.{testUnitReady, perform, judgeCommand, judge}
+use Rattle.examples.specs.Shift.{Shown, shown}
+use Rattle.examples.specs.Types.{Sense, Reserved, Appended, Fragment, Disc}
+
+-- a line: the command block, how long data and reply buffer are, and what it must show
+pub record Line : Type 0 where
+  pub command : List ℕ
+  pub sectors : ℕ
+  pub room : ℕ
+  pub expected : Shown
+
+-- the answer's number, the blocks recorded, the reply, the sense, the tail's next writable address or 0, the pending count, the list
+abbrev line : List ℕ → ℕ → ℕ → ℕ → ℕ → List ℕ → Sense → ℕ → ℕ → List Fragment → Line
+line b sectors room a n r s t p fs =
+    record {
+      command = b;
+      sectors = sectors;
+      room = room;
+      expected = record { answer = a; recorded = n; reply = r; sense = s; next = t; pending = p; list = fs };
+    }
+
+-- a run: the disc that it starts on, and its lines, each on what the last one left
+pub record Run : Type 0 where
+  pub disc : Disc
+  pub lines : List Line
+
+abbrev from : Disc → List Line → Run
+from d ls = record { disc = d; lines = ls }
+
+unfoldable pub played : Disc → List Line → List Shown
+played d [] = []
+played d (l ∷ ls) =
+    let v = judge d (l .command) (l .sectors) (l .room) in
+    shown v ∷ played (v .disc) ls
+
+-- a command block by its first bytes, zeros behind them
+abbrev block : List ℕ → List ℕ
+block b = b ++ replicate (12 - length b) 0
+
+-- a state by its records in use
+abbrev state : ℕ → Bool → Sense → ℕ → ℕ → List Fragment → Disc
+state c f s p o fs =
+    record { capacity = c; finalized = f; sense = s; pending = p; owner = o; fragments = fs ++ replicate (64 - length fs) unusedRecord }
+
+-- the lists
+abbrev tailOnly : List Fragment
+tailOnly = fragment 1 0 600 0 0 Appended ∷ []
+
+abbrev written : List Fragment
+written = fragment 1 0 600 2 0 Appended ∷ []
+
+abbrev closed : List Fragment
+closed = fragment 1 0 2 2 0 Appended ∷ fragment 1 3 597 0 0 Appended ∷ []
+
+abbrev reserved : List Fragment
+reserved = fragment 1 0 2 2 0 Appended ∷ fragment 1 3 2 0 0 Reserved ∷ fragment 1 6 594 0 0 Appended ∷ []
+
+abbrev halfReserved : List Fragment
+halfReserved = fragment 1 0 2 2 0 Appended ∷ fragment 1 3 2 1 0 Reserved ∷ fragment 1 6 594 0 0 Appended ∷ []
+
+abbrev nextSession : List Fragment
+nextSession = fragment 1 0 2 2 0 Appended ∷ fragment 1 3 2 2 12 Reserved ∷ fragment 2 133 467 0 0 Appended ∷ []
+
+abbrev twoSessions : List Fragment
+twoSessions = fragment 1 0 2 2 0 Appended ∷ fragment 1 3 2 2 12 Reserved ∷ fragment 2 133 1 1 15 Appended ∷ []
+
+abbrev oneSession : List Fragment
+oneSession = fragment 1 0 2 2 0 Appended ∷ fragment 1 3 2 2 12 Reserved ∷ []
+
+abbrev threePending : List Fragment
+threePending = fragment 1 0 4 1 0 Reserved ∷ fragment 1 5 595 0 0 Appended ∷ []
+
+abbrev otherFlushed : List Fragment
+otherFlushed = fragment 1 0 4 2 13 Reserved ∷ fragment 1 5 595 0 0 Appended ∷ []
+
+abbrev bothFilled : List Fragment
+bothFilled = fragment 1 0 4 4 45 Reserved ∷ fragment 1 5 595 1 15 Appended ∷ []
+
+abbrev allComplete : List Fragment
+allComplete = fragment 1 0 4 4 45 Reserved ∷ fragment 1 5 1 1 15 Appended ∷ []
+
+abbrev ends171 : List Fragment
+ends171 = fragment 1 0 300 170 0 Appended ∷ []
+
+abbrev opened299 : List Fragment
+opened299 = fragment 1 0 171 171 1 Appended ∷ fragment 2 299 1 0 0 Appended ∷ []
+
+abbrev ends172 : List Fragment
+ends172 = fragment 1 0 300 171 0 Appended ∷ []
+
+abbrev largest : List Fragment
+largest = fragment 1 0 143444 0 0 Appended ∷ []
+
+abbrev largestReserved : List Fragment
+largestReserved = fragment 1 0 143442 0 0 Reserved ∷ fragment 1 143443 1 0 0 Appended ∷ []
+
+abbrev smallList : List Fragment
+smallList = fragment 1 0 255 0 0 Appended ∷ []
+
+abbrev tooLarge : List Fragment
+tooLarge = fragment 1 0 143445 0 0 Appended ∷ []
+
+abbrev threeHundred : List Fragment
+threeHundred = fragment 1 0 300 0 0 Appended ∷ []
+
+-- n recorded fragments of one block, two blocks apart
+unfoldable pub singles : ℕ → ℕ → List Fragment
+singles zero b = []
+singles (suc n) b = fragment 1 b 1 1 0 Reserved ∷ singles n (b + 2)
+
+-- 64 records: the last one reserved, with w of its two blocks recorded; a blank tail; and session 2 in that tail's record
+abbrev fullList : ℕ → List Fragment
+fullList w = singles 63 0 ++ (fragment 1 126 2 w 0 Reserved ∷ [])
+
+abbrev droppedList : List Fragment
+droppedList = singles 63 0 ++ (fragment 1 126 130 0 0 Appended ∷ [])
+
+abbrev openedList : List Fragment
+openedList = singles 63 0 ++ (fragment 2 253 3 0 0 Appended ∷ [])
+
+-- the runs
+abbrev firstRun : List Line
+firstRun =
+    -- WRITE 0 of 5: five sectors pending, no block recorded
+    line (block (0x2A ∷ 0 ∷ 0 ∷ 0 ∷ 0 ∷ 0 ∷ 0 ∷ 0 ∷ 5 ∷ [])) 10240 0 0 0 [] (sense 0 0 0) 5 5 tailOnly
+    -- 51h: an incomplete session and disc, 4 x 1 + 1; sectors that are only pending make the tail no blank one
+    ∷ line (block (0x51 ∷ 0 ∷ 0 ∷ 0 ∷ 0 ∷ 0 ∷ 0 ∷ 0 ∷ 34 ∷ [])) 0 34 0 0
+    (0 ∷ 0x20 ∷ 5 ∷ 1 ∷ 1 ∷ 1 ∷ 1 ∷ replicate 27 0)
+    (sense 0 0 0) 5 5 tailOnly
+    -- 52h FFh, the tail: neither reserved nor blank, W = 0, next 5, free 9,600 - 5 = 9,595
+    ∷ line (block (0x52 ∷ 1 ∷ 0 ∷ 0 ∷ 0 ∷ 0xFF ∷ 0 ∷ 0 ∷ 36 ∷ [])) 0 36 0 0
+    (0 ∷ 0x22 ∷ 1 ∷ 1 ∷ 0 ∷ 4 ∷ 1 ∷ 1 ∷ 0 ∷ 0 ∷ 0 ∷ 0 ∷ 0 ∷ 0 ∷ 0 ∷ 5 ∷ 0 ∷ 0 ∷ 0x25 ∷ 0x7B
+    ∷ 0 ∷ 0 ∷ 0 ∷ 0x10 ∷ 0 ∷ 0 ∷ 0x25 ∷ 0x80 ∷ replicate 8 0)
+    (sense 0 0 0) 5 5 tailOnly
+    -- 25h: nothing can be read
+    ∷ line (block (0x25 ∷ [])) 0 8 0 0 (0 ∷ 0 ∷ 0 ∷ 0 ∷ 0 ∷ 0 ∷ 8 ∷ 0 ∷ []) (sense 0 0 0) 5 5 tailOnly
+    -- READ 0 of 1: a pending sector is unrecorded to a reader
+    ∷ line (block (0x28 ∷ 0 ∷ 0 ∷ 0 ∷ 0 ∷ 0 ∷ 0 ∷ 0 ∷ 1 ∷ [])) 0 2048 0x080000 0 [] (sense 0x8 0x00 0x00) 5 5 tailOnly
+    -- 03h of 18: key 8
+    ∷ line (block (0x03 ∷ 0 ∷ 0 ∷ 0 ∷ 0x12 ∷ [])) 0 18 0 0 (0x70 ∷ 0 ∷ 8 ∷ 0 ∷ 0 ∷ 0 ∷ 0 ∷ 0x0A ∷ replicate 10 0) (sense 0 0 0) 5 5 tailOnly
+    -- WRITE 9 of 1: not the next writable address
+    ∷ line (block (0x2A ∷ 0 ∷ 0 ∷ 0 ∷ 0 ∷ 9 ∷ 0 ∷ 0 ∷ 1 ∷ [])) 2048 0 0x052102 0 [] (sense 0x5 0x21 0x02) 5 5 tailOnly
+    -- 03h cut to the 14 bytes of byte 4, not to the 18 of byte 3: key 5, ASC 21h, ASCQ 02h
+    ∷ line (block (0x03 ∷ 0 ∷ 0 ∷ 0x12 ∷ 0x0E ∷ [])) 0 14 0 0
+    (0x70 ∷ 0 ∷ 5 ∷ 0 ∷ 0 ∷ 0 ∷ 0 ∷ 0x0A ∷ 0 ∷ 0 ∷ 0 ∷ 0 ∷ 0x21 ∷ 2 ∷ [])
+    (sense 0 0 0) 5 5 tailOnly
+    -- 03h again: the last one cleared the sense
+    ∷ line (block (0x03 ∷ 0 ∷ 0 ∷ 0 ∷ 0x12 ∷ [])) 0 18 0 0 (0x70 ∷ 0 ∷ 0 ∷ 0 ∷ 0 ∷ 0 ∷ 0 ∷ 0x0A ∷ replicate 10 0) (sense 0 0 0) 5 5 tailOnly
+    -- WRITE 5 of 27: 5 + 27 = 32 sectors are two blocks
+    ∷ line (block (0x2A ∷ 0 ∷ 0 ∷ 0 ∷ 0 ∷ 5 ∷ 0 ∷ 0 ∷ 27 ∷ [])) 55296 0 0 2 [] (sense 0 0 0) 32 0 written
+    -- 52h number 1, written: 02h + 01h; next 32, free 9,600 - 32 = 9,568, last recorded 31
+    ∷ line (block (0x52 ∷ 1 ∷ 0 ∷ 0 ∷ 0 ∷ 1 ∷ 0 ∷ 0 ∷ 36 ∷ [])) 0 36 0 0
+    (0 ∷ 0x22 ∷ 1 ∷ 1 ∷ 0 ∷ 4 ∷ 1 ∷ 3 ∷ 0 ∷ 0 ∷ 0 ∷ 0 ∷ 0 ∷ 0 ∷ 0 ∷ 0x20 ∷ 0 ∷ 0 ∷ 0x25 ∷ 0x60
+    ∷ 0 ∷ 0 ∷ 0 ∷ 0x10 ∷ 0 ∷ 0 ∷ 0x25 ∷ 0x80 ∷ 0 ∷ 0 ∷ 0 ∷ 0x1F ∷ replicate 4 0)
+    (sense 0 0 0) 32 0 written
+    -- 25h: the last of 32 sectors
+    ∷ line (block (0x25 ∷ [])) 0 8 0 0 (0 ∷ 0 ∷ 0 ∷ 0x1F ∷ 0 ∷ 0 ∷ 8 ∷ 0 ∷ []) (sense 0 0 0) 32 0 written
+    -- 5B/001 number 1: L = 2, and a tail at block 0 + 2 + 1
+    ∷ line (block (0x5B ∷ 0 ∷ 1 ∷ 0 ∷ 0 ∷ 1 ∷ [])) 0 0 0 0 [] (sense 0 0 0) 48 0 closed
+    -- 25h: 31 still, though nothing of the last fragment is recorded
+    ∷ line (block (0x25 ∷ [])) 0 8 0 0 (0 ∷ 0 ∷ 0 ∷ 0x1F ∷ 0 ∷ 0 ∷ 8 ∷ 0 ∷ []) (sense 0 0 0) 48 0 closed
+    -- RESERVE 32: two blocks exactly, and a tail at 3 + 2 + 1
+    ∷ line (block (0x53 ∷ 0 ∷ 0 ∷ 0 ∷ 0 ∷ 0 ∷ 0 ∷ 0 ∷ 32 ∷ [])) 0 0 0 0 [] (sense 0 0 0) 96 0 reserved
+    -- 52h number 2: reserved and blank, 01h + 80h + 40h; next 48, free 32 of 32
+    ∷ line (block (0x52 ∷ 1 ∷ 0 ∷ 0 ∷ 0 ∷ 2 ∷ 0 ∷ 0 ∷ 36 ∷ [])) 0 36 0 0
+    (0 ∷ 0x22 ∷ 2 ∷ 1 ∷ 0 ∷ 4 ∷ 0xC1 ∷ 1 ∷ 0 ∷ 0 ∷ 0 ∷ 0x30 ∷ 0 ∷ 0 ∷ 0 ∷ 0x30 ∷ 0 ∷ 0 ∷ 0 ∷ 0x20
+    ∷ 0 ∷ 0 ∷ 0 ∷ 0x10 ∷ 0 ∷ 0 ∷ 0 ∷ 0x20 ∷ replicate 8 0)
+    (sense 0 0 0) 96 0 reserved
+    -- WRITE 48 of 20 to it: one block, four sectors pending
+    ∷ line (block (0x2A ∷ 0 ∷ 0 ∷ 0 ∷ 0 ∷ 0x30 ∷ 0 ∷ 0 ∷ 20 ∷ [])) 40960 0 0 1 [] (sense 0 0 0) 96 4 halfReserved
+    -- 52h of address 50: W > 0 and incomplete, 02h + 01h; next 16 x 4 + 4 = 68, free 80 - 68 = 12, last recorded 63
+    ∷ line (block (0x52 ∷ 0 ∷ 0 ∷ 0 ∷ 0 ∷ 0x32 ∷ 0 ∷ 0 ∷ 36 ∷ [])) 0 36 0 0
+    (0 ∷ 0x22 ∷ 2 ∷ 1 ∷ 0 ∷ 4 ∷ 0x81 ∷ 3 ∷ 0 ∷ 0 ∷ 0 ∷ 0x30 ∷ 0 ∷ 0 ∷ 0 ∷ 0x44 ∷ 0 ∷ 0 ∷ 0 ∷ 0x0C
+    ∷ 0 ∷ 0 ∷ 0 ∷ 0x10 ∷ 0 ∷ 0 ∷ 0 ∷ 0x20 ∷ 0 ∷ 0 ∷ 0 ∷ 0x3F ∷ replicate 4 0)
+    (sense 0 0 0) 96 4 halfReserved
+    -- 52h of address 32, in the dividing block
+    ∷ line (block (0x52 ∷ 0 ∷ 0 ∷ 0 ∷ 0 ∷ 0x20 ∷ 0 ∷ 0 ∷ 36 ∷ [])) 0 36 0x052100 0 [] (sense 0x5 0x21 0x00) 96 4 halfReserved
+    -- 52h type 2, number 4, number 0: no such type, no such fragment
+    ∷ line (block (0x52 ∷ 2 ∷ 0 ∷ 0 ∷ 0 ∷ 1 ∷ 0 ∷ 0 ∷ 36 ∷ [])) 0 36 0x052400 0 [] (sense 0x5 0x24 0x00) 96 4 halfReserved
+    ∷ line (block (0x52 ∷ 1 ∷ 0 ∷ 0 ∷ 0 ∷ 4 ∷ 0 ∷ 0 ∷ 36 ∷ [])) 0 36 0x052400 0 [] (sense 0x5 0x24 0x00) 96 4 halfReserved
+    ∷ line (block (0x52 ∷ 1 ∷ 0 ∷ 0 ∷ 0 ∷ 0 ∷ 0 ∷ 0 ∷ 36 ∷ [])) 0 36 0x052400 0 [] (sense 0x5 0x24 0x00) 96 4 halfReserved
+    -- 5B/010: as after the flush the reserved fragment is complete, F = 12; the blank tail goes; e = 5, session 2 at 5 + 128
+    ∷ line (block (0x5B ∷ 0 ∷ 2 ∷ [])) 0 0 0 1 [] (sense 0 0 0) 2128 0 nextSession
+    -- 5B/010 again: the last session is only a blank tail, nothing is done
+    ∷ line (block (0x5B ∷ 0 ∷ 2 ∷ [])) 0 0 0 0 [] (sense 0 0 0) 2128 0 nextSession
+    -- 51h: session 2, its first and last fragment is number 3; 4 x 0 + 1, the disc is not blank
+    ∷ line (block (0x51 ∷ 0 ∷ 0 ∷ 0 ∷ 0 ∷ 0 ∷ 0 ∷ 0 ∷ 34 ∷ [])) 0 34 0 0
+    (0 ∷ 0x20 ∷ 1 ∷ 1 ∷ 2 ∷ 3 ∷ 3 ∷ replicate 27 0)
+    (sense 0 0 0) 2128 0 nextSession
+    -- 52h FFh: the blank tail in session 2, first and next 2,128, free 16 x 467 = 7,472
+    ∷ line (block (0x52 ∷ 1 ∷ 0 ∷ 0 ∷ 0 ∷ 0xFF ∷ 0 ∷ 0 ∷ 36 ∷ [])) 0 36 0 0
+    (0 ∷ 0x22 ∷ 3 ∷ 2 ∷ 0 ∷ 4 ∷ 0x41 ∷ 1 ∷ 0 ∷ 0 ∷ 8 ∷ 0x50 ∷ 0 ∷ 0 ∷ 8 ∷ 0x50 ∷ 0 ∷ 0 ∷ 0x1D ∷ 0x30
+    ∷ 0 ∷ 0 ∷ 0 ∷ 0x10 ∷ 0 ∷ 0 ∷ 0x1D ∷ 0x30 ∷ replicate 8 0)
+    (sense 0 0 0) 2128 0 nextSession
+    -- 25h: the last sector of fragment 2, 16 x 5 - 1
+    ∷ line (block (0x25 ∷ [])) 0 8 0 0 (0 ∷ 0 ∷ 0 ∷ 0x4F ∷ 0 ∷ 0 ∷ 8 ∷ 0 ∷ []) (sense 0 0 0) 2128 0 nextSession
+    -- WRITE 2128 of 1, and the 51h after it: session state 1
+    ∷ line (block (0x2A ∷ 0 ∷ 0 ∷ 0 ∷ 8 ∷ 0x50 ∷ 0 ∷ 0 ∷ 1 ∷ [])) 2048 0 0 0 [] (sense 0 0 0) 2129 1 nextSession
+    ∷ line (block (0x51 ∷ 0 ∷ 0 ∷ 0 ∷ 0 ∷ 0 ∷ 0 ∷ 0 ∷ 34 ∷ [])) 0 34 0 0
+    (0 ∷ 0x20 ∷ 5 ∷ 1 ∷ 2 ∷ 3 ∷ 3 ∷ replicate 27 0)
+    (sense 0 0 0) 2129 1 nextSession
+    -- RESERVE 16: the tail is not blank
+    ∷ line (block (0x53 ∷ 0 ∷ 0 ∷ 0 ∷ 0 ∷ 0 ∷ 0 ∷ 0 ∷ 16 ∷ [])) 0 0 0x057205 0 [] (sense 0x5 0x72 0x05) 2129 1 nextSession
+    -- 5B/111: no such function; 5B/001 number 4: unlisted
+    ∷ line (block (0x5B ∷ 0 ∷ 7 ∷ [])) 0 0 0x052400 0 [] (sense 0x5 0x24 0x00) 2129 1 nextSession
+    ∷ line (block (0x5B ∷ 0 ∷ 1 ∷ 0 ∷ 0 ∷ 4 ∷ [])) 0 0 0x052400 0 [] (sense 0x5 0x24 0x00) 2129 1 nextSession
+    -- 51h of type 1
+    ∷ line (block (0x51 ∷ 1 ∷ 0 ∷ 0 ∷ 0 ∷ 0 ∷ 0 ∷ 0 ∷ 34 ∷ [])) 0 34 0x052400 0 [] (sense 0x5 0x24 0x00) 2129 1 nextSession
+    -- 5B/110: the flush records a block with 15 sectors of zeros, the tail ends with it, no tail follows
+    ∷ line (block (0x5B ∷ 0 ∷ 6 ∷ [])) 0 0 0 1 [] (sense 0 0 0) 0 0 twoSessions
+    -- 51h: finalized, 4 x 3 + 2
+    ∷ line (block (0x51 ∷ 0 ∷ 0 ∷ 0 ∷ 0 ∷ 0 ∷ 0 ∷ 0 ∷ 34 ∷ [])) 0 34 0 0
+    (0 ∷ 0x20 ∷ 0x0E ∷ 1 ∷ 2 ∷ 3 ∷ 3 ∷ replicate 27 0)
+    (sense 0 0 0) 0 0 twoSessions
+    -- 5B/110 and 5B/010 again: nothing is done
+    ∷ line (block (0x5B ∷ 0 ∷ 6 ∷ [])) 0 0 0 0 [] (sense 0 0 0) 0 0 twoSessions
+    ∷ line (block (0x5B ∷ 0 ∷ 2 ∷ [])) 0 0 0 0 [] (sense 0 0 0) 0 0 twoSessions
+    -- WRITE of 0 on the finalized disc is accepted, of 1 refused; so is RESERVE 0, before its size is looked at
+    ∷ line (block (0x2A ∷ 0 ∷ 0 ∷ 0 ∷ 8 ∷ 0x60 ∷ [])) 0 0 0 0 [] (sense 0 0 0) 0 0 twoSessions
+    ∷ line (block (0x2A ∷ 0 ∷ 0 ∷ 0 ∷ 8 ∷ 0x60 ∷ 0 ∷ 0 ∷ 1 ∷ [])) 2048 0 0x072700 0 [] (sense 0x7 0x27 0x00) 0 0 twoSessions
+    ∷ line (block (0x53 ∷ [])) 0 0 0x072700 0 [] (sense 0x7 0x27 0x00) 0 0 twoSessions
+    -- 52h FFh: there is no tail
+    ∷ line (block (0x52 ∷ 1 ∷ 0 ∷ 0 ∷ 0 ∷ 0xFF ∷ 0 ∷ 0 ∷ 36 ∷ [])) 0 36 0x052400 0 [] (sense 0x5 0x24 0x00) 0 0 twoSessions
+    -- 52h number 3, complete: no next address, none free, last recorded 16 x 134 - 1 = 2,143; and 25h
+    ∷ line (block (0x52 ∷ 1 ∷ 0 ∷ 0 ∷ 0 ∷ 3 ∷ 0 ∷ 0 ∷ 36 ∷ [])) 0 36 0 0
+    (0 ∷ 0x22 ∷ 3 ∷ 2 ∷ 0 ∷ 4 ∷ 1 ∷ 2 ∷ 0 ∷ 0 ∷ 8 ∷ 0x50 ∷ 0 ∷ 0 ∷ 0 ∷ 0 ∷ 0 ∷ 0 ∷ 0 ∷ 0
+    ∷ 0 ∷ 0 ∷ 0 ∷ 0x10 ∷ 0 ∷ 0 ∷ 0 ∷ 0x10 ∷ 0 ∷ 0 ∷ 8 ∷ 0x5F ∷ replicate 4 0)
+    (sense 0 0 0) 0 0 twoSessions
+    ∷ line (block (0x25 ∷ [])) 0 8 0 0 (0 ∷ 0 ∷ 8 ∷ 0x5F ∷ 0 ∷ 0 ∷ 8 ∷ 0 ∷ []) (sense 0 0 0) 0 0 twoSessions
+    -- 52h number 2, reserved and complete, cut to 12 bytes
+    ∷ line (block (0x52 ∷ 1 ∷ 0 ∷ 0 ∷ 0 ∷ 2 ∷ 0 ∷ 0 ∷ 12 ∷ [])) 0 12 0 0
+    (0 ∷ 0x22 ∷ 2 ∷ 1 ∷ 0 ∷ 4 ∷ 0x81 ∷ 2 ∷ 0 ∷ 0 ∷ 0 ∷ 0x30 ∷ [])
+    (sense 0 0 0) 0 0 twoSessions
+    -- 00h, and an opcode that is not listed
+    ∷ line (block (0x00 ∷ [])) 0 0 0 0 [] (sense 0 0 0) 0 0 twoSessions
+    ∷ line (block (0xFF ∷ [])) 0 0 0x052000 0 [] (sense 0x5 0x20 0x00) 0 0 twoSessions
+    ∷ []
+
+abbrev fillingRun : List Line
+fillingRun =
+    -- WRITE 80 of 1 to the tail: the 3 sectors pending in fragment 1 are flushed first, F = 13; one is pending in the tail
+    line (block (0x2A ∷ 0 ∷ 0 ∷ 0 ∷ 0 ∷ 0x50 ∷ 0 ∷ 0 ∷ 1 ∷ [])) 2048 0 0 1 [] (sense 0 0 0) 81 1 otherFlushed
+    -- 5B/001 number 1: the flush records a block of the tail, F = 15; then two blocks of fragment 1 become zeros, F = 13 + 32
+    ∷ line (block (0x5B ∷ 0 ∷ 1 ∷ 0 ∷ 0 ∷ 1 ∷ [])) 0 0 0 3 [] (sense 0 0 0) 96 0 bothFilled
+    -- 5B/001 again: it is complete, nothing is done
+    ∷ line (block (0x5B ∷ 0 ∷ 1 ∷ 0 ∷ 0 ∷ 1 ∷ [])) 0 0 0 0 [] (sense 0 0 0) 96 0 bothFilled
+    -- READ of its last sector and of the one behind it, in the dividing block
+    ∷ line (block (0x28 ∷ 0 ∷ 0 ∷ 0 ∷ 0 ∷ 0x3F ∷ 0 ∷ 0 ∷ 1 ∷ [])) 0 2048 0 0 [] (sense 0 0 0) 96 0 bothFilled
+    ∷ line (block (0x28 ∷ 0 ∷ 0 ∷ 0 ∷ 0 ∷ 0x40 ∷ 0 ∷ 0 ∷ 1 ∷ [])) 0 2048 0x080000 0 [] (sense 0x8 0x00 0x00) 96 0 bothFilled
+    -- 5B/110: the tail ends with its one block
+    ∷ line (block (0x5B ∷ 0 ∷ 6 ∷ [])) 0 0 0 0 [] (sense 0 0 0) 0 0 allComplete
+    ∷ []
+
+abbrev emptySession : List Line
+emptySession =
+    -- 5B/110 where the last session is only a blank tail: it vanishes
+    line (block (0x5B ∷ 0 ∷ 6 ∷ [])) 0 0 0 0 [] (sense 0 0 0) 0 0 oneSession
+    -- 51h: session 1 is the last one, with fragments 1 and 2
+    ∷ line (block (0x51 ∷ 0 ∷ 0 ∷ 0 ∷ 0 ∷ 0 ∷ 0 ∷ 0 ∷ 34 ∷ [])) 0 34 0 0
+    (0 ∷ 0x20 ∷ 0x0E ∷ 1 ∷ 1 ∷ 1 ∷ 2 ∷ replicate 27 0)
+    (sense 0 0 0) 0 0 oneSession
+    ∷ []
+
+abbrev onBlank : List Line
+onBlank =
+    -- on the blank disc: 5B/110, 5B/001 number 1, and 5B/010, which does nothing
+    line (block (0x5B ∷ 0 ∷ 6 ∷ [])) 0 0 0x057204 0 [] (sense 0x5 0x72 0x04) 0 0 tailOnly
+    ∷ line (block (0x5B ∷ 0 ∷ 1 ∷ 0 ∷ 0 ∷ 1 ∷ [])) 0 0 0x057204 0 [] (sense 0x5 0x72 0x04) 0 0 tailOnly
+    ∷ line (block (0x5B ∷ 0 ∷ 2 ∷ [])) 0 0 0 0 [] (sense 0 0 0) 0 0 tailOnly
+    -- RESERVE 0
+    ∷ line (block (0x53 ∷ [])) 0 0 0x052400 0 [] (sense 0x5 0x24 0x00) 0 0 tailOnly
+    ∷ []
+
+abbrev fullRun : List Line
+fullRun =
+    -- 5B/010 and 5B/110 with all that can be wrong: a reserved fragment is incomplete, 64 records are kept, 128 + 129 is above 256
+    line (block (0x5B ∷ 0 ∷ 2 ∷ [])) 0 0 0x057203 0 [] (sense 0x5 0x72 0x03) 0 0 (fullList 1)
+    ∷ line (block (0x5B ∷ 0 ∷ 6 ∷ [])) 0 0 0x057203 0 [] (sense 0x5 0x72 0x03) 0 0 (fullList 1)
+    -- its last block is written
+    ∷ line (block (0x2A ∷ 0 ∷ 0 ∷ 0 ∷ 7 ∷ 0xF0 ∷ 0 ∷ 0 ∷ 16 ∷ [])) 32768 0 0 1 [] (sense 0 0 0) 0 0 (fullList 2)
+    -- 5B/010: 64 records are kept
+    ∷ line (block (0x5B ∷ 0 ∷ 2 ∷ [])) 0 0 0x057205 0 [] (sense 0x5 0x72 0x05) 0 0 (fullList 2)
+    ∷ []
+
+abbrev droppedRun : List Line
+droppedRun =
+    -- RESERVE 16 with 64 records; then 5B/010, which drops the blank tail and keeps 63: e = 125, session 2 at 253
+    line (block (0x53 ∷ 0 ∷ 0 ∷ 0 ∷ 0 ∷ 0 ∷ 0 ∷ 0 ∷ 16 ∷ [])) 0 0 0x057205 0 [] (sense 0x5 0x72 0x05) 2016 0 droppedList
+    ∷ line (block (0x5B ∷ 0 ∷ 2 ∷ [])) 0 0 0 0 [] (sense 0 0 0) 4048 0 openedList
+    ∷ []
+
+abbrev upTo171 : List Line
+upTo171 =
+    -- 5B/010, e = 171 as after the flush of 15 sectors: the tail has the last block
+    line (block (0x5B ∷ 0 ∷ 2 ∷ [])) 0 0 0 1 [] (sense 0 0 0) 4784 0 opened299
+    ∷ []
+
+abbrev upTo172 : List Line
+upTo172 =
+    -- 5B/010, e = 172 as after the flush of 1 sector: 172 + 129 is above 300, and nothing is flushed
+    line (block (0x5B ∷ 0 ∷ 2 ∷ [])) 0 0 0x056300 0 [] (sense 0x5 0x63 0x00) 2737 1 ends172
+    ∷ []
+
+abbrev largestRun : List Line
+largestRun =
+    -- 52h number 1: 16 x 143,444 = 230540h sectors free
+    line (block (0x52 ∷ 1 ∷ 0 ∷ 0 ∷ 0 ∷ 1 ∷ 0 ∷ 0 ∷ 36 ∷ [])) 0 36 0 0
+    (0 ∷ 0x22 ∷ 1 ∷ 1 ∷ 0 ∷ 4 ∷ 0x41 ∷ 1 ∷ 0 ∷ 0 ∷ 0 ∷ 0 ∷ 0 ∷ 0 ∷ 0 ∷ 0 ∷ 0 ∷ 0x23 ∷ 5 ∷ 0x40
+    ∷ 0 ∷ 0 ∷ 0 ∷ 0x10 ∷ 0 ∷ 0x23 ∷ 5 ∷ 0x40 ∷ replicate 8 0)
+    (sense 0 0 0) 0 0 largest
+    -- READ of the last sector, and of two from there on
+    ∷ line (block (0x28 ∷ 0 ∷ 0 ∷ 0x23 ∷ 5 ∷ 0x3F ∷ 0 ∷ 0 ∷ 1 ∷ [])) 0 2048 0x080000 0 [] (sense 0x8 0x00 0x00) 0 0 largest
+    ∷ line (block (0x28 ∷ 0 ∷ 0 ∷ 0x23 ∷ 5 ∷ 0x3F ∷ 0 ∷ 0 ∷ 2 ∷ [])) 0 4096 0x052100 0 [] (sense 0x5 0x21 0x00) 0 0 largest
+    -- RESERVE of 16 x 143,442 + 1 sectors leaves no tail a block, one sector fewer does
+    ∷ line (block (0x53 ∷ 0 ∷ 0 ∷ 0 ∷ 0 ∷ 0 ∷ 35 ∷ 5 ∷ 33 ∷ [])) 0 0 0x056300 0 [] (sense 0x5 0x63 0x00) 0 0 largest
+    ∷ line (block (0x53 ∷ 0 ∷ 0 ∷ 0 ∷ 0 ∷ 0 ∷ 35 ∷ 5 ∷ 32 ∷ [])) 0 0 0 0 [] (sense 0 0 0) 2295088 0 largestReserved
+    ∷ []
+
+abbrev wrongAllRun : List Line
+wrongAllRun =
+    -- a block of 11 bytes, C = 255, a finalized disc that is not complete, data of one byte: L1
+    line (replicate 11 0) 1 0 1 0 [] (sense 0 0 0) 0 0 smallList
+    -- the same with 12 bytes: L2
+    ∷ line (block (0x00 ∷ [])) 1 0 2 0 [] (sense 0 0 0) 0 0 smallList
+    ∷ []
+
+abbrev wrongStateRun : List Line
+wrongStateRun =
+    -- C = 300: L3, before the data is looked at
+    line (block (0x00 ∷ [])) 1 0 3 0 [] (sense 0 0 0) 0 0 threeHundred
+    ∷ []
+
+abbrev wrongSenseRun : List Line
+wrongSenseRun =
+    -- a sense that no refusal gives: L3
+    line (block (0x00 ∷ [])) 1 0 3 0 [] (sense 0x5 0x21 0x01) 0 0 threeHundred
+    ∷ []
+
+abbrev lengthsRun : List Line
+lengthsRun =
+    -- a sound state: L4, before the opcode is looked at
+    line (block (0xFF ∷ [])) 1 0 4 0 [] (sense 0 0 0) 0 0 threeHundred
+    -- WRITE 9 of 1 with 2,047 bytes and with 4,096: L4; with 2,048: 5/21/02
+    ∷ line (block (0x2A ∷ 0 ∷ 0 ∷ 0 ∷ 0 ∷ 9 ∷ 0 ∷ 0 ∷ 1 ∷ [])) 2047 0 4 0 [] (sense 0 0 0) 0 0 threeHundred
+    ∷ line (block (0x2A ∷ 0 ∷ 0 ∷ 0 ∷ 0 ∷ 9 ∷ 0 ∷ 0 ∷ 1 ∷ [])) 4096 0 4 0 [] (sense 0 0 0) 0 0 threeHundred
+    ∷ line (block (0x2A ∷ 0 ∷ 0 ∷ 0 ∷ 0 ∷ 9 ∷ 0 ∷ 0 ∷ 1 ∷ [])) 2048 0 0x052102 0 [] (sense 0x5 0x21 0x02) 0 0 threeHundred
+    -- READ 0 of 1, 25h, 03h cut to 14, 51h and 52h with a reply buffer one byte short; the sense stays
+    ∷ line (block (0x28 ∷ 0 ∷ 0 ∷ 0 ∷ 0 ∷ 0 ∷ 0 ∷ 0 ∷ 1 ∷ [])) 0 2047 4 0 [] (sense 0x5 0x21 0x02) 0 0 threeHundred
+    ∷ line (block (0x25 ∷ [])) 0 7 4 0 [] (sense 0x5 0x21 0x02) 0 0 threeHundred
+    ∷ line (block (0x03 ∷ 0 ∷ 0 ∷ 0x12 ∷ 0x0E ∷ [])) 0 13 4 0 [] (sense 0x5 0x21 0x02) 0 0 threeHundred
+    ∷ line (block (0x51 ∷ 0 ∷ 0 ∷ 0 ∷ 0 ∷ 0 ∷ 0 ∷ 0 ∷ 34 ∷ [])) 0 33 4 0 [] (sense 0x5 0x21 0x02) 0 0 threeHundred
+    ∷ line (block (0x52 ∷ 1 ∷ 0 ∷ 0 ∷ 0 ∷ 1 ∷ 0 ∷ 0 ∷ 36 ∷ [])) 0 35 4 0 [] (sense 0x5 0x21 0x02) 0 0 threeHundred
+    -- 00h: accepted
+    ∷ line (block (0x00 ∷ [])) 0 0 0 0 [] (sense 0 0 0) 0 0 threeHundred
+    ∷ []
+
+abbrev tooLargeRun : List Line
+tooLargeRun =
+    -- C = 143,445: L2
+    line (block (0x00 ∷ [])) 0 0 2 0 [] (sense 0 0 0) 0 0 tooLarge
+    ∷ []
+
+abbrev pub runs : List Run
+runs =
+    from (blank 600) firstRun ∷ from (state 600 false (sense 0 0 0) 3 1 threePending) fillingRun
+    ∷ from (state 600 false (sense 0 0 0) 0 0 nextSession) emptySession ∷ from (blank 600) onBlank
+    ∷ from (state 256 false (sense 0 0 0) 0 0 (fullList 1)) fullRun ∷ from (state 256 false (sense 0 0 0) 0 0 droppedList) droppedRun
+    ∷ from (state 300 false (sense 0 0 0) 15 1 ends171) upTo171 ∷ from (state 300 false (sense 0 0 0) 1 1 ends172) upTo172
+    ∷ from (blank 143444) largestRun ∷ from (state 255 true (sense 0 0 0) 0 0 smallList) wrongAllRun
+    ∷ from (state 300 true (sense 0 0 0) 0 0 threeHundred) wrongStateRun
+    ∷ from (state 300 false (sense 0x5 0x21 0x01) 0 0 threeHundred) wrongSenseRun ∷ from (blank 300) lengthsRun ∷ from (blank 143445) tooLargeRun
+    ∷ []
+
+pub tour : map (λ (r : Run). played (r .disc) (r .lines)) runs ≡ map (λ (r : Run). map (λ (l : Line). l .expected) (r .lines)) runs
+unfolding
+    shown played singles blank judge judgeCommand perform decode dataLength replyRoom lengthsFit accepted accept refuse refuseLink
+    isRefusalSense allowedSense listed some every find sumRecorded lastReadable firstOfSession
+    usedFirst firstAtZero followsFrom inOrder endsWithin recordedWithin zeroedWithin incompleteLast tailLast tailOrFull pendingNamed
+    finalizedComplete sound allowedState
+    flush flushPlan synchronizeCache allReadable read flushOthers flushOthersPlan gather writeTo writeFound write
+    splitTail reserve appendTail closeIncomplete closeFragment closeTail openSession closeSession finalize close
+    senseBytes requestSense readCapacity sessionState discStatus discBytes readDiscInformation nextWritableOrZero freeSectors
+    trackBytes trackVerdict trackFound trackNumbered readTrackInformation testUnitReady
+tour = refl

@@ -1,0 +1,683 @@
+-- The cases, each from a statement and not from its proof: whoever weakens `Demand3`, `KeptAccount` or a word that they use loses one.
+use Prim.Native.Nat.{ℕ, _+_, _*_, _/_, _≤_, _<_}
+use mathlib.Core.Path.{_≡_, refl, sym, ap, _∙_, subst}
+use mathlib.Core.Bool.{true, false}
+use mathlib.Core.Logic.{_⊎_, inl, inr}
+use mathlib.Core.List.{List, [], _∷_, _++_}
+use native.Mathlib.Omega.{arith}
+use borrow.Author.Tests.{le-leb, lt-ltb}
+use lib.Dec.{ltb}
+use lib.ListN.{length, getD, replicate, length-replicate, length-append}
+use Rattle.fragments.specs.Address.{lba}
+use Rattle.protocol.specs.Answer.{isRefusalSense, allowedSense}
+use Rattle.disc.specs.Blank.{blank}
+use Rattle.protocol.specs.Command.{decode}
+use Rattle.fragments.specs.Fragment.{fragment, holdsRecorded}
+use Rattle.disc.specs.Records.{pendingIn, records, numbered, readable, atAddress}
+use Rattle.fragments.specs.List.{listed, some, every, find, sumRecorded}
+use Rattle.disc.specs.Sound.{usedFirst, firstAtZero, followsFrom, inOrder, endsWithin, recordedWithin, zeroedWithin, incompleteLast, tailLast, tailOrFull, pendingNamed, finalizedComplete, sound, allowedState}
+use Rattle.protocol.specs.Lengths.{dataLength, replyRoom, lengthsFit}
+use Rattle.disc.specs.Flush.{flush, flushPlan, synchronizeCache}
+use Rattle.disc.specs.Read.{allReadable, read}
+use Rattle.disc.specs.Write.{flushOthers, flushOthersPlan, gather, writeTo, writeFound, write}
+use Rattle.disc.specs.Reserve.{splitTail, reserve}
+use Rattle.disc.specs.Reports.{nextWritableOrZero, freeSectors, trackVerdict, trackFound, trackNumbered, readTrackInformation}
+use Rattle.protocol.specs.Reports.{trackBytes}
+use Rattle.disc.specs.Judge.{perform, judgeCommand, judge}
+use Rattle.disc.specs.Verdict.{accepted, accept, refuse}
+use Rattle.drive.specs.Bytes.{zeros}
+use Rattle.drive.specs.Step.{Drive, Request, request}
+use Rattle.drive.specs.Requests.{WriteOf, ReadOf}
+use Rattle.drive.specs.Alike.{recordedByte, pendingSectors, Alike}
+use Rattle.history.specs.Types.{Disc, Appended, Answer, Accepted, Drive as byDrive, DriveRefusal, EndOfUserArea, LinkRefusal, CommandBlockLength, MediumSize, UnsoundState, TransferLength, Number}
+use Rattle.history.specs.Sequence.{Start, Turn, Told, result, final, Admissible, Undisturbed, AllAccepted, blocksOf}
+use Rattle.history.specs.Cut.{Parts, none, part, CutOf, SameCommand, Again, ends, same, cut, Agreeing}
+use Rattle.history.specs.Demand.{Demand3}
+use Rattle.history.specs.Account.{Account, opened, extentOf, sectorAt, written, flushed, credited, noted, account, contentAt, recordedAt}
+use Rattle.history.specs.Kept.{Keeps, KeptAccount}
+use Rattle.history.specs.Brought.{Written, writeOf, acceptedWrite, writes, broughtTo, sole, ReadBack, broughtInto, ListedKeeps, KeptAsListed}
+use Rattle.history.specs.Past.{RecordedByHistory}
+use Rattle.history.specs.Stale.{Change, unchanged, Given, after, turn, given}
+use Rattle.history.specs.Examples.{writeBlock}
+use Rattle.history.specs.Witness.{Shape, shape, discAfter}
+use Rattle.history.specs.Cases.{answers, replies, counts, Flash, blankOver, Log, firstFive, nextThirteen, writing, asking, reading, flushing, newer, older, early, TwoControllers, ByteForByte, BlockStays, reserving, inTwo, Fitting, behindAll, Reader, Requested, Cases}
+use Rattle.history.proofs.Laws.Parts.{write-request}
+use Rattle.history.proofs.Laws.Demand.{demand-3}
+use Rattle.history.proofs.Laws.Kept.{kept-account}
+use Rattle.history.proofs.Laws.ReadBack.{read-back, kept-as-listed}
+use Rattle.history.proofs.Laws.Recalled.{recorded-by-history}
+use Rattle.history.proofs.Laws.Stale.{turn-alike, given-admissible, given-undisturbed}
+use Rattle.history.proofs.Laws.Decided.{decisions, accountBy, shapes, known-answers, known-disc, known-content, known-recorded}
+
+-- there is flash, and there is a log, of any byte
+pub some-flash : ℕ → Flash
+some-flash x =
+    record {
+      medium = replicate 8388608 x;
+      pending = replicate 32768 x;
+      mediumLength = length-replicate {A = ℕ} 8388608 x;
+      pendingLength = length-replicate {A = ℕ} 32768 x;
+    }
+
+pub some-log : ℕ → Log
+some-log x =
+    record {
+      one = replicate 4096 x;
+      two = replicate 2048 x;
+      three = replicate 4096 x;
+      four = replicate 6144 x;
+      five = replicate 20480 x;
+      oneLength = length-replicate {A = ℕ} 4096 x;
+      twoLength = length-replicate {A = ℕ} 2048 x;
+      threeLength = length-replicate {A = ℕ} 4096 x;
+      fourLength = length-replicate {A = ℕ} 6144 x;
+      fiveLength = length-replicate {A = ℕ} 20480 x;
+    }
+
+-- any flash is a start
+flash-start : (f : Flash) → Start 256 (blankOver f)
+flash-start f = record { range = refl; disc = refl; medium = f .mediumLength; pending = f .pendingLength }
+
+-- the log's WRITEs, and the cuts of them
+five-length : (l : Log) → length (firstFive l) ≡ 10240
+five-length l =
+    length-append (l .one) _ ∙ omega (arith, length-append (l .two) (l .three ++ []), length-append (l .three) [], l .oneLength, l .twoLength, l .threeLength)
+
+thirteen-length : (l : Log) → length (nextThirteen l) ≡ 26624
+thirteen-length l = length-append (l .four) _ ∙ omega (arith, length-append (l .five) [], l .fourLength, l .fiveLength)
+
+written-of : (a n : ℕ) (x : List ℕ) (k : ℕ) → length x ≡ k → k ≡ 2048 * n → WriteOf (writing a n x) (lba a) n
+written-of a n x k h e = write-request (lba a) n x (h ∙ e)
+
+cut-in-three : (l : Log) → CutOf (writing 0 5 (firstFive l)) (writing 0 2 (l .one) ∷ writing 2 1 (l .two) ∷ writing 3 2 (l .three) ∷ [])
+cut-in-three l =
+    record {
+      address = lba 0;
+      count = 5;
+      whole = written-of 0 5 (firstFive l) 10240 (five-length l) refl;
+      several = omega arith;
+      parts =
+          part (lba 0) 2 3 (writing 0 2 (l .one)) _ _ (omega arith) (written-of 0 2 (l .one) 4096 (l .oneLength) refl)
+          (part (lba 2) 1 2 (writing 2 1 (l .two)) _ _ (omega arith) (written-of 2 1 (l .two) 2048 (l .twoLength) refl)
+          (part (lba 3) 2 0 (writing 3 2 (l .three)) [] [] (omega arith) (written-of 3 2 (l .three) 4096 (l .threeLength) refl) (none _)));
+    }
+
+cut-in-two :
+    (a n m p : ℕ) (x y : List ℕ) → 1 ≤ n → 1 ≤ m → p ≡ n + m → length x ≡ 2048 * n → length y ≡ 2048 * m
+    → CutOf (writing a p (x ++ (y ++ []))) (writing a n x ∷ writing (a + n) m y ∷ [])
+cut-in-two a n m p x y some more sum h k =
+    let size : length (x ++ (y ++ [])) ≡ 2048 * (n + m) = length-append x (y ++ []) ∙ omega (arith, length-append y [], h, k) in
+    subst (λ (c : ℕ). CutOf (writing a c (x ++ (y ++ []))) (writing a n x ∷ writing (a + n) m y ∷ [])) (sym sum)
+    (record {
+      address = lba a;
+      count = n + m;
+      whole = write-request (lba a) (n + m) (x ++ (y ++ [])) size;
+      several = omega arith;
+      parts =
+          part (lba a) n m (writing a n x) _ _ some (write-request (lba a) n x h)
+          (subst (λ (c : ℕ). Parts (lba (a + n)) c (y ++ []) (writing (a + n) m y ∷ [])) (none-more m)
+          (part (lba (a + n)) m 0 (writing (a + n) m y) [] [] more (write-request (lba (a + n)) m y k) (none _)));
+    })
+  where
+    none-more : (m : ℕ) → m + 0 ≡ m
+    none-more m = omega arith
+
+same-again : (q u : Request) → q .block ≡ u .block → q .sectors ≡ u .sectors → length (q .buffer) ≡ length (u .buffer) → SameCommand q u
+same-again q u b x r = record { block = b; sectors = x; room = r }
+
+-- the shapes of the newer controller's commands
+abbrev newerShapes : List Shape
+newerShapes =
+    shape (writeBlock 0 5) 10240 0 ∷ shape (asking 0 .block) 0 36 ∷ shape (writeBlock 5 13) 26624 0 ∷ shape (reading 0 0 .block) 0 32768
+    ∷ shape (flushing .block) 0 0 ∷ []
+
+abbrev earlyShapes : List Shape
+earlyShapes = shape (writeBlock 0 5) 10240 0 ∷ shape (asking 0 .block) 0 36 ∷ shape (writeBlock 5 13) 26624 0 ∷ []
+
+newer-shapes : (s : Drive) (l : Log) (x : ℕ) (j : ℕ → Change) → shapes (given (newer l x j) s) ≡ newerShapes
+unfolding given
+newer-shapes s l x j =
+    λ i.
+    shape (writeBlock 0 5) (five-length l i) 0 ∷ shape (asking 0 .block) 0 (length-replicate {A = ℕ} 36 x i)
+    ∷ shape (writeBlock 5 13) (thirteen-length l i) 0 ∷ shape (reading 0 0 .block) 0 (length-replicate {A = ℕ} 32768 x i)
+    ∷ shape (flushing .block) 0 0 ∷ []
+
+early-shapes : (s : Drive) (l : Log) (x : ℕ) (j : ℕ → Change) → shapes (given (early l x j) s) ≡ earlyShapes
+unfolding given
+early-shapes s l x j =
+    λ i.
+    shape (writeBlock 0 5) (five-length l i) 0 ∷ shape (asking 0 .block) 0 (length-replicate {A = ℕ} 36 x i)
+    ∷ shape (writeBlock 5 13) (thirteen-length l i) 0 ∷ []
+
+-- what the list decides, computed
+decided-newer : decisions newerShapes (blank 256) ≡ replicate 5 Accepted
+unfolding decisions decode listed some every find sumRecorded usedFirst firstAtZero followsFrom inOrder endsWithin recordedWithin zeroedWithin incompleteLast tailLast tailOrFull pendingNamed finalizedComplete sound allowedState isRefusalSense allowedSense blank dataLength replyRoom lengthsFit accepted accept refuse flush flushPlan synchronizeCache allReadable read flushOthers flushOthersPlan gather writeTo writeFound write nextWritableOrZero freeSectors trackBytes trackVerdict trackFound trackNumbered readTrackInformation perform judgeCommand judge
+decided-newer = refl
+
+-- the list at the end and before the READ: a tail with two blocks recorded, and with one
+newer-list : records (discAfter newerShapes (blank 256)) ≡ fragment 1 0 256 2 14 Appended ∷ []
+unfolding discAfter decode listed some every find sumRecorded usedFirst firstAtZero followsFrom inOrder endsWithin recordedWithin zeroedWithin incompleteLast tailLast tailOrFull pendingNamed finalizedComplete sound allowedState isRefusalSense allowedSense blank dataLength replyRoom lengthsFit accepted accept refuse flush flushPlan synchronizeCache allReadable read flushOthers flushOthersPlan gather writeTo writeFound write nextWritableOrZero freeSectors trackBytes trackVerdict trackFound trackNumbered readTrackInformation perform judgeCommand judge
+newer-list = refl
+
+early-list : records (discAfter earlyShapes (blank 256)) ≡ fragment 1 0 256 1 0 Appended ∷ []
+unfolding discAfter decode listed some every find sumRecorded usedFirst firstAtZero followsFrom inOrder endsWithin recordedWithin zeroedWithin incompleteLast tailLast tailOrFull pendingNamed finalizedComplete sound allowedState isRefusalSense allowedSense blank dataLength replyRoom lengthsFit accepted accept refuse flush flushPlan synchronizeCache allReadable read flushOthers flushOthersPlan gather writeTo writeFound write nextWritableOrZero freeSectors trackBytes trackVerdict trackFound trackNumbered readTrackInformation perform judgeCommand judge
+early-list = refl
+
+tail-readable : (d : Disc) (w z a : ℕ) → records d ≡ fragment 1 0 256 w z Appended ∷ [] → a < 16 * w → readable d (lba a) ≡ true
+unfolding some
+tail-readable d w z a e h =
+    ap (some (holdsRecorded (lba a))) e ∙ rw (le-leb (16 * 0) a (omega arith), lt-ltb a (16 * (0 + w)) (omega (arith, h)))
+
+module _ (s : Drive) (start : Start 256 s) (l : Log) (x : ℕ) (j : ℕ → Change) where
+  newer-answers : answers (given (newer l x j) s) s ≡ replicate 5 Accepted
+  newer-answers =
+      known-answers 256 s start (given (newer l x j) s) (given-admissible (newer l x j) s) newerShapes (newer-shapes s l x j) ∙ decided-newer
+
+  newer-answer : (i : ℕ) → getD (answers (given (newer l x j) s) s) i Accepted ≡ getD (replicate 5 Accepted) i Accepted
+  newer-answer i = ap (λ (r : List Answer). getD r i Accepted) newer-answers
+
+-- the older controller's sequence is the newer one's again
+module _ (s e : Drive) (l : Log) (x y : ℕ) (j k : ℕ → Change) where
+  abbrev parts₁ : List Given
+  parts₁ = after (k 0) (writing 0 2 (l .one)) ∷ after (k 1) (writing 2 1 (l .two)) ∷ after (k 2) (writing 3 2 (l .three)) ∷ []
+
+  abbrev rest₁ : List Given
+  rest₁ =
+      after (k 3) (asking y) ∷ after (k 4) (writing 5 3 (l .four)) ∷ after (k 5) (writing 8 10 (l .five)) ∷ after (k 6) (reading 0 y)
+      ∷ after (k 7) flushing ∷ []
+
+  abbrev parts₂ : List Given
+  parts₂ = after (k 4) (writing 5 3 (l .four)) ∷ after (k 5) (writing 8 10 (l .five)) ∷ []
+
+  abbrev rest₂ : List Given
+  rest₂ = after (k 6) (reading 0 y) ∷ after (k 7) flushing ∷ []
+
+  abbrev after₁ : Drive
+  after₁ = final (given parts₁ e) e
+
+  abbrev told₁ : Drive
+  told₁ = result (turn (after (k 3) (asking y)) after₁) after₁ .after
+
+  abbrev after₂ : Drive
+  after₂ = final (given parts₂ told₁) told₁
+
+  unfoldable same-log :
+      getD (answers (given (newer l x j) s) s) 0 Accepted ≡ Accepted → getD (answers (given (newer l x j) s) s) 2 Accepted ≡ Accepted
+      → Again s (given (newer l x j) s) (given (older l y k) e)
+  unfolding given final answers
+  same-log one two =
+      cut s _ _ (given parts₁ e) (given rest₁ after₁) _ one (cut-in-three l)
+      (same _ _ _ _ _ (same-again (asking x) (asking y) refl refl (length-replicate {A = ℕ} 36 x ∙ sym (length-replicate {A = ℕ} 36 y)))
+      (cut _ _ _ (given parts₂ told₁) (given rest₂ after₂) _ two (cut-in-two 5 3 10 13 (l .four) (l .five) (omega arith) (omega arith) refl (l .fourLength) (l .fiveLength))
+      (same _ _ _ _ _ (same-again (reading 0 x) (reading 0 y) refl refl (length-replicate {A = ℕ} 32768 x ∙ sym (length-replicate {A = ℕ} 32768 y)))
+      (same _ _ _ _ _ (same-again flushing flushing refl refl refl) (ends _)))
+      refl))
+      refl
+
+-- demand 3 of the two of them
+module _ (demand : Demand3) (f g : Flash) (l : Log) (x y : ℕ) (j k : ℕ → Change) where
+  abbrev fresh : Drive
+  fresh = blankOver f
+
+  abbrev other : Drive
+  other = blankOver g
+
+  abbrev newTurns : List Turn
+  newTurns = given (newer l x j) fresh
+
+  abbrev oldTurns : List Turn
+  oldTurns = given (older l y k) other
+
+  abbrev again : Again fresh newTurns oldTurns
+  again = same-log fresh other l x y j k (newer-answer fresh (flash-start f) l x j 0) (newer-answer fresh (flash-start f) l x j 2)
+
+  abbrev both : Agreeing fresh newTurns oldTurns again other × Alike (final newTurns fresh) (final oldTurns other)
+  both =
+      demand .again 256 fresh other (flash-start f) (flash-start g) newTurns oldTurns (given-admissible (newer l x j) fresh) (given-admissible (older l y k) other) again
+
+  told-answers : answers oldTurns other ≡ replicate 8 Accepted
+  unfolding given final answers Agreeing AllAccepted same-log
+  told-answers =
+      let w = both .0 in
+      let a : (i : ℕ) → getD (answers newTurns fresh) i Accepted ≡ getD (replicate 5 Accepted) i Accepted = newer-answer fresh (flash-start f) l x j in
+      λ i.
+      w .0 .0 i ∷ w .0 .1 .0 i ∷ w .0 .1 .1 .0 i ∷ (sym (ap (λ (t : Told). t .answer) (w .2 .0)) ∙ a 1) i ∷ w .2 .1 .0 .0 i ∷ w .2 .1 .0 .1 .0 i
+      ∷ (sym (ap (λ (t : Told). t .answer) (w .2 .1 .2 .0)) ∙ a 3) i ∷ (sym (ap (λ (t : Told). t .answer) (w .2 .1 .2 .1 .0)) ∙ a 4) i ∷ []
+
+  told-information : getD (replies oldTurns other) 3 [] ≡ getD (replies newTurns fresh) 1 []
+  unfolding given final replies Agreeing same-log
+  told-information = sym (ap (λ (t : Told). t .reply) (both .0 .2 .0))
+
+  told-reading : getD (replies oldTurns other) 6 [] ≡ getD (replies newTurns fresh) 3 []
+  unfolding given final replies Agreeing same-log
+  told-reading = sym (ap (λ (t : Told). t .reply) (both .0 .2 .1 .2 .0))
+
+  told-first : getD (counts oldTurns other) 0 0 + (getD (counts oldTurns other) 1 0 + getD (counts oldTurns other) 2 0) ≡ getD (counts newTurns fresh) 0 0
+  unfolding given final counts blocksOf Agreeing same-log
+  told-first = omega (arith, both .0 .1)
+
+  told-second : getD (counts oldTurns other) 4 0 + getD (counts oldTurns other) 5 0 ≡ getD (counts newTurns fresh) 2 0
+  unfolding given final counts blocksOf Agreeing same-log
+  told-second = omega (arith, both .0 .2 .1 .1)
+
+  told-flushed : getD (counts oldTurns other) 7 0 ≡ getD (counts newTurns fresh) 4 0
+  unfolding given final counts Agreeing same-log
+  told-flushed = sym (ap (λ (t : Told). t .recorded) (both .0 .2 .1 .2 .1 .0))
+
+  newer-disc : final newTurns fresh .disc ≡ discAfter newerShapes (blank 256)
+  newer-disc = known-disc 256 fresh (flash-start f) newTurns (given-admissible (newer l x j) fresh) newerShapes (newer-shapes fresh l x j)
+
+  two-controllers : TwoControllers newTurns fresh oldTurns other
+  two-controllers =
+      let a = both .1 in
+      record {
+        answers = told-answers;
+        information = told-information;
+        reading = told-reading;
+        firstParts = told-first;
+        secondParts = told-second;
+        flushed = told-flushed;
+        disc = sym (a .disc);
+        recorded =
+            λ i h.
+            sym
+            (a .recorded i
+            (ap (λ (d : Disc). recordedByte d i) newer-disc
+            ∙ tail-readable (discAfter newerShapes (blank 256)) 2 14 (i / 2048) newer-list (omega (arith, h))));
+        pending = sym (a .pending);
+      }
+
+-- with nothing changed from outside
+unchanged-newer : (s : Drive) (l : Log) (x : ℕ) → Undisturbed (given (newer l x (λ i. unchanged)) s) s
+unchanged-newer s l x =
+    given-undisturbed
+    (writing 0 5 (firstFive l) ∷ asking x ∷ writing 5 13 (nextThirteen l) ∷ reading 0 x ∷ flushing ∷ []) s
+
+unchanged-older : (s : Drive) (l : Log) (x : ℕ) → Undisturbed (given (older l x (λ i. unchanged)) s) s
+unchanged-older s l x =
+    given-undisturbed
+    (writing 0 2 (l .one) ∷ writing 2 1 (l .two) ∷ writing 3 2 (l .three) ∷ asking x ∷ writing 5 3 (l .four) ∷ writing 8 10 (l .five) ∷ reading 0 x
+    ∷ flushing ∷ []) s
+
+byte-for-byte :
+    Demand3 → (f : Flash) (l : Log) (x y : ℕ)
+    → ByteForByte (given (newer l x (λ i. unchanged)) (blankOver f)) (given (older l y (λ i. unchanged)) (blankOver f)) (blankOver f)
+byte-for-byte demand f l x y =
+    let s = blankOver f in
+    let none : ℕ → Change = λ i. unchanged in
+    let e : final (given (newer l x none) s) s ≡ final (given (older l y none) s) s =
+    demand .exact 256 s (flash-start f) (given (newer l x none) s) (given (older l y none) s) (unchanged-newer s l x) (unchanged-older s l y)
+    (same-log s s l x y none none (newer-answer s (flash-start f) l x none 0) (newer-answer s (flash-start f) l x none 2)) in
+    record { medium = sym (ap (λ (d : Drive). d .medium) e); pending = sym (ap (λ (d : Drive). d .pending) e) }
+
+-- a recorded block stays
+newer-split :
+    (s : Drive) (l : Log) (x : ℕ) (j : ℕ → Change)
+    → given (newer l x j) s ≡ given (early l x j) s ++ given (after (j 3) (reading 0 x) ∷ after (j 4) flushing ∷ []) (final (given (early l x j) s) s)
+unfolding given final
+newer-split s l x j = refl
+
+block-stays :
+    Demand3 → (f : Flash) (l : Log) (x : ℕ) (j : ℕ → Change)
+    → BlockStays (given (early l x j) (blankOver f)) (given (newer l x j) (blankOver f)) (blankOver f)
+block-stays demand f l x j i h =
+    let s = blankOver f in
+    let ts = given (early l x j) s in
+    let us = given (after (j 3) (reading 0 x) ∷ after (j 4) flushing ∷ []) (final ts s) in
+    let split : given (newer l x j) s ≡ ts ++ us = newer-split s l x j in
+    let whole : Admissible (ts ++ us) s = subst (λ (vs : List Turn). Admissible vs s) split (given-admissible (newer l x j) s) in
+    let d : final ts s .disc ≡ discAfter earlyShapes (blank 256) =
+    known-disc 256 s (flash-start f) ts (given-admissible (early l x j) s) earlyShapes (early-shapes s l x j) in
+    let here : recordedByte (final ts s .disc) i ≡ true =
+    ap (λ (d : Disc). recordedByte d i) d ∙ tail-readable (discAfter earlyShapes (blank 256)) 1 0 (i / 2048) early-list (omega (arith, h)) in
+    ap (λ (vs : List Turn). getD (final vs s .medium) i 0) split ∙ demand .stays 256 s (flash-start f) ts us whole i here .1
+
+-- a WRITE that fits in part, and one that fits whole: their parts, behind RESERVE
+abbrev joined : List ℕ → List ℕ → List ℕ
+joined x y = x ++ (y ++ [])
+
+joined-length : (x y : List ℕ) (n m : ℕ) → length x ≡ n → length y ≡ m → length (joined x y) ≡ n + m
+joined-length x y n m h k = length-append x (y ++ []) ∙ omega (arith, length-append y [], h, k)
+
+abbrev wholeShapes : ℕ → ℕ → List Shape
+wholeShapes p n = shape (reserving .block) 0 0 ∷ shape (writeBlock 0 p) n 0 ∷ []
+
+decided-partly : decisions (wholeShapes 49 100352) (blank 256) ≡ Accepted ∷ byDrive EndOfUserArea ∷ []
+unfolding decisions decode listed some every find sumRecorded usedFirst firstAtZero followsFrom inOrder endsWithin recordedWithin zeroedWithin incompleteLast tailLast tailOrFull pendingNamed finalizedComplete sound allowedState isRefusalSense allowedSense blank dataLength replyRoom lengthsFit accepted accept refuse flush flushPlan synchronizeCache allReadable read flushOthers flushOthersPlan gather writeTo writeFound write nextWritableOrZero freeSectors trackBytes trackVerdict trackFound trackNumbered readTrackInformation perform judgeCommand judge splitTail reserve
+decided-partly = refl
+
+decided-wholly : decisions (wholeShapes 48 98304) (blank 256) ≡ Accepted ∷ Accepted ∷ []
+unfolding decisions decode listed some every find sumRecorded usedFirst firstAtZero followsFrom inOrder endsWithin recordedWithin zeroedWithin incompleteLast tailLast tailOrFull pendingNamed finalizedComplete sound allowedState isRefusalSense allowedSense blank dataLength replyRoom lengthsFit accepted accept refuse flush flushPlan synchronizeCache allReadable read flushOthers flushOthersPlan gather writeTo writeFound write nextWritableOrZero freeSectors trackBytes trackVerdict trackFound trackNumbered readTrackInformation perform judgeCommand judge splitTail reserve
+decided-wholly = refl
+
+abbrev whole-then : List ℕ → ℕ → (ℕ → Change) → List Given
+whole-then x p j = after (j 0) reserving ∷ after (j 1) (writing 0 p x) ∷ []
+
+whole-shapes : (s : Drive) (x : List ℕ) (p b : ℕ) (j : ℕ → Change) → length x ≡ b → shapes (given (whole-then x p j) s) ≡ wholeShapes p b
+unfolding given
+whole-shapes s x p b j size = λ i. shape (reserving .block) 0 0 ∷ shape (writeBlock 0 p) (size i) 0 ∷ []
+
+whole-answers :
+    (s : Drive) → Start 256 s → (x : List ℕ) (p b : ℕ) (j : ℕ → Change) → length x ≡ b
+    → answers (given (whole-then x p j) s) s ≡ decisions (wholeShapes p b) (blank 256)
+whole-answers s start x p b j size =
+    let gs = whole-then x p j in known-answers 256 s start (given gs s) (given-admissible gs s) (wholeShapes p b) (whole-shapes s x p b j size)
+
+module _
+    (demand : Demand3) (s : Drive) (start : Start 256 s) (x y : List ℕ) (n p : ℕ) (j : ℕ → Change)
+    (whole : CutOf (writing 0 p (joined x y)) (writing 0 40 x ∷ writing 40 n y ∷ []))
+  where
+    abbrev one : List Given
+    one = whole-then (joined x y) p j
+
+    -- both directions of part b, as answers of the two sequences
+    parts-answers :
+        (getD (answers (given one s) s) 1 Accepted ≡ Accepted → getD (answers (given one s) s) 0 Accepted ≡ Accepted
+        → answers (given (inTwo x y n j) s) s ≡ replicate 3 Accepted)
+        × (answers (given (inTwo x y n j) s) s ≡ replicate 3 Accepted → getD (answers (given one s) s) 1 Accepted ≡ Accepted)
+    unfolding given final answers AllAccepted
+    parts-answers =
+        let ts = given (after (j 0) reserving ∷ []) s in
+        let r = final ts s in
+        let t = turn (after (j 1) (writing 0 p (joined x y))) r in
+        let gs = after (j 1) (writing 0 40 x) ∷ after (j 2) (writing 40 n y) ∷ [] in
+        let w =
+        demand .whole 256 s start ts (given-admissible (after (j 0) reserving ∷ []) s) t (given gs r)
+        (turn-alike (after (j 1) (writing 0 p (joined x y))) r) (given-admissible gs r) whole in (
+          λ a b. (λ i. b i ∷ w .0 a .0 i ∷ w .0 a .1 .0 i ∷ []),
+          λ a. w .1 (ap (λ (l : List Answer). getD l 1 Accepted) a, (ap (λ (l : List Answer). getD l 2 Accepted) a, tt)),
+        )
+
+not-accepted : (x : DriveRefusal) → byDrive x ≡ Accepted → ⊥
+not-accepted x e = absurd (let z : _≡_ {A = ℕ} 0 1 = cc in omega arith)
+
+fits : Demand3 → (f : Flash) (x y z : List ℕ) → length x ≡ 81920 → length y ≡ 18432 → length z ≡ 16384 → (j : ℕ → Change) → Fitting (blankOver f) x y z j
+fits demand f x y z a b c j =
+    let s = blankOver f in
+    let start = flash-start f in
+    let large = joined-length x y 81920 18432 a b in
+    let small = joined-length x z 81920 16384 a c in
+    let no = parts-answers demand s start x y 9 49 j (cut-in-two 0 40 9 49 x y (omega arith) (omega arith) refl a b) in
+    let yes = parts-answers demand s start x z 8 48 j (cut-in-two 0 40 8 48 x z (omega arith) (omega arith) refl a c) in
+    let refused = whole-answers s start (joined x y) 49 100352 j large ∙ decided-partly in
+    let taken = whole-answers s start (joined x z) 48 98304 j small ∙ decided-wholly in
+    record {
+      partly = λ q. not-accepted EndOfUserArea (sym (ap (λ (l : List Answer). getD l 1 Accepted) refused) ∙ no .1 q);
+      wholly = yes .0 (ap (λ (l : List Answer). getD l 1 Accepted) taken) (ap (λ (l : List Answer). getD l 0 Accepted) taken);
+    }
+
+-- what the history says of the newer controller's log, computed: where an address lies, and what stands there
+abbrev lateShapes : ℕ → List Shape
+lateShapes a = newerShapes ++ (shape (reading a 0 .block) 0 32768 ∷ [])
+
+abbrev late : ℕ → Log → ℕ → (ℕ → Change) → List Given
+late a l x j = newer l x j ++ (after (j 5) (reading a x) ∷ [])
+
+decided-late : (decisions (lateShapes 0) (blank 256) ≡ replicate 6 Accepted) × (decisions (lateShapes 16) (blank 256) ≡ replicate 6 Accepted)
+unfolding decisions decode listed some every find sumRecorded usedFirst firstAtZero followsFrom inOrder endsWithin recordedWithin zeroedWithin incompleteLast tailLast tailOrFull pendingNamed finalizedComplete sound allowedState isRefusalSense allowedSense blank dataLength replyRoom lengthsFit accepted accept refuse flush flushPlan synchronizeCache allReadable read flushOthers flushOthersPlan gather writeTo writeFound write nextWritableOrZero freeSectors trackBytes trackVerdict trackFound trackNumbered readTrackInformation perform judgeCommand judge
+decided-late = (refl, refl)
+
+late-shapes : (s : Drive) (a : ℕ) (l : Log) (x : ℕ) (j : ℕ → Change) → shapes (given (late a l x j) s) ≡ lateShapes a
+unfolding given
+late-shapes s a l x j =
+    λ i.
+    shape (writeBlock 0 5) (five-length l i) 0 ∷ shape (asking 0 .block) 0 (length-replicate {A = ℕ} 36 x i)
+    ∷ shape (writeBlock 5 13) (thirteen-length l i) 0 ∷ shape (reading 0 0 .block) 0 (length-replicate {A = ℕ} 32768 x i)
+    ∷ shape (flushing .block) 0 0 ∷ shape (reading a 0 .block) 0 (length-replicate {A = ℕ} 32768 x i) ∷ []
+
+late-answers :
+    (f : Flash) (a : ℕ) (l : Log) (x : ℕ) (j : ℕ → Change) → decisions (lateShapes a) (blank 256) ≡ replicate 6 Accepted
+    → getD (answers (given (late a l x j) (blankOver f)) (blankOver f)) 5 Accepted ≡ Accepted
+late-answers f a l x j e =
+    let s = blankOver f in
+    let known = known-answers 256 s (flash-start f) (given (late a l x j) s) (given-admissible (late a l x j) s) (lateShapes a) (late-shapes s a l x j) in
+    ap (λ (r : List Answer). getD r 5 Accepted) (known ∙ e)
+
+early-places : (atAddress (discAfter earlyShapes (blank 256)) (lba 3) ≡ Number 1) × (atAddress (discAfter earlyShapes (blank 256)) (lba 7) ≡ Number 1)
+unfolding discAfter decode listed some every find sumRecorded usedFirst firstAtZero followsFrom inOrder endsWithin recordedWithin zeroedWithin incompleteLast tailLast tailOrFull pendingNamed finalizedComplete sound allowedState isRefusalSense allowedSense blank dataLength replyRoom lengthsFit accepted accept refuse flush flushPlan synchronizeCache allReadable read flushOthers flushOthersPlan gather writeTo writeFound write nextWritableOrZero freeSectors trackBytes trackVerdict trackFound trackNumbered readTrackInformation perform judgeCommand judge
+early-places = (refl, refl)
+
+newer-places :
+    (atAddress (discAfter newerShapes (blank 256)) (lba 17) ≡ Number 1) × (atAddress (discAfter newerShapes (blank 256)) (lba 18) ≡ Number 1)
+    × (atAddress (discAfter newerShapes (blank 256)) (lba 31) ≡ Number 1) × (atAddress (discAfter newerShapes (blank 256)) (lba 32) ≡ Number 1)
+    × (atAddress (discAfter newerShapes (blank 256)) (lba 16) ≡ Number 1)
+unfolding discAfter decode listed some every find sumRecorded usedFirst firstAtZero followsFrom inOrder endsWithin recordedWithin zeroedWithin incompleteLast tailLast tailOrFull pendingNamed finalizedComplete sound allowedState isRefusalSense allowedSense blank dataLength replyRoom lengthsFit accepted accept refuse flush flushPlan synchronizeCache allReadable read flushOthers flushOthersPlan gather writeTo writeFound write nextWritableOrZero freeSectors trackBytes trackVerdict trackFound trackNumbered readTrackInformation perform judgeCommand judge
+newer-places = (refl, refl, refl, refl, refl)
+
+module _ (s : Drive) (l : Log) (x : ℕ) (j : ℕ → Change) where
+  abbrev earlyAccount : Account
+  earlyAccount = accountBy 1 (given (early l x j) s) earlyShapes (blank 256) opened
+
+  abbrev newerAccount : Account
+  newerAccount = accountBy 1 (given (newer l x j) s) newerShapes (blank 256) opened
+
+  early-content : (earlyAccount .content 3 ≡ sectorAt 3 (firstFive l)) × (earlyAccount .content 7 ≡ sectorAt 2 (nextThirteen l))
+  unfolding accountBy given noted credited written flushed decode listed some every find sumRecorded usedFirst firstAtZero followsFrom inOrder endsWithin recordedWithin zeroedWithin incompleteLast tailLast tailOrFull pendingNamed finalizedComplete sound allowedState isRefusalSense allowedSense blank dataLength replyRoom lengthsFit accepted accept refuse flush flushPlan synchronizeCache allReadable read flushOthers flushOthersPlan gather writeTo writeFound write nextWritableOrZero freeSectors trackBytes trackVerdict trackFound trackNumbered readTrackInformation perform judgeCommand judge
+  early-content = (refl, refl)
+
+  newer-content : (newerAccount .content 17 ≡ sectorAt 12 (nextThirteen l)) × (newerAccount .content 18 ≡ zeros 2048)
+  unfolding accountBy given noted credited written flushed decode listed some every find sumRecorded usedFirst firstAtZero followsFrom inOrder endsWithin recordedWithin zeroedWithin incompleteLast tailLast tailOrFull pendingNamed finalizedComplete sound allowedState isRefusalSense allowedSense blank dataLength replyRoom lengthsFit accepted accept refuse flush flushPlan synchronizeCache allReadable read flushOthers flushOthersPlan gather writeTo writeFound write nextWritableOrZero freeSectors trackBytes trackVerdict trackFound trackNumbered readTrackInformation perform judgeCommand judge
+  newer-content = (refl, refl)
+
+  newer-recorded : newerAccount .recorded ≡ 32
+  unfolding accountBy given noted credited written flushed decode listed some every find sumRecorded usedFirst firstAtZero followsFrom inOrder endsWithin recordedWithin zeroedWithin incompleteLast tailLast tailOrFull pendingNamed finalizedComplete sound allowedState isRefusalSense allowedSense blank dataLength replyRoom lengthsFit accepted accept refuse flush flushPlan synchronizeCache allReadable read flushOthers flushOthersPlan gather writeTo writeFound write nextWritableOrZero freeSectors trackBytes trackVerdict trackFound trackNumbered readTrackInformation perform judgeCommand judge
+  newer-recorded = refl
+
+newer-first : extentOf (discAfter newerShapes (blank 256)) 1 .first ≡ 0
+unfolding discAfter decode listed some every find sumRecorded usedFirst firstAtZero followsFrom inOrder endsWithin recordedWithin zeroedWithin incompleteLast tailLast tailOrFull pendingNamed finalizedComplete sound allowedState isRefusalSense allowedSense blank dataLength replyRoom lengthsFit accepted accept refuse flush flushPlan synchronizeCache allReadable read flushOthers flushOthersPlan gather writeTo writeFound write nextWritableOrZero freeSectors trackBytes trackVerdict trackFound trackNumbered readTrackInformation perform judgeCommand judge
+newer-first = refl
+
+newer-figures :
+    (numbered (discAfter newerShapes (blank 256)) 1 .recorded ≡ 2) × (numbered (discAfter newerShapes (blank 256)) 1 .zeroed ≡ 14)
+    × (pendingIn (discAfter newerShapes (blank 256)) 1 ≡ 0)
+unfolding discAfter decode listed some every find sumRecorded usedFirst firstAtZero followsFrom inOrder endsWithin recordedWithin zeroedWithin incompleteLast tailLast tailOrFull pendingNamed finalizedComplete sound allowedState isRefusalSense allowedSense blank dataLength replyRoom lengthsFit accepted accept refuse flush flushPlan synchronizeCache allReadable read flushOthers flushOthersPlan gather writeTo writeFound write nextWritableOrZero freeSectors trackBytes trackVerdict trackFound trackNumbered readTrackInformation perform judgeCommand judge
+newer-figures = (refl, refl, refl)
+
+pending-figures :
+    (discAfter earlyShapes (blank 256) .pending ≡ 2) × (discAfter newerShapes (blank 256) .pending ≡ 0)
+    × (readable (discAfter newerShapes (blank 256)) (lba 32) ≡ false)
+unfolding discAfter decode listed some every find sumRecorded usedFirst firstAtZero followsFrom inOrder endsWithin recordedWithin zeroedWithin incompleteLast tailLast tailOrFull pendingNamed finalizedComplete sound allowedState isRefusalSense allowedSense blank dataLength replyRoom lengthsFit accepted accept refuse flush flushPlan synchronizeCache allReadable read flushOthers flushOthersPlan gather writeTo writeFound write nextWritableOrZero freeSectors trackBytes trackVerdict trackFound trackNumbered readTrackInformation perform judgeCommand judge
+pending-figures = (refl, refl, refl)
+
+-- L2 and L3 are neither L1 nor L4
+abbrev OwnLength : LinkRefusal → Type 0
+OwnLength q = (q ≡ CommandBlockLength) ⊎ (q ≡ TransferLength)
+
+no-size : OwnLength MediumSize → ⊥
+no-size (inl e) = absurd (let z : _≡_ {A = ℕ} 0 1 = cc in omega arith)
+no-size (inr e) = absurd (let z : _≡_ {A = ℕ} 0 1 = cc in omega arith)
+
+no-state : OwnLength UnsoundState → ⊥
+no-state (inl e) = absurd (let z : _≡_ {A = ℕ} 0 1 = cc in omega arith)
+no-state (inr e) = absurd (let z : _≡_ {A = ℕ} 0 1 = cc in omega arith)
+
+-- the kept account of it
+module _ (kept : KeptAccount) (f : Flash) (l : Log) (x : ℕ) (j : ℕ → Change) where
+  abbrev disc₀ : Drive
+  disc₀ = blankOver f
+
+  abbrev start₀ : Start 256 disc₀
+  start₀ = flash-start f
+
+  abbrev earlyTurns : List Turn
+  earlyTurns = given (early l x j) disc₀
+
+  abbrev logTurns : List Turn
+  logTurns = given (newer l x j) disc₀
+
+  abbrev logEnd : Drive
+  logEnd = final logTurns disc₀
+
+  early-admissible : Admissible earlyTurns disc₀
+  early-admissible = given-admissible (early l x j) disc₀
+
+  log-admissible : Admissible logTurns disc₀
+  log-admissible = given-admissible (newer l x j) disc₀
+
+  read-early :
+      (a : ℕ) → a < 16 → sectorAt a (getD (replies logTurns disc₀) 3 []) ≡ contentAt earlyTurns disc₀ (0 + a)
+  unfolding given final answers replies decode
+  read-early a h =
+      let r = final earlyTurns disc₀ in
+      kept .back 256 disc₀ start₀ earlyTurns early-admissible (turn (after (j 3) (reading 0 x)) r) (turn-alike (after (j 3) (reading 0 x)) r) (lba 0) 16 refl
+      (newer-answer disc₀ start₀ l x j 3) a h
+
+  read-late :
+      (a : ℕ) → a < 16 → sectorAt a (behindAll logTurns disc₀ (after (j 5) (reading 16 x)) .reply) ≡ contentAt logTurns disc₀ (16 + a)
+  unfolding given final answers replies decode
+  read-late a h =
+      kept .back 256 disc₀ start₀ logTurns log-admissible (turn (after (j 5) (reading 16 x)) logEnd) (turn-alike (after (j 5) (reading 16 x)) logEnd) (lba 16) 16 refl
+      (late-answers f 16 l x j (decided-late .1)) a h
+
+  early-known : (a : ℕ) → atAddress (discAfter earlyShapes (blank 256)) (lba a) ≡ Number 1 → contentAt earlyTurns disc₀ a ≡ earlyAccount disc₀ l x j .content a
+  early-known a e = known-content 256 disc₀ start₀ earlyTurns early-admissible earlyShapes (early-shapes disc₀ l x j) a 1 e
+
+  log-known : (a : ℕ) → atAddress (discAfter newerShapes (blank 256)) (lba a) ≡ Number 1 → contentAt logTurns disc₀ a ≡ newerAccount disc₀ l x j .content a
+  log-known a e = known-content 256 disc₀ start₀ logTurns log-admissible newerShapes (newer-shapes disc₀ l x j) a 1 e
+
+  log-recorded : (a : ℕ) → atAddress (discAfter newerShapes (blank 256)) (lba a) ≡ Number 1 → recordedAt logTurns disc₀ a ≡ ltb a 32
+  log-recorded a e =
+      known-recorded 256 disc₀ start₀ logTurns log-admissible newerShapes (newer-shapes disc₀ l x j) a 1 e
+      ∙ (ap (λ (b : ℕ). ltb a (b + newerAccount disc₀ l x j .recorded)) newer-first ∙ ap (λ (b : ℕ). ltb a (0 + b)) (newer-recorded disc₀ l x j))
+
+  log-readable : (a : ℕ) → atAddress (discAfter newerShapes (blank 256)) (lba a) ≡ Number 1 → readable (logEnd .disc) (lba a) ≡ ltb a 32
+  log-readable a e = kept .recorded 256 disc₀ start₀ logTurns log-admissible a ∙ log-recorded a e
+
+  one-read : ReadOf (request (0x28 ∷ 0 ∷ 0 ∷ 0 ∷ 0 ∷ 16 ∷ 0 ∷ 0 ∷ 1 ∷ 0 ∷ 0 ∷ 0 ∷ []) [] (replicate 2048 x)) (lba 16) 1
+  unfolding decode
+  one-read =
+      let size = length-replicate {A = ℕ} 2048 x in
+      record { block = refl; command = refl; sectors = refl; room = omega (arith, size) }
+
+  log-kept : Keeps (account 1 logTurns disc₀) (discAfter newerShapes (blank 256)) 1
+  log-kept =
+      subst (λ (d : Disc). Keeps (account 1 logTurns disc₀) d 1)
+      (known-disc 256 disc₀ start₀ logTurns log-admissible newerShapes (newer-shapes disc₀ l x j))
+      (kept .keeps 256 disc₀ start₀ logTurns log-admissible 1 (omega arith))
+
+  reads : Reader l x logTurns disc₀ (j 5)
+  reads =
+      let k = log-kept in
+      let c = newer-figures in
+      record {
+        first = read-early 3 (omega arith) ∙ (early-known 3 (early-places .0) ∙ early-content disc₀ l x j .0);
+        second = read-early 7 (omega arith) ∙ (early-known 7 (early-places .1) ∙ early-content disc₀ l x j .1);
+        last = read-late 1 (omega arith) ∙ (log-known 17 (newer-places .0) ∙ newer-content disc₀ l x j .0);
+        zeroed = read-late 2 (omega arith) ∙ (log-known 18 (newer-places .1) ∙ newer-content disc₀ l x j .1);
+        log = log-readable 17 (newer-places .0);
+        padding = log-readable 31 (newer-places .2);
+        behind = log-readable 32 (newer-places .3);
+        accepted =
+            let r = request (0x28 ∷ 0 ∷ 0 ∷ 0 ∷ 0 ∷ 16 ∷ 0 ∷ 0 ∷ 1 ∷ 0 ∷ 0 ∷ 0 ∷ []) [] (replicate 2048 x) in
+            kept .readable 256 disc₀ start₀ logTurns log-admissible (turn (after (j 5) r) logEnd) (turn-alike (after (j 5) r) logEnd) (lba 16) one-read
+            (log-recorded 16 (newer-places .4));
+        served =
+            λ r q e.
+            let w = kept .lengths 256 disc₀ start₀ logTurns log-admissible (turn (after (j 5) r) logEnd) (turn-alike (after (j 5) r) logEnd) q e in
+            (λ z. no-size (subst OwnLength z w), λ z. no-state (subst OwnLength z w));
+        acceptedSectors = omega (arith, k .kept, k .within, k .recorded, k .zeroFilled, k .pending, c .0, c .1, c .2);
+        recordedSectors = omega (arith, k .recorded, c .0);
+        zeroSectors = k .zeroFilled ∙ c .1;
+        pendingSectors = k .pending ∙ c .2;
+      }
+
+-- the same by requests
+module _ (back : ReadBack) (count : KeptAsListed) (history : RecordedByHistory) (f : Flash) (l : Log) (x : ℕ) (j : ℕ → Change) where
+  abbrev disc₁ : Drive
+  disc₁ = blankOver f
+
+  abbrev start₁ : Start 256 disc₁
+  start₁ = flash-start f
+
+  abbrev turns₁ : List Turn
+  turns₁ = given (newer l x j) disc₁
+
+  abbrev end₁ : Drive
+  end₁ = final turns₁ disc₁
+
+  admissible₁ : Admissible turns₁ disc₁
+  admissible₁ = given-admissible (newer l x j) disc₁
+
+  -- the sequence around the second WRITE
+  abbrev front₁ : List Given
+  front₁ = after (j 0) (writing 0 5 (firstFive l)) ∷ after (j 1) (asking x) ∷ []
+
+  abbrev write₁ : Given
+  write₁ = after (j 2) (writing 5 13 (nextThirteen l))
+
+  brought₁ : sectorAt 7 (behindAll turns₁ disc₁ (after (j 5) (reading 0 x)) .reply) ≡ sectorAt 2 (nextThirteen l)
+  unfolding given final answers replies decode
+  brought₁ =
+      let ts = given front₁ disc₁ in
+      let w = turn write₁ (final ts disc₁) in
+      let us = given (after (j 3) (reading 0 x) ∷ after (j 4) flushing ∷ []) (result w (final ts disc₁) .after) in
+      back .later 256 disc₁ start₁ ts w us admissible₁ (lba 5) 13 refl (newer-answer disc₁ start₁ l x j 2)
+      (turn (after (j 5) (reading 0 x)) end₁) (turn-alike (after (j 5) (reading 0 x)) end₁) (lba 0) 16 refl
+      (late-answers f 0 l x j (decided-late .0)) 2 7 (omega arith) (omega arith) refl
+
+  none₁ : sectorAt 4 (behindAll turns₁ disc₁ (after (j 5) (reading 16 x)) .reply) ≡ zeros 2048
+  unfolding given final answers replies decode writes acceptedWrite writeOf broughtTo sole
+  none₁ =
+      back .back 256 disc₁ start₁ turns₁ admissible₁ (turn (after (j 5) (reading 16 x)) end₁) (turn-alike (after (j 5) (reading 16 x)) end₁) (lba 16) 16 refl
+      (late-answers f 16 l x j (decided-late .1)) 4 (omega arith)
+      ∙ ap (λ (r : List Answer). sole (broughtTo 20 (bring (getD r 0 Accepted) (getD r 1 Accepted) (getD r 2 Accepted) (getD r 3 Accepted) (getD r 4 Accepted))))
+      (newer-answers disc₁ start₁ l x j)
+    where
+      bring : Answer → Answer → Answer → Answer → Answer → List Written
+      bring a b c d e =
+          acceptedWrite a (writing 0 5 (firstFive l)) ++ (acceptedWrite b (asking x) ++ (acceptedWrite c (writing 5 13 (nextThirteen l))
+          ++ (acceptedWrite d (reading 0 x) ++ (acceptedWrite e flushing ++ []))))
+
+  last-disc : end₁ .disc ≡ discAfter newerShapes (blank 256)
+  last-disc = known-disc 256 disc₁ start₁ turns₁ admissible₁ newerShapes (newer-shapes disc₁ l x j)
+
+  early-disc : final (given (early l x j) disc₁) disc₁ .disc ≡ discAfter earlyShapes (blank 256)
+  early-disc = known-disc 256 disc₁ start₁ (given (early l x j) disc₁) (given-admissible (early l x j) disc₁) earlyShapes (early-shapes disc₁ l x j)
+
+  listed₁ : ListedKeeps (writes turns₁ disc₁) (discAfter newerShapes (blank 256)) 1
+  listed₁ =
+      subst (λ (d : Disc). ListedKeeps (writes turns₁ disc₁) d 1) last-disc (count .keeps 256 disc₁ start₁ turns₁ admissible₁ 1 (omega arith))
+
+  requested : Requested l x (given (early l x j) disc₁) turns₁ disc₁ (j 5)
+  requested =
+      let k = listed₁ in
+      let c = newer-figures in
+      record {
+        brought = brought₁;
+        none = none₁;
+        once = back .once 256 disc₁ start₁ turns₁ admissible₁ 7;
+        listed =
+            ap (λ (d : Disc). broughtInto (extentOf d 1) (writes turns₁ disc₁)) last-disc
+            ∙ omega (arith, k .kept, k .within, c .0, c .1, c .2);
+        counted = sym (count .accepted 256 disc₁ start₁ turns₁ admissible₁ 1 (omega arith));
+        held =
+            sym (history .pending 256 disc₁ start₁ (given (early l x j) disc₁) (given-admissible (early l x j) disc₁))
+            ∙ (ap (λ (d : Disc). d .pending) early-disc ∙ pending-figures .0);
+        flushed =
+            sym (history .recorded 256 disc₁ start₁ turns₁ admissible₁ 16)
+            ∙ (ap (λ (d : Disc). readable d (lba 16)) last-disc ∙ tail-readable (discAfter newerShapes (blank 256)) 2 14 16 newer-list (omega arith));
+        behind =
+            sym (history .recorded 256 disc₁ start₁ turns₁ admissible₁ 32)
+            ∙ (ap (λ (d : Disc). readable d (lba 32)) last-disc ∙ pending-figures .2);
+        settled =
+            sym (history .pending 256 disc₁ start₁ turns₁ admissible₁) ∙ (ap (λ (d : Disc). d .pending) last-disc ∙ pending-figures .1);
+        outside = history .stale 256 disc₁ start₁ turns₁ admissible₁;
+        covered = history .admissible 256 disc₁ start₁;
+        apart = history .apart 256 disc₁ start₁ turns₁ admissible₁;
+        alike = history .alike 256 disc₁ start₁ turns₁ admissible₁;
+      }
+
+-- all of them
+pub drawn : Demand3 → KeptAccount → ReadBack → KeptAsListed → RecordedByHistory → Cases
+drawn demand kept back count history =
+    record {
+      controllers = two-controllers demand;
+      exactly = byte-for-byte demand;
+      stays = block-stays demand;
+      fitting = fits demand;
+      reader = reads kept;
+      requested = requested back count history;
+    }
+
+pub cases : Cases
+cases = drawn demand-3 kept-account read-back kept-as-listed recorded-by-history

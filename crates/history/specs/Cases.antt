@@ -1,0 +1,197 @@
+-- Cases of the theorems: two controllers that send the same log, and what they and a reader see. Each is drawn from a statement
+-- alone and not from its proof (proofs/Laws/Cases), so a statement that is weaker no longer gives it.
+use Prim.Native.Nat.{ℕ, _+_, _≤_, _<_}
+use mathlib.Core.Bool.{true, false}
+use mathlib.Core.Path.{_≡_}
+use mathlib.Core.List.{List, [], _∷_, _++_}
+use lib.ListN.{length, getD, replicate}
+use Rattle.fragments.specs.Address.{lba}
+use Rattle.disc.specs.Blank.{blank}
+use Rattle.disc.specs.Records.{readable}
+use Rattle.drive.specs.Bytes.{zeros}
+use Rattle.drive.specs.Step.{Drive, drive, Request, request, Result}
+use Rattle.drive.specs.Alike.{pendingSectors, Alike}
+use Rattle.history.specs.Types.{Answer, Accepted, Link, LinkRefusal, MediumSize, UnsoundState}
+use Rattle.history.specs.Sequence.{Turn, result, final, Admissible}
+use Rattle.history.specs.Account.{extentOf, sectorAt, account}
+use Rattle.history.specs.Brought.{writes, broughtTo, broughtInto}
+use Rattle.history.specs.Past.{beginning, past, StaleApart, StaleChanges}
+use Rattle.history.specs.Stale.{Change, unchanged, Given, after, given, turn}
+use Rattle.history.specs.Examples.{writeBlock}
+
+-- the answers of a sequence, its replies and its counts of blocks recorded
+unfoldable pub answers : List Turn → Drive → List Answer
+answers [] s = []
+answers (t ∷ ts) s = result t s .answer ∷ answers ts (result t s .after)
+
+unfoldable pub replies : List Turn → Drive → List (List ℕ)
+replies [] s = []
+replies (t ∷ ts) s = result t s .reply ∷ replies ts (result t s .after)
+
+unfoldable pub counts : List Turn → Drive → List ℕ
+counts [] s = []
+counts (t ∷ ts) s = result t s .recorded ∷ counts ts (result t s .after)
+
+-- a piece of flash for 256 blocks with its pending buffer, whatever bytes they hold, and the blank disc over it
+pub record Flash : Type 0 where
+  pub medium : List ℕ
+  pub pending : List ℕ
+  pub mediumLength : length medium ≡ 8388608
+  pub pendingLength : length pending ≡ 32768
+
+abbrev pub blankOver : Flash → Drive
+blankOver f = drive (blank 256) (f .medium) (f .pending)
+
+-- a log in five pieces, of 2, 1, 2, 3 and 10 sectors
+pub record Log : Type 0 where
+  pub one : List ℕ
+  pub two : List ℕ
+  pub three : List ℕ
+  pub four : List ℕ
+  pub five : List ℕ
+  pub oneLength : length one ≡ 4096
+  pub twoLength : length two ≡ 2048
+  pub threeLength : length three ≡ 4096
+  pub fourLength : length four ≡ 6144
+  pub fiveLength : length five ≡ 20480
+
+abbrev pub firstFive : Log → List ℕ
+firstFive l = l .one ++ (l .two ++ (l .three ++ []))
+
+abbrev pub nextThirteen : Log → List ℕ
+nextThirteen l = l .four ++ (l .five ++ [])
+
+abbrev pub writing : ℕ → ℕ → List ℕ → Request
+writing a n x = request (writeBlock a n) x []
+
+-- 52h number 1, READ of 16 sectors and 35h, with a reply buffer that is full of some byte
+abbrev pub asking : ℕ → Request
+asking x = request (0x52 ∷ 1 ∷ 0 ∷ 0 ∷ 0 ∷ 1 ∷ 0 ∷ 0 ∷ 36 ∷ 0 ∷ 0 ∷ 0 ∷ []) [] (replicate 36 x)
+
+abbrev pub reading : ℕ → ℕ → Request
+reading a x = request (0x28 ∷ 0 ∷ 0 ∷ 0 ∷ 0 ∷ a ∷ 0 ∷ 0 ∷ 16 ∷ 0 ∷ 0 ∷ 0 ∷ []) [] (replicate 32768 x)
+
+abbrev pub flushing : Request
+flushing = request (0x35 ∷ 0 ∷ 0 ∷ 0 ∷ 0 ∷ 0 ∷ 0 ∷ 0 ∷ 0 ∷ 0 ∷ 0 ∷ 0 ∷ []) [] []
+
+-- the newer controller: WRITE 0 of 5, 52h, WRITE 5 of 13, READ 0 of 16, 35h. Before command i stale bytes change as j i says
+abbrev pub newer : Log → ℕ → (ℕ → Change) → List Given
+newer l x j =
+    after (j 0) (writing 0 5 (firstFive l)) ∷ after (j 1) (asking x) ∷ after (j 2) (writing 5 13 (nextThirteen l)) ∷ after (j 3) (reading 0 x)
+    ∷ after (j 4) flushing ∷ []
+
+-- the older one sends the first WRITE in three, the second in two, and hands other reply buffers over
+abbrev pub older : Log → ℕ → (ℕ → Change) → List Given
+older l x j =
+    after (j 0) (writing 0 2 (l .one)) ∷ after (j 1) (writing 2 1 (l .two)) ∷ after (j 2) (writing 3 2 (l .three)) ∷ after (j 3) (asking x)
+    ∷ after (j 4) (writing 5 3 (l .four)) ∷ after (j 5) (writing 8 10 (l .five)) ∷ after (j 6) (reading 0 x) ∷ after (j 7) flushing ∷ []
+
+-- the newer controller's first three commands: five sectors, then thirteen, of which two are pending
+abbrev pub early : Log → ℕ → (ℕ → Change) → List Given
+early l x j = after (j 0) (writing 0 5 (firstFive l)) ∷ after (j 1) (asking x) ∷ after (j 2) (writing 5 13 (nextThirteen l)) ∷ []
+
+-- the newer controller's turns ts from the drive s on, and the older one's turns us from e on: two discs, each over bytes of its own
+pub record TwoControllers (ts : List Turn) (s : Drive) (us : List Turn) (e : Drive) : Type 0 where
+  -- every part of a WRITE is accepted, and so is every other command
+  pub answers : answers us e ≡ replicate 8 Accepted
+  -- 52h and READ reply alike
+  pub information : getD (replies us e) 3 [] ≡ getD (replies ts s) 1 []
+  pub reading : getD (replies us e) 6 [] ≡ getD (replies ts s) 3 []
+  -- the parts record as many blocks as the WRITEs, and 35h as many as 35h
+  pub firstParts : getD (counts us e) 0 0 + (getD (counts us e) 1 0 + getD (counts us e) 2 0) ≡ getD (counts ts s) 0 0
+  pub secondParts : getD (counts us e) 4 0 + getD (counts us e) 5 0 ≡ getD (counts ts s) 2 0
+  pub flushed : getD (counts us e) 7 0 ≡ getD (counts ts s) 4 0
+  -- at the end: the same disc, the same bytes in the two blocks recorded, the same pending sectors
+  pub disc : final us e .disc ≡ final ts s .disc
+  pub recorded : (i : ℕ) → i < 65536 → getD (final us e .medium) i 0 ≡ getD (final ts s .medium) i 0
+  pub pending : pendingSectors (final us e) ≡ pendingSectors (final ts s)
+
+-- from one drive with nothing changed from outside: the same medium and pending buffer, leftover bytes included
+pub record ByteForByte (ts us : List Turn) (s : Drive) : Type 0 where
+  pub medium : final us s .medium ≡ final ts s .medium
+  pub pending : final us s .pending ≡ final ts s .pending
+
+-- the block that the second WRITE completed, after it and at the end
+abbrev pub BlockStays : List Turn → List Turn → Drive → Type 0
+BlockStays before ts s = (i : ℕ) → i < 32768 → getD (final ts s .medium) i 0 ≡ getD (final before s .medium) i 0
+
+-- behind RESERVE 33, so in a fragment of 48 sectors: WRITE 0 of 49 does not fit, WRITE 0 of 48 does; each in two parts
+abbrev pub reserving : Request
+reserving = request (0x53 ∷ 0 ∷ 0 ∷ 0 ∷ 0 ∷ 0 ∷ 0 ∷ 0 ∷ 33 ∷ 0 ∷ 0 ∷ 0 ∷ []) [] []
+
+abbrev pub inTwo : List ℕ → List ℕ → ℕ → (ℕ → Change) → List Given
+inTwo x y n j = after (j 0) reserving ∷ after (j 1) (writing 0 40 x) ∷ after (j 2) (writing 40 n y) ∷ []
+
+pub record Fitting (s : Drive) (x y z : List ℕ) (j : ℕ → Change) : Type 0 where
+  -- a WRITE that fits in part: not every part of it is accepted
+  pub partly : answers (given (inTwo x y 9 j) s) s ≡ replicate 3 Accepted → ⊥
+  -- one that fits whole
+  pub wholly : answers (given (inTwo x z 8 j) s) s ≡ replicate 3 Accepted
+
+-- what comes of a command behind a sequence
+abbrev pub behindAll : List Turn → Drive → Given → Result
+behindAll ts s g = result (turn g (final ts s)) (final ts s)
+
+-- what a reader finds of the log, in the newer controller's turns ts from the drive s on: READ 0 of 16 before the flush, and behind it READs
+-- after a change c
+pub record Reader (l : Log) (x : ℕ) (ts : List Turn) (s : Drive) (c : Change) : Type 0 where
+  -- sectors 3 and 7 are sector 3 of the first WRITE and sector 2 of the second
+  pub first : sectorAt 3 (getD (replies ts s) 3 []) ≡ sectorAt 3 (firstFive l)
+  pub second : sectorAt 7 (getD (replies ts s) 3 []) ≡ sectorAt 2 (nextThirteen l)
+  -- behind the flush sector 17 is the last one of the log, and sector 18 zeros that nobody wrote
+  pub last : sectorAt 1 (behindAll ts s (after c (reading 16 x)) .reply) ≡ sectorAt 12 (nextThirteen l)
+  pub zeroed : sectorAt 2 (behindAll ts s (after c (reading 16 x)) .reply) ≡ zeros 2048
+  -- sectors 17 and 31 can be read, 32 cannot
+  pub log : readable (final ts s .disc) (lba 17) ≡ true
+  pub padding : readable (final ts s .disc) (lba 31) ≡ true
+  pub behind : readable (final ts s .disc) (lba 32) ≡ false
+  -- READ 16 of 1 is accepted
+  pub accepted :
+      behindAll ts s (after c (request (0x28 ∷ 0 ∷ 0 ∷ 0 ∷ 0 ∷ 16 ∷ 0 ∷ 0 ∷ 1 ∷ 0 ∷ 0 ∷ 0 ∷ []) [] (replicate 2048 x))) .answer ≡ Accepted
+  -- no request is refused by L2 or L3
+  pub served :
+      (r : Request) (q : LinkRefusal) → behindAll ts s (after c r) .answer ≡ Link q → (q ≡ MediumSize → ⊥) × (q ≡ UnsoundState → ⊥)
+  -- 18 sectors accepted, 32 recorded, 14 of them zero-filled, none pending
+  pub acceptedSectors : account 1 ts s .accepted ≡ 18
+  pub recordedSectors : account 1 ts s .recorded ≡ 32
+  pub zeroSectors : account 1 ts s .zeroFilled ≡ 14
+  pub pendingSectors : account 1 ts s .pending ≡ 0
+
+-- the same log by its requests; `before` are the first three turns of ts
+pub record Requested (l : Log) (x : ℕ) (before ts : List Turn) (s : Drive) (c : Change) : Type 0 where
+  -- sector 7 is the one that the second WRITE brought there, and nobody brought anything to sector 20
+  pub brought : sectorAt 7 (behindAll ts s (after c (reading 0 x)) .reply) ≡ sectorAt 2 (nextThirteen l)
+  pub none : sectorAt 4 (behindAll ts s (after c (reading 16 x)) .reply) ≡ zeros 2048
+  -- nobody brings a second sector to an address
+  pub once : length (broughtTo 7 (writes ts s)) ≤ 1
+  -- 18 sectors lie in the fragment as it is listed; the account has as many
+  pub listed : broughtInto (extentOf (final ts s .disc) 1) (writes ts s) ≡ 18
+  pub counted : broughtInto (extentOf (final ts s .disc) 1) (writes ts s) ≡ account 1 ts s .accepted
+  -- before the flush two sectors are held; behind it block 1 is recorded, block 2 is not, and none is held
+  pub held : past before s .held ≡ 2
+  pub flushed : past ts s .recorded 1 ≡ true
+  pub behind : past ts s .recorded 2 ≡ false
+  pub settled : past ts s .held ≡ 0
+  -- what came from outside was stale bytes alone, and every sequence of which that is so is covered
+  pub outside : StaleChanges ts s beginning
+  pub covered : (us : List Turn) → StaleChanges us s beginning → Admissible us s
+  -- a drive is alike at the end exactly when it differs in stale bytes at most
+  pub apart : (e : Drive) → Alike (final ts s) e → StaleApart (past ts s) (final ts s) e
+  pub alike : (e : Drive) → StaleApart (past ts s) (final ts s) e → Alike (final ts s) e
+
+-- for every flash, log, reply buffers and changes
+pub record Cases : Type 0 where
+  pub controllers :
+      (f g : Flash) (l : Log) (x y : ℕ) (j k : ℕ → Change)
+      → TwoControllers (given (newer l x j) (blankOver f)) (blankOver f) (given (older l y k) (blankOver g)) (blankOver g)
+  pub exactly :
+      (f : Flash) (l : Log) (x y : ℕ)
+      → ByteForByte (given (newer l x (λ i. unchanged)) (blankOver f)) (given (older l y (λ i. unchanged)) (blankOver f)) (blankOver f)
+  pub stays :
+      (f : Flash) (l : Log) (x : ℕ) (j : ℕ → Change) → BlockStays (given (early l x j) (blankOver f)) (given (newer l x j) (blankOver f)) (blankOver f)
+  pub fitting :
+      (f : Flash) (x y z : List ℕ) → length x ≡ 81920 → length y ≡ 18432 → length z ≡ 16384 → (j : ℕ → Change) → Fitting (blankOver f) x y z j
+  pub reader : (f : Flash) (l : Log) (x : ℕ) (j : ℕ → Change) → Reader l x (given (newer l x j) (blankOver f)) (blankOver f) (j 5)
+  pub requested :
+      (f : Flash) (l : Log) (x : ℕ) (j : ℕ → Change)
+      → Requested l x (given (early l x j) (blankOver f)) (given (newer l x j) (blankOver f)) (blankOver f) (j 5)

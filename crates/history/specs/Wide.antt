@@ -1,0 +1,102 @@
+-- Wide witnesses: for every capacity and any requests, with any bytes in every stale place before each command, there are admissible
+-- sequences, and second sequences with accepted WRITEs cut in any way.
+use Prim.Native.Nat.{ℕ, _+_, _*_, _≤_, _<_}
+use mathlib.Core.Bool.{Bool, true, false, cond, _&&_}
+use mathlib.Core.Path.{_≡_}
+use mathlib.Core.List.{List, [], _∷_, _++_, map}
+use lib.Dec.{eqb, leb}
+use lib.ListN.{length, getD, take, drop}
+use Rattle.fragments.specs.Address.{lba}
+use Rattle.disc.specs.Blank.{inRange, blank}
+use Rattle.protocol.specs.Command.{decode}
+use Rattle.protocol.specs.Reports.{low, high, bytes32}
+use Rattle.drive.specs.Bytes.{zeros}
+use Rattle.drive.specs.Step.{Drive, drive, Request, request, step}
+use Rattle.drive.specs.Alike.{recordedByte}
+use Rattle.drive.specs.Requests.{WriteOf}
+use Rattle.history.specs.Types.{Lba, Answer, Accepted, Link, Drive as byDrive, Command, TestUnitReady, RequestSense, ReadCapacity, Read, Write, SynchronizeCache, ReserveTrack, CloseTrackSession, ReadDiscInformation, ReadTrackInformation, Unlisted}
+use Rattle.history.specs.Sequence.{Start, result, Admissible}
+use Rattle.history.specs.Cut.{Again}
+use Rattle.history.specs.Stale.{stirred, Given, turn, given}
+
+-- n bytes, each by its index
+abbrev pub filledBy : (ℕ → ℕ) → ℕ → List ℕ
+filledBy f n = stirred (λ i. false) (λ i x. f i) 0 (zeros n)
+
+-- the blank disc of c blocks over any bytes
+abbrev pub startOver : ℕ → (ℕ → ℕ) → (ℕ → ℕ) → Drive
+startOver c m p = drive (blank c) (filledBy m (32768 * c)) (filledBy p 32768)
+
+-- a WRITE of n sectors at an address as a block of twelve bytes
+abbrev pub writeBytes : ℕ → ℕ → List ℕ
+writeBytes a n = (0x2A ∷ 0 ∷ []) ++ (bytes32 a ++ (0 ∷ high n ∷ low n ∷ 0 ∷ 0 ∷ 0 ∷ []))
+
+-- the parts of a WRITE, given by their lengths: each begins where the last ended and brings its own sectors
+unfoldable pub partsOf : ℕ → List ℕ → List ℕ → List Request
+partsOf a [] x = []
+partsOf a (k ∷ ks) x = request (writeBytes a k) (take (2048 * k) x) [] ∷ partsOf (a + k) ks (drop (2048 * k) x)
+
+-- how many sectors they have together, and whether each has at least one and a length that a block can name
+unfoldable pub total : List ℕ → ℕ
+total [] = 0
+total (k ∷ ks) = k + total ks
+
+unfoldable pub nameable : List ℕ → Bool
+nameable [] = true
+nameable (k ∷ ks) = leb 1 k && leb k 65535 && nameable ks
+
+-- they are a cut of a WRITE of n sectors at an address: two or more, n sectors together, no address past what a block can name
+abbrev pub isCut : Request → ℕ → ℕ → List ℕ → Bool
+isCut q a n ks =
+    eqb (length (q .block)) 12 && eqb (length (q .sectors)) (2048 * n) && leb 2 (length ks) && eqb (total ks) n && nameable ks
+    && leb (a + n) 0x100000000
+
+-- a command again: in parts, if they are a cut of a WRITE that was accepted, else as it was
+unfoldable pub recutCommand : List ℕ → Request → Command → List Request
+recutCommand ks q (Write a n) = cond (isCut q (a .0) n ks) (partsOf (a .0) ks (q .sectors)) (q ∷ [])
+recutCommand ks q TestUnitReady = q ∷ []
+recutCommand ks q (RequestSense allocation) = q ∷ []
+recutCommand ks q ReadCapacity = q ∷ []
+recutCommand ks q (Read a n) = q ∷ []
+recutCommand ks q SynchronizeCache = q ∷ []
+recutCommand ks q (ReserveTrack size) = q ∷ []
+recutCommand ks q (CloseTrackSession function n) = q ∷ []
+recutCommand ks q (ReadDiscInformation dataType allocation) = q ∷ []
+recutCommand ks q (ReadTrackInformation addressType n allocation) = q ∷ []
+recutCommand ks q Unlisted = q ∷ []
+
+unfoldable pub recut : Answer → List ℕ → Request → List Request
+recut Accepted ks q = recutCommand ks q (decode (q .block))
+recut (Link r) ks q = q ∷ []
+recut (byDrive r) ks q = q ∷ []
+
+-- a whole sequence again, with the lengths of parts for each command; those behind the last that has lengths stay
+unfoldable pub second : List (List ℕ) → List Given → Drive → List Request
+second cuts [] s = []
+second [] (g ∷ gs) s = g .request ∷ second [] gs (result (turn g s) s .after)
+second (ks ∷ cuts) (g ∷ gs) s = recut (result (turn g s) s .answer) ks (g .request) ++ second cuts gs (result (turn g s) s .after)
+
+pub record Wide : Type 0 where
+  -- a start of every capacity, over any bytes
+  pub start : (c : ℕ) → inRange c ≡ true → (m p : ℕ → ℕ) → Start c (startOver c m p)
+  pub medium : (c : ℕ) (m p : ℕ → ℕ) (i : ℕ) → i < 32768 * c → getD (startOver c m p .medium) i 0 ≡ m i
+  pub pending : (c : ℕ) (m p : ℕ → ℕ) (i : ℕ) → i < 32768 → getD (startOver c m p .pending) i 0 ≡ p i
+  -- any requests, with any change of stale bytes before each, are an admissible sequence
+  pub admissible : (gs : List Given) (s : Drive) → Admissible (given gs s) s
+  -- and every stale byte is then what the change says
+  pub staleMedium :
+      (g : Given) (s : Drive) (i : ℕ) → i < length (s .medium) → recordedByte (s .disc) i ≡ false
+      → getD (turn g s .medium) i 0 ≡ g .change .medium i (getD (s .medium) i 0)
+  pub stalePending :
+      (g : Given) (s : Drive) (i : ℕ) → i < length (s .pending) → 2048 * s .disc .pending ≤ i
+      → getD (turn g s .pending) i 0 ≡ g .change .pending i (getD (s .pending) i 0)
+  -- whatever lengths are asked for, those commands are the same sequence again, with any change before each and from any other drive
+  pub again :
+      (cuts : List (List ℕ)) (gs hs : List Given) (s e : Drive) → map (λ (h : Given). h .request) hs ≡ second cuts gs s
+      → Again s (given gs s) (given hs e)
+  -- WRITEs of any length are accepted on a start of any capacity, so there is something to cut
+  pub accepted : (c : ℕ) (s : Drive) → Start c s → (q : Request) (n : ℕ) → WriteOf q (lba 0) n → n ≤ 16 * c → step s q .answer ≡ Accepted
+  -- an accepted WRITE is then in as many parts as there are lengths
+  pub parts :
+      (q : Request) (a : Lba) (n : ℕ) (ks : List ℕ) → WriteOf q a n → 2 ≤ length ks → total ks ≡ n → nameable ks ≡ true → a .0 + n ≤ 0x100000000
+      → length (recut Accepted ks q) ≡ length ks

@@ -35,7 +35,7 @@ shortenedRecord f =
       kind = f .kind;
     }
 
--- a new tail behind fragment n, the last one, if there is a block for it and a record
+-- a new tail after fragment n, the last one, if there is a block for it and a record
 unfoldable pub appendTail : Disc → ℕ → Disc
 appendTail d n =
     let f = numbered d n in
@@ -69,7 +69,7 @@ closeTail d =
     cond (hasBlankTail d) (withRecord d (used d) unusedRecord)
     (cond (hasTail d) (withRecord d (used d) (shortenedRecord (lastRecord d))) d)
 
--- a tail of the next session behind the last record
+-- a tail of the next session after the last record
 unfoldable pub openSession : Disc → Disc
 openSession d =
     withRecord d (used d + 1) (tailFrom (d .capacity) (lastRecord d .session + 1) (nextSessionStart (end (lastRecord d))))

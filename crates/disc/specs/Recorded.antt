@@ -26,7 +26,7 @@ transfers (Fill b n) k = among (b .0) n k
 unfoldable pub recordsBlock : Plan → ℕ → Bool
 recordsBlock p k = flushes (p .flush) k || transfers (p .transfer) k
 
--- the pending sectors after a flush, and after the transfer behind it
+-- the pending sectors after a flush, and after the transfer after it
 unfoldable pub flushedCount : Flush → ℕ → ℕ
 flushedCount Skip pending = pending
 flushedCount (Record b n) pending = 0

@@ -15,7 +15,7 @@ abbrev pub reservedAt : Fragment → ℕ → Fragment
 reservedAt f b =
     record { session = f .session; start = f .start; length = b; recorded = 0; zeroed = 0; kind = Reserved }
 
--- the blank tail becomes a reserved fragment of b blocks and a tail behind it
+-- the blank tail becomes a reserved fragment of b blocks and a tail after it
 unfoldable pub splitTail : Disc → ℕ → Disc
 splitTail d b =
     let f = reservedAt (lastRecord d) b in

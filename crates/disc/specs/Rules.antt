@@ -15,7 +15,7 @@ use Rattle.disc.specs.Records.{used, numbered, lastRecord, hasTail}
 abbrev pub at : Disc → ℕ → Fragment
 at d i = getD (d .fragments) i unusedRecord
 
--- f stands behind p: in the same session, or in the next one
+-- f stands after p: in the same session, or in the next one
 abbrev pub Follows : Fragment → Fragment → Type 0
 Follows p f =
     ((f .session ≡ p .session) × (f .start .0 ≡ nextFragmentStart (end p) .0))
@@ -36,7 +36,7 @@ pub record Sound (d : Disc) : Type 0 where
   -- the first record is in session 1 and starts at block 0
   pub firstSession : at d 0 .session ≡ 1
   pub firstStart : at d 0 .start .0 ≡ 0
-  -- each next one stands behind its forerunner
+  -- each next one stands after its forerunner
   pub next : (i : ℕ) → suc i < used d → Follows (at d i) (at d (suc i))
   -- no fragment ends past the capacity, records more blocks than it has or zero-fills more sectors than it records
   pub ends : (i : ℕ) → i < used d → end (at d i) .0 ≤ d .capacity

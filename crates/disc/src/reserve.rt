@@ -13,7 +13,7 @@ ghost use Rattle.disc.specs.Ready.{Ready};
 ghost use Rattle.disc.specs.Reserve.{Splitting, splitTail, reserve};
 
 impl Disc {
-    // The disc whose blank tail is a reserved fragment of so many blocks with a tail behind it.
+    // The disc whose blank tail is a reserved fragment of so many blocks with a tail after it.
     pub(crate) fn split_tail(self, blocks: u32) -> Disc
         requires { ⌜ Splitting self blocks ⌝ }
         ensures { λ r. ⌜ r ≡ splitTail self blocks ⌝ }

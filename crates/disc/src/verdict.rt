@@ -24,7 +24,7 @@ pub enum Transfer {
         address: Lba,
         sectors: u32,
     },
-    // The data's sectors gather behind those already pending in a block, and each sixteen of them are recorded.
+    // The data's sectors gather after those already pending in a block, and each sixteen of them are recorded.
     Gather {
         block: Block,
         pending: u8,

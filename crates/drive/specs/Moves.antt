@@ -9,12 +9,12 @@ use Rattle.drive.specs.Bytes.{zeros, splice, padded}
 unfoldable pub stream : ℕ → List ℕ → List ℕ → List ℕ
 stream held pending sectors = take (2048 * held) pending ++ sectors
 
--- n sectors gather behind those held for block b: each sixteen of them are recorded, from that block on
+-- n sectors gather after those held for block b: each sixteen of them are recorded, from that block on
 unfoldable pub gatheredMedium : ℕ → ℕ → ℕ → List ℕ → List ℕ → List ℕ → List ℕ
 gatheredMedium b held n medium pending sectors =
     splice medium (32768 * b) (take (32768 * ((held + n) / 16)) (stream held pending sectors))
 
--- and the rest stays pending, with zeros behind it
+-- and the rest stays pending, with zeros after it
 unfoldable pub gatheredPending : ℕ → ℕ → List ℕ → List ℕ → List ℕ
 gatheredPending held n pending sectors = padded (drop (32768 * ((held + n) / 16)) (stream held pending sectors))
 

@@ -51,7 +51,7 @@ breaks k d = record { disc = d; rule = k }
 
 abbrev pub brokenStates : List Broken
 brokenStates =
-    -- a record in use behind an unused one; an unused record that is not all zero
+    -- a record in use after an unused one; an unused record that is not all zero
     breaks 0 (state 0 0 false (tail ∷ unusedRecord ∷ fragment 1 0 1 0 0 Reserved ∷ []))
     ∷ breaks 0 (state 0 0 false (tail ∷ fragment 0 0 0 0 0 Appended ∷ []))
     -- the first record in session 2, or at block 1
@@ -92,7 +92,7 @@ unfolding
     tailOrFull pendingNamed finalizedComplete allowedSense isRefusalSense
 broken-states = refl
 
--- n reserved fragments of a block each behind one another, from a block on, complete
+-- n reserved fragments of a block each one after another, from a block on, complete
 unfoldable pub column : ℕ → ℕ → List Fragment
 column zero b = []
 column (suc n) b = fragment 1 b 1 1 0 Reserved ∷ column n (b + 2)

@@ -56,7 +56,7 @@ played d (l ∷ ls) =
     let v = judge d (l .command) (l .sectors) (l .room) in
     shown v ∷ played (v .disc) ls
 
--- a command block by its first bytes, zeros behind them
+-- a command block by its first bytes, zeros after them
 abbrev block : List ℕ → List ℕ
 block b = b ++ replicate (12 - length b) 0
 
@@ -267,7 +267,7 @@ fillingRun =
     ∷ line (block (0x5B ∷ 0 ∷ 1 ∷ 0 ∷ 0 ∷ 1 ∷ [])) 0 0 0 3 [] (sense 0 0 0) 96 0 bothFilled
     -- 5B/001 again: it is complete, nothing is done
     ∷ line (block (0x5B ∷ 0 ∷ 1 ∷ 0 ∷ 0 ∷ 1 ∷ [])) 0 0 0 0 [] (sense 0 0 0) 96 0 bothFilled
-    -- READ of its last sector and of the one behind it, in the dividing block
+    -- READ of its last sector and of the one after it, in the dividing block
     ∷ line (block (0x28 ∷ 0 ∷ 0 ∷ 0 ∷ 0 ∷ 0x3F ∷ 0 ∷ 0 ∷ 1 ∷ [])) 0 2048 0 0 [] (sense 0 0 0) 96 0 bothFilled
     ∷ line (block (0x28 ∷ 0 ∷ 0 ∷ 0 ∷ 0 ∷ 0x40 ∷ 0 ∷ 0 ∷ 1 ∷ [])) 0 2048 0x080000 0 [] (sense 0x8 0x00 0x00) 96 0 bothFilled
     -- 5B/110: the tail ends with its one block

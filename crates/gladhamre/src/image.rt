@@ -85,7 +85,7 @@ fn record_fits(words: &[u32]) -> bool
     (words[0] < 256) & (words[5] < 2)
 }
 
-// Whether the words behind the head are records'.
+// Whether the words after the head are records'.
 fn list_fits(words: &[u32]) -> bool
     requires { ⌜ length (now words) ≡ 391 ⌝ }
     ensures { λ r. ⌜ r ≡ listFits limit (drop 7 (now (words .entry))) ⌝ }
@@ -184,7 +184,7 @@ fn write_head(words: &mut [u32], disc: Disc)
     words[6] = disc.owner as u32;
 }
 
-// The records, behind the head.
+// The records, after the head.
 fn write_list(words: &mut [u32], disc: Disc)
     requires { ⌜ length (now words) ≡ 391 ⌝ }
     ensures { λ _. ⌜ now (words .exit) ≡ splice (now (words .entry)) 7 (listWords (disc .fragments)) ⌝ }

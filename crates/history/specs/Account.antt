@@ -43,7 +43,7 @@ pub record Account : Type 0 where
 abbrev pub opened : Account
 opened = record { accepted = 0; recorded = 0; zeroFilled = 0; pending = 0; content = λ a. [] }
 
--- a WRITE of n sectors is accepted: they gather behind the pending ones, each sixteen are recorded, and each sector stands at its address
+-- a WRITE of n sectors is accepted: they gather after the pending ones, each sixteen are recorded, and each sector stands at its address
 unfoldable pub written : ℕ → ℕ → List ℕ → Account → Account
 written address n sectors k =
     record {
@@ -54,7 +54,7 @@ written address n sectors k =
       content = λ a. cond (among address n a) (sectorAt (a - address) sectors) (k .content a);
     }
 
--- the drive records n sectors of zeros behind the pending ones
+-- the drive records n sectors of zeros after the pending ones
 abbrev pub zeroed : Extent → ℕ → Account → Account
 zeroed x n k =
     record {

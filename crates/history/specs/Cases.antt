@@ -115,7 +115,7 @@ pub record ByteForByte (ts us : List Turn) (s : Drive) : Type 0 where
 abbrev pub BlockStays : List Turn → List Turn → Drive → Type 0
 BlockStays before ts s = (i : ℕ) → i < 32768 → getD (final ts s .medium) i 0 ≡ getD (final before s .medium) i 0
 
--- behind RESERVE 33, so in a fragment of 48 sectors: WRITE 0 of 49 does not fit, WRITE 0 of 48 does; each in two parts
+-- after RESERVE 33, so in a fragment of 48 sectors: WRITE 0 of 49 does not fit, WRITE 0 of 48 does; each in two parts
 abbrev pub reserving : Request
 reserving = request (0x53 ∷ 0 ∷ 0 ∷ 0 ∷ 0 ∷ 0 ∷ 0 ∷ 0 ∷ 33 ∷ 0 ∷ 0 ∷ 0 ∷ []) [] []
 
@@ -128,17 +128,17 @@ pub record Fitting (s : Drive) (x y z : List ℕ) (j : ℕ → Change) : Type 0 
   -- one that fits whole
   pub wholly : answers (given (inTwo x z 8 j) s) s ≡ replicate 3 Accepted
 
--- what comes of a command behind a sequence
+-- what comes of a command after a sequence
 abbrev pub behindAll : List Turn → Drive → Given → Result
 behindAll ts s g = result (turn g (final ts s)) (final ts s)
 
--- what a reader finds of the log, in the newer controller's turns ts from the drive s on: READ 0 of 16 before the flush, and behind it READs
+-- what a reader finds of the log, in the newer controller's turns ts from the drive s on: READ 0 of 16 before the flush, and after it READs
 -- after a change c
 pub record Reader (l : Log) (x : ℕ) (ts : List Turn) (s : Drive) (c : Change) : Type 0 where
   -- sectors 3 and 7 are sector 3 of the first WRITE and sector 2 of the second
   pub first : sectorAt 3 (getD (replies ts s) 3 []) ≡ sectorAt 3 (firstFive l)
   pub second : sectorAt 7 (getD (replies ts s) 3 []) ≡ sectorAt 2 (nextThirteen l)
-  -- behind the flush sector 17 is the last one of the log, and sector 18 zeros that nobody wrote
+  -- after the flush sector 17 is the last one of the log, and sector 18 zeros that nobody wrote
   pub last : sectorAt 1 (behindAll ts s (after c (reading 16 x)) .reply) ≡ sectorAt 12 (nextThirteen l)
   pub zeroed : sectorAt 2 (behindAll ts s (after c (reading 16 x)) .reply) ≡ zeros 2048
   -- sectors 17 and 31 can be read, 32 cannot
@@ -167,7 +167,7 @@ pub record Requested (l : Log) (x : ℕ) (before ts : List Turn) (s : Drive) (c 
   -- 18 sectors lie in the fragment as it is listed; the account has as many
   pub listed : broughtInto (extentOf (final ts s .disc) 1) (writes ts s) ≡ 18
   pub counted : broughtInto (extentOf (final ts s .disc) 1) (writes ts s) ≡ account 1 ts s .accepted
-  -- before the flush two sectors are held; behind it block 1 is recorded, block 2 is not, and none is held
+  -- before the flush two sectors are held; after it block 1 is recorded, block 2 is not, and none is held
   pub held : past before s .held ≡ 2
   pub flushed : past ts s .recorded 1 ≡ true
   pub behind : past ts s .recorded 2 ≡ false

@@ -23,7 +23,7 @@ firstPart a = request (writeBlock a 1) (sector 7) []
 abbrev pub secondPart : ℕ → Request
 secondPart a = request (writeBlock (a + 1) 1) (sector 9) []
 
--- to follow the first part of a WRITE 0 of 2: the second sector behind a gap, and over the first
+-- to follow the first part of a WRITE 0 of 2: the second sector after a gap, and over the first
 abbrev pub partBehindGap : Request
 partBehindGap = request (writeBlock 2 1) (sector 9) []
 

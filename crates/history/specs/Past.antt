@@ -16,7 +16,7 @@ use Rattle.history.specs.Types.{Disc, Answer, Accepted, Link, Drive as b
 use Rattle.history.specs.Sequence.{Start, Turn, found, result, final, Admissible}
 use Rattle.history.specs.Account.{Extent, extentOf}
 
--- which blocks are recorded, how many accepted sectors of a block not yet recorded there are, and the address behind the last accepted one
+-- which blocks are recorded, how many accepted sectors of a block not yet recorded there are, and the address after the last accepted one
 pub record Past : Type 0 where
   pub recorded : ℕ → Bool
   pub held : ℕ
@@ -49,7 +49,7 @@ pastFlushed h = cond (eqb (h .held) 0) h (blockRecorded (h .next / 16) h)
 abbrev pub pastFilled : Extent → Past → Past
 pastFilled x h = record { recorded = λ k. h .recorded k || among (x .first) (x .sectors) (16 * k); held = h .held; next = h .next }
 
--- an accepted command. A WRITE that goes on behind the held sectors adds to them; any other one is to another fragment and flushes them first
+-- an accepted command. A WRITE that goes on after the held sectors adds to them; any other one is to another fragment and flushes them first
 unfoldable pub pastAfter : Disc → Command → Past → Past
 pastAfter d (Write a n) h = cond (eqb n 0) h (sectorsGathered (a .0) n (cond (eqb (a .0) (h .next)) h (pastFlushed h)))
 pastAfter d SynchronizeCache h = pastFlushed h

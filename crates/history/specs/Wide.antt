@@ -70,7 +70,7 @@ recut Accepted ks q = recutCommand ks q (decode (q .block))
 recut (Link r) ks q = q ∷ []
 recut (byDrive r) ks q = q ∷ []
 
--- a whole sequence again, with the lengths of parts for each command; those behind the last that has lengths stay
+-- a whole sequence again, with the lengths of parts for each command; those after the last that has lengths stay
 unfoldable pub second : List (List ℕ) → List Given → Drive → List Request
 second cuts [] s = []
 second [] (g ∷ gs) s = g .request ∷ second [] gs (result (turn g s) s .after)

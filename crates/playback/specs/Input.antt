@@ -21,7 +21,7 @@ pub record Carried (from filled : ℕ) (before after : List ℕ) (r : ℕ) : Typ
   pub front : take r after ≡ drop from (take filled before)
   pub same : length after ≡ length before
 
--- bytes are read behind those held, which stay
+-- bytes are read after those held, which stay
 pub record Brought (held : ℕ) (before after : List ℕ) (r : Input) : Type 0 where
   pub behind : held ≤ r .filled
   pub within : r .filled ≤ length before

@@ -1,4 +1,4 @@
--- A line by value: its text, zeros behind it, and its length.
+-- A line by value: its text, zeros after it, and its length.
 use Prim.Native.Nat.{ℕ, _+_, _-_, _≤_}
 use mathlib.Core.Path.{_≡_}
 use mathlib.Core.Bool.{cond}

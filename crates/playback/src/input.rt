@@ -1,5 +1,5 @@
 // Replays an input of any length through a fixed buffer: what is left of a record at the end of the bytes held goes to the front, and
-// more is read behind it.
+// more is read after it.
 use crate::line::Line;
 use crate::replay::Replay;
 use libc::STDERR_FILENO;
@@ -77,7 +77,7 @@ fn carry(buffer: &mut [u8], from: usize, filled: usize) -> usize
     count
 }
 
-// Reads behind the bytes held. There is room, so that nothing read is the end of the input.
+// Reads after the bytes held. There is room, so that nothing read is the end of the input.
 fn read_more(fd: i32, buffer: &mut [u8], held: usize) -> Input
     requires { ⌜ held < length (now buffer) ⌝ }
     ensures { λ r. ⌜ Brought held (now (buffer .entry)) (now (buffer .exit)) r ⌝ }

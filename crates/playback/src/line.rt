@@ -7,7 +7,7 @@ ghost use Prim.Native.Nat.{_<_, _/_};
 ghost use Rattle.playback.specs.Line.{lineOf, push, append, Printed};
 ghost use Rattle.playback.specs.Text.{digit, decimal, hex, nextText, recordText, badText, cutText};
 
-// A line's bytes, zeros behind them, and how many there are.
+// A line's bytes, zeros after them, and how many there are.
 pub struct Line {
     pub bytes: [u8; Line::LIMIT],
     pub length: usize,
@@ -25,7 +25,7 @@ fn sign(value: u8) -> u8
 }
 
 impl Line {
-    // More than any line has: three numbers of twenty digits at most, three bytes and six signs between and behind them.
+    // More than any line has: three numbers of twenty digits at most, three bytes and six signs between and after them.
     pub const LIMIT: usize = 80;
 
     // An empty line.

@@ -1,7 +1,7 @@
 // Hands the drive what a loose plug might deliver, and prints the number of each answer: 1 to 4 for L1 to L4; key, ASC and ASCQ in
 // a row for a refusal by the drive.
 // A program has no room for a medium. So the entry is called on tiny buffers, which end at L1 or L2, and the disc is asked what it
-// decides behind them, on lengths alone.
+// decides after them, on lengths alone.
 use disc::Disc;
 use libc::STDOUT_FILENO;
 use protocol::Answer;

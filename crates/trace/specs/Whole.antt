@@ -38,7 +38,7 @@ wholeBlocks trace = allFrom trace 0
 abbrev pub wholeEnd : List ℕ → ℕ
 wholeEnd trace = endFrom trace 0
 
--- a trace made of blocks, each behind the mark
+-- a trace made of blocks, each after the mark
 unfoldable pub traceOf : List (List ℕ) → List ℕ
 traceOf [] = []
 traceOf (b ∷ bs) = 0xA5 ∷ 0x5A ∷ b ++ traceOf bs

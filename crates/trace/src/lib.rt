@@ -1,4 +1,4 @@
-// Traces: records one behind another, each the mark A5h 5Ah and the twelve bytes of a command block.
+// Traces: records one after another, each the mark A5h 5Ah and the twelve bytes of a command block.
 // A record reader over the lent bytes gives the next twelve from a position on, or says why there are none.
 mod reader;
 mod record;

@@ -18,7 +18,7 @@ impl<'a> RecordReader<'a> {
         RecordReader { trace, at: 0 }
     }
 
-    // The same trace at another position, as that behind a record.
+    // The same trace at another position, as that after a record.
     pub fn moved(self, at: usize) -> RecordReader<'a>
         ensures { λ r. ⌜ (r .trace ≡ self .entry .trace) × (r .at ≡ at) ⌝ }
     {

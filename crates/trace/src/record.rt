@@ -28,7 +28,7 @@ pub enum Reading {
     End,
 }
 
-// What stands at a position, the command block of a record, else zeros, and the position to go on from: behind a record, else the same.
+// What stands at a position, the command block of a record, else zeros, and the position to go on from: after a record, else the same.
 pub struct Step {
     pub reading: Reading,
     pub block: [u8; BLOCK_LENGTH],

@@ -28,7 +28,7 @@ struct Maker<'a> {
 }
 
 impl Maker<'_> {
-    /// A disc with a blank tail behind so many fragments of one recorded block.
+    /// A disc with a blank tail after so many fragments of one recorded block.
     fn with_fragments(count: usize, buffers: &mut Buffers) -> Maker<'_> {
         let state = State::blank(CAPACITY).expect("a capacity");
         let mut maker = Maker { state, buffers };

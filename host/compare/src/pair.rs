@@ -15,7 +15,7 @@ const IMAGE_ROOM: usize = 400;
 /// Bytes allocated for a pending buffer.
 const PENDING_ROOM: usize = BLOCK_BYTES + SECTOR_BYTES;
 
-/// Bytes behind a reply buffer.
+/// Bytes after a reply buffer.
 const REPLY_GUARD: usize = 64;
 
 /// The media are compared as a whole after one command for so many of their bytes, and at the end

@@ -161,7 +161,7 @@ fn shorten(random: &mut Random, record: &mut Record) {
     record.zero_filled = 0;
 }
 
-/// A record of length 0 behind the last.
+/// A record of length 0 after the last.
 fn append_empty(random: &mut Random, state: &mut State) {
     let count = used(state);
     if count == RECORD_LIMIT {

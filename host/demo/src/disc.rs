@@ -50,7 +50,7 @@ impl Disc {
         Outcome { answer, reply }
     }
 
-    /// The zeros that a command adds to a fragment are the last of its recorded sectors: behind the
+    /// The zeros that a command adds to a fragment are the last of its recorded sectors: after the
     /// pending ones of a flushed block, or to the end of a reserved fragment that is closed.
     fn note_zero_filled(&mut self, before: &[Record]) {
         for (old, new) in before.iter().zip(self.state.records()) {

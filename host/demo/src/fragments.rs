@@ -8,7 +8,7 @@ pub const BLOCK_SECTORS: u32 = 16;
 /// An appended fragment's kind; a reserved one's is 0.
 const APPENDED: u32 = 1;
 
-/// The first block behind a fragment.
+/// The first block after a fragment.
 pub fn end(record: &Record) -> u32 {
     record.start + record.length
 }

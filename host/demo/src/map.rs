@@ -26,7 +26,7 @@ pub enum Sector {
     Closure,
     /// Begins the next session.
     Intro,
-    /// Behind the last fragment of a disc without a tail.
+    /// After the last fragment of a disc without a tail.
     Outside,
 }
 

@@ -269,7 +269,7 @@ fn rectangle(svg: &mut String, x: f64, y: usize, width: f64, height: usize, fill
     );
 }
 
-/// Two digits behind the point are enough for an image.
+/// Two digits after the point are enough for an image.
 fn rounded(length: f64) -> f64 {
     (length * 100.0).round() / 100.0
 }

@@ -192,7 +192,7 @@ impl Disc {
         blocks
     }
 
-    /// CLOSE 010: the next session is a tail behind Closure and Intro.
+    /// CLOSE 010: the next session is a tail after Closure and Intro.
     fn close_session(&mut self, lent: &mut Lent) -> u64 {
         let flushed = self.flush(lent);
         self.end_tail();

@@ -103,7 +103,7 @@ fn traced(text: &str) -> Output {
     trace.wait_with_output().expect("it ends")
 }
 
-/// The trace of command blocks: each behind its mark.
+/// The trace of command blocks: each after its mark.
 fn trace_of(blocks: &[Block]) -> Vec<u8> {
     blocks.iter().flat_map(|block| [&[0xA5, 0x5A], &block[..]].concat()).collect()
 }

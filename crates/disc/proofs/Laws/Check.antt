@@ -20,12 +20,12 @@ use Rattle.fragments.proofs.Laws.List.{every-implies, use-cases, listed-off, li
 use Rattle.disc.proofs.Laws.Rules.{used-first-at, Tests, sound-tests, tests-sound, pending-few, pending-owned, owned-pending, record-at}
 use Rattle.fragments.specs.Check.{within, beginsList, continues, openAfter, endsList, walk, listSound}
 
--- the last of p and the records behind it
+-- the last of p and the records after it
 abbrev lastOf : Fragment → List Fragment → Fragment
 lastOf p [] = p
 lastOf p (f ∷ fs) = lastOf f fs
 
--- what the walk tests of the records rs behind p; o says that a fragment of p's session is incomplete, full that none is free behind rs
+-- what the walk tests of the records rs after p; o says that a fragment of p's session is incomplete, full that none is free after rs
 record Rest (c : ℕ) (fin full o : Bool) (p : Fragment) (rs : List Fragment) : Type 0 where
   follow : followsFrom p rs ≡ true
   fit : every (within c) rs ≡ true
@@ -36,7 +36,7 @@ record Rest (c : ℕ) (fin full o : Bool) (p : Fragment) (rs : List Fragment) : 
   closed : fin ≡ true → o ≡ false
   all : fin ≡ true → every complete rs ≡ true
 
--- no record behind p
+-- no record after p
 ends-rest : (c : ℕ) (fin full o : Bool) (p : Fragment) → (complete p ≡ false → o ≡ true) → endsList c fin full o p ≡ true → Rest c fin full o p []
 unfolding endsList followsFrom every tailLast
 ends-rest c true full o p m e =

@@ -22,7 +22,7 @@ use Rattle.fragments.proofs.Laws.List.{listed-le, sum-set}
 use Rattle.disc.proofs.Laws.Verdict.{accept-count}
 use Rattle.disc.proofs.Laws.Flush.{rise-flush, flush-sum, flush-sound, flush-ready}
 
--- a tail put behind a record adds no recorded block
+-- a tail put after a record adds no recorded block
 pub append-sum :
     (d : Disc) (n : ℕ) → length (d .fragments) ≡ limit → getD (d .fragments) n unusedRecord .recorded ≡ 0
     → sumRecorded (appendTail d n .fragments) ≡ sumRecorded (d .fragments)

@@ -88,7 +88,7 @@ module _ (d : Disc) (s : Sound d) where
   blank-counts g b count fill =
       put-counts d (used d) g last-slot (count ∙ sym (blank-recorded d b)) (fill ∙ sym (blank-zeroed b)) (λ z. absurd (z (blank-recorded d b)))
 
-  -- the place behind the last record is free, also with another record in the last one's place
+  -- the place after the last record is free, also with another record in the last one's place
   free-behind : (g : Fragment) → numbered (withRecord d (used d) g) (used d + 1) ≡ unusedRecord
   free-behind g =
       getD-set-other (d .fragments) (used d - 1) (used d + 1 - 1) g unusedRecord (λ q. omega (arith, q, s .some))

@@ -61,7 +61,7 @@ replaced-is d s g l =
 module _
     (d : Disc) (b : ℕ) (s : Sound d) (t : hasBlankTail d ≡ true) (free : used d < limit) (size : 1 ≤ b)
     (start : nextFragmentStart (end (reservedAt (lastRecord d) b)) .0 < d .capacity) where
-  -- the reserved record, the disc with it, and the tail behind it
+  -- the reserved record, the disc with it, and the tail after it
   abbrev reserved : Fragment
   reserved = reservedAt (lastRecord d) b
 
@@ -158,7 +158,7 @@ shorten-replaces d s p w =
 
 -- CLOSE 001 of the tail
 module _ (d : Disc) (s : Sound d) (p : d .pending ≡ 0) (w : lastRecord d .recorded ≡ 0 → ⊥) where
-  -- the disc with its tail shortened, and the record behind which a new tail may start
+  -- the disc with its tail shortened, and the record after which a new tail may start
   abbrev shortened : Disc
   shortened = withRecord d (used d) (shortenedRecord (lastRecord d))
 
@@ -188,7 +188,7 @@ module _ (d : Disc) (s : Sound d) (p : d .pending ≡ 0) (w : lastRecord d .reco
         closed = λ q. absurd (q (ap (λ j. numbered shortened j .session) (sym shortened-used)));
       }
 
-  -- room for a new tail: a block behind the dividing one, and a record
+  -- room for a new tail: a block after the dividing one, and a record
   abbrev roomForTail : Bool
   roomForTail = ltb (nextFragmentStart (end closedTail) .0) (d .capacity) && ltb (used d) limit
 

@@ -197,7 +197,7 @@ drop-onward d s z =
       adds = λ x b. absurd b;
     }
 
--- a tail put behind the last record
+-- a tail put after the last record
 pub extend-onward : (d : Disc) (o : Ordered d) (t : Fragment) (x : Extends d t) → Onward d (withRecord d (used d + 1) t) NoBlock
 extend-onward d o t x =
     let fs = d .fragments in

@@ -1,4 +1,4 @@
--- Changing the last record, dropping it and putting one behind it keeps a list in order.
+-- Changing the last record, dropping it and putting one after it keeps a list in order.
 use Prim.Native.Nat.{ℕ, suc, _+_, _-_, _*_, _≤_, _<_}
 use mathlib.Core.Path.{_≡_, refl, sym, _∙_, ap}
 use mathlib.Core.Bool.{true, false, not}
@@ -256,7 +256,7 @@ module _ (d : Disc) (s : Sound d) (two : 2 ≤ used d) (unowned : (d .pending �
       below-last : (a b : ℕ) → a ≤ b → (a ≡ b → ⊥) → used (withRecord d (used d) unusedRecord) ≡ b - 1 → a ≤ used (withRecord d (used d) unusedRecord)
       below-last a b h n q = omega arith
 
--- a tail put behind the last record
+-- a tail put after the last record
 pub record Extends (d : Disc) (t : Fragment) : Type 0 where
   pub free : used d < limit
   pub follows : Follows (lastRecord d) t
@@ -264,7 +264,7 @@ pub record Extends (d : Disc) (t : Fragment) : Type 0 where
   pub recorded : t .recorded ≡ 0
   pub zeroed : t .zeroed ≡ 0
   pub tail : isTail t ≡ true
-  -- no other tail is there, and a new session begins only behind complete fragments
+  -- no other tail is there, and a new session begins only after complete fragments
   pub tailless : hasTail d ≡ false
   pub closed : (t .session ≡ lastRecord d .session → ⊥) → (i : ℕ) → i < used d → complete (at d i) ≡ true
 

@@ -1,4 +1,4 @@
--- The pending sectors: a plan flushes those that there are, gathers behind those that are left, and leaves what document 01 says.
+-- The pending sectors: a plan flushes those that there are, gathers after those that are left, and leaves what document 01 says.
 use Prim.Native.Nat.{ℕ, _+_, _-_, _/_, _%_, _≤_, _<_}
 use mathlib.Core.Path.{_≡_, refl, sym, _∙_, ap}
 use mathlib.Core.Bool.{true, cond}
@@ -26,7 +26,7 @@ use Rattle.disc.proofs.Laws.Flush.{owner}
 pub record Pending (d : Disc) (p : Plan) (after : Disc) : Type 0 where
   -- a flush is of all pending sectors, to their block
   pub flushed : (b : Block) (n : ℕ) → p .flush ≡ Record b n → (n ≡ d .pending) × (b .0 ≡ pendingBlock d)
-  -- sectors gather behind those that the flush leaves, in their block
+  -- sectors gather after those that the flush leaves, in their block
   pub gathered :
       (b : Block) (held n : ℕ) → p .transfer ≡ Gather b held n
       → (held ≡ flushedCount (p .flush) (d .pending)) × ((held ≡ 0 → ⊥) → b .0 ≡ pendingBlock d)
@@ -91,7 +91,7 @@ pub pending-filled : (d after : Disc) (c : Block) (k : ℕ) → after .pending �
 unfolding transferredCount
 pending-filled d after c k e = pending-settled d after (Fill c k) (λ b h n q. let z : _≡_ {A = ℕ} 0 1 = cc in omega arith) refl e
 
--- a WRITE gathers behind the pending sectors of its fragment
+-- a WRITE gathers after the pending sectors of its fragment
 module _ (d : Disc) (number : ℕ) where
   others-flushed : (b : Block) (n : ℕ) → flushOthersPlan d number ≡ Record b n → (n ≡ d .pending) × (b .0 ≡ pendingBlock d)
   unfolding flushOthersPlan

@@ -1,4 +1,4 @@
--- The blocks that a plan records: inside one fragment each time, behind its recorded blocks, so never recorded before.
+-- The blocks that a plan records: inside one fragment each time, after its recorded blocks, so never recorded before.
 use Prim.Native.Nat.{ℕ, _+_, _*_, _-_, _/_, _≤_, _<_}
 use mathlib.Core.Path.{_≡_, refl}
 use mathlib.Core.Bool.{true}
@@ -24,7 +24,7 @@ use Rattle.disc.proofs.Laws.Sound.{starts-rise, pending-in-few}
 use Rattle.disc.proofs.Laws.Read.{readable-cases, recorded-from, recorded-below}
 use Rattle.disc.proofs.Laws.Flush.{owner, flush-grows, flush-sound, flush-used}
 
--- k blocks from block b on lie in one fragment, behind its recorded blocks
+-- k blocks from block b on lie in one fragment, after its recorded blocks
 pub record Unrecorded (d : Disc) (b k : ℕ) : Type 0 where
   pub index : ℕ
   pub listed : index < used d
@@ -132,7 +132,7 @@ placed-fill d c n r from to =
           });
     }
 
--- what a plan that sends has behind it
+-- what a plan that sends has after it
 pub record Sending (d : Disc) (c : Command) (a : Lba) (n : ℕ) : Type 0 where
   pub command : c ≡ Read a n
   pub within : a .0 + n ≤ sectorsIn (d .capacity)

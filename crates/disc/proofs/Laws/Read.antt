@@ -130,7 +130,7 @@ run-readable d a n i l h e =
     (λ k m. at-readable d (lba (a .0 + k)) i l (recorded-between (lba (a .0 + k)) (at d i) (omega arith) (omega arith)))
 
 module _ (d : Disc) (s : Sound d) where
-  -- the sector behind a fragment's recorded blocks is readable in no fragment
+  -- the sector after a fragment's recorded blocks is readable in no fragment
   pub end-unreadable :
       (a : Lba) (i : ℕ) → i < used d → holdsRecorded a (at d i) ≡ true → readable d (firstSector (firstUnrecorded (at d i))) ≡ true → ⊥
   end-unreadable a i l t e =

@@ -40,7 +40,7 @@ address-number d a n e =
     let b = find-number (λ n f. holds a f) 1 (records d) n e in
     (b .0, omega arith)
 
--- an incomplete fragment's next writable address is not behind its end
+-- an incomplete fragment's next writable address is not after its end
 pub writable-end :
     (d : Disc) (n : ℕ) → Sound d → 1 ≤ n → n ≤ used d → complete (numbered d n) ≡ false
     → nextWritable d n (numbered d n) .0 ≤ firstSector (end (numbered d n)) .0

@@ -27,7 +27,7 @@ blank-recorded d b =
     eqb-true _ _
     (and-left (eqb (lastRecord d .recorded) 0) (eqb (pendingIn d (used d)) 0) (and-right (hasTail d) (isBlank d (used d) (lastRecord d)) b))
 
--- the sum of recorded blocks where the last record is changed, and where one is put behind it
+-- the sum of recorded blocks where the last record is changed, and where one is put after it
 pub last-sum :
     (d : Disc) (g : Fragment) → Sound d → sumRecorded (withRecord d (used d) g .fragments) + lastRecord d .recorded ≡ sumRecorded (d .fragments) + g .recorded
 last-sum d g s = sum-set (d .fragments) (used d - 1) g unusedRecord (omega (arith, s .some, s .array, listed-le (d .fragments)))
@@ -47,7 +47,7 @@ split-sum d b s t h =
     let second = sum-set fs n g unusedRecord (omega (arith, s .array)) in
     rw behind (omega (arith, blank-recorded d t))
 
--- the outcomes of RESERVE behind its first tests
+-- the outcomes of RESERVE after its first tests
 module _ (d : Disc) (size : ℕ) (f : d .finalized ≡ false) (z : size ≡ 0 → ⊥) (b : hasBlankTail d ≡ true) where
   pub reserve-full : used d ≡ limit → reserve d size ≡ refuse d NoMoreReservations
   unfolding reserve

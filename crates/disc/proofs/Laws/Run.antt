@@ -46,7 +46,7 @@ no-run d (ReadDiscInformation t n) medium h = refl
 no-run d (ReadTrackInformation t m n) medium h = refl
 no-run d Unlisted medium h = refl
 
--- what is known behind the link
+-- what is known after the link
 module _ (d : Disc) (b m : ℕ) (e : served d b m ≡ true) where
   served-whole : (eqb b 12 && inRange (d .capacity) && eqb m (32768 * d .capacity)) ≡ true
   served-whole = and-left (eqb b 12 && inRange (d .capacity) && eqb m (32768 * d .capacity)) (allowedState d) e

@@ -63,7 +63,7 @@ session-most d (suc i) s h =
 pub tail-written : (d : Disc) → d .pending ≡ 0 → hasTail d ≡ true → hasBlankTail d ≡ false → lastRecord d .recorded ≡ 0 → ⊥
 tail-written d p t b w = contradiction (and-both t (and-both (eq-eqb _ _ w) (eq-eqb _ _ (none-pending d (used d) p)))) b
 
--- what is known of the list with its tail closed: its records, the free place behind them, and a small session number
+-- what is known of the list with its tail closed: its records, the free place after them, and a small session number
 pub record Kept (k : Disc) : Type 0 where
   pub array : length (k .fragments) ≡ limit
   pub free : at k (used k) ≡ unusedRecord

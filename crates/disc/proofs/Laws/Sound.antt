@@ -125,7 +125,7 @@ module _ (d : Disc) (s : Sound d) where
       (λ h. h)
       (λ h. absurd (omega (arith, starts-rise j i h hi)))
 
--- the recorded blocks of a list that is in order fit behind its first record
+-- the recorded blocks of a list that is in order fit after its first record
 sum-fits :
     (c : ℕ) (p : Fragment) (rs : List Fragment)
     → followsFrom p rs ≡ true → end p .0 ≤ c → every (λ f. leb (end f .0) c) rs ≡ true → every (λ f. leb (f .recorded) (f .length)) rs ≡ true

@@ -29,7 +29,7 @@ pub splice-nil : (m : List ℕ) (a : ℕ) → splice m a [] ≡ m
 unfolding splice
 splice-nil m a = let q : a + 0 ≡ a = omega arith in rw q (take-append-drop a m)
 
--- a splice right behind another one
+-- a splice right after another one
 pub splice-splice :
     (m : List ℕ) (a e : ℕ) (x y : List ℕ) → a ≤ length m → a + length x ≡ e → splice (splice m a x) e y ≡ splice m a (x ++ y)
 unfolding splice
@@ -83,7 +83,7 @@ pub take-padded : (x : List ℕ) (n : ℕ) → length x ≡ n → take n (padded
 unfolding padded
 take-padded x n h = take-at x (zeros (32768 - length x)) n h
 
--- what stands in front of a block, with zeros behind it
+-- what stands in front of a block, with zeros after it
 front-splice : (m x : List ℕ) → take (length x) (splice m 0 x) ≡ x
 unfolding splice
 front-splice m x = take-at x (drop (0 + length x) m) (length x) refl

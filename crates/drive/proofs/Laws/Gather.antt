@@ -15,7 +15,7 @@ pub few-medium : (b held k : ℕ) (m p x : List ℕ) → held + k < 16 → m ≡
 unfolding gatheredMedium
 few-medium b held k m p x few = let e : 32768 * ((held + k) / 16) ≡ 0 = omega arith in rw e (sym (splice-nil m (32768 * b)))
 
--- and are pending behind those held
+-- and are pending after those held
 pub few-pending :
     (held k : ℕ) (p x q : List ℕ) → 2048 * held ≤ length p → length x ≡ 2048 * k → held + k < 16 → q ≡ splice p (2048 * held) x
     → take (2048 * ((held + k) % 16)) q ≡ take (2048 * ((held + k) % 16)) (gatheredPending held k p x)
@@ -100,7 +100,7 @@ module _
               ∙ ap (gatheredPending held (i + k) p) joined));
         }
 
--- all are gathered, and zeros stand behind what is pending
+-- all are gathered, and zeros stand after what is pending
 pub gathered-all :
     (b held n : ℕ) (m p x medium pending : List ℕ) → 2048 * held ≤ length p → length x ≡ 2048 * n → length pending ≡ 32768
     → Gathered b held n m p x medium pending

@@ -13,7 +13,7 @@ use Rattle.drive.specs.Bytes.{zeros, splice, padded}
 use Rattle.drive.specs.Moves.{transferredMedium, transferredPending, movedMedium, movedPending, flushedMedium, flushedPending, stream, gatheredMedium, gatheredPending}
 use Rattle.drive.proofs.Laws.Bytes.{length-zeros, zeros-add, padded-nil, splice-nil, splice-splice, length-splice, length-padded, take-padded}
 
--- what n sectors behind those held come to
+-- what n sectors after those held come to
 module _ (held n : ℕ) (pending sectors : List ℕ) (hp : 2048 * held ≤ length pending) (hx : length sectors ≡ 2048 * n) where
   pub length-stream : length (stream held pending sectors) ≡ 2048 * (held + n)
   unfolding stream
@@ -93,7 +93,7 @@ pub stale-pending :
 unfolding gatheredPending
 stale-pending held n p q x e = rw (stale-stream held p q x e)
 
--- one more block of zeros behind those already recorded
+-- one more block of zeros after those already recorded
 pub fill-more :
     (m medium medium₁ : List ℕ) (b i : ℕ) → 32768 * b ≤ length m → medium ≡ splice m (32768 * b) (zeros (32768 * i))
     → medium₁ ≡ splice medium (32768 * (b + i)) (padded []) → medium₁ ≡ splice m (32768 * b) (zeros (32768 * (i + 1)))

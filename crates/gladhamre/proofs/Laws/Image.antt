@@ -33,7 +33,7 @@ part-fits v = rw (getD-take 6 v 0 0 (omega arith), getD-take 6 v 5 0 (omega arit
 drop-sum : (v : List ℕ) (a b c : ℕ) → b + a ≡ c → drop a (drop b v) ≡ drop c v
 drop-sum v a b c h = drop-drop a b v ∙ ap (λ (n : ℕ). drop n v) h
 
--- the record at an index begins behind the head and the records before it
+-- the record at an index begins after the head and the records before it
 pub record-at : (w : List ℕ) (i : ℕ) → drop (7 + 6 * i) w ≡ drop (6 * i) (drop 7 w)
 record-at w i = sym (drop-sum w (6 * i) 7 (7 + 6 * i) refl)
 

@@ -20,7 +20,7 @@ use Rattle.history.specs.Types.{Fragment, Disc}
 use Rattle.history.specs.Account.{Extent, sectorAt, Account, written, zeroed, missing, flushed}
 use Rattle.history.proofs.Laws.Regions.{region, length-region, Grows, grownMedium, grown-here, grown-else, grown-region, kept-region, same-region}
 
--- sectors in front of others and behind them, and sectors of zeros
+-- sectors in front of others and after them, and sectors of zeros
 pub sector-front : (l x : List ℕ) (c i : ℕ) → length l ≡ 2048 * c → i < c → sectorAt i (l ++ x) ≡ sectorAt i l
 sector-front l x c i size h =
     ap (take 2048) (drop-append-le (2048 * i) l x (omega (arith, size)))
@@ -106,7 +106,7 @@ zeroed-none d m p n x k z h =
         cond-no (among b 0 a) (zeros 2048) (k .content a)
         (by-cases (among b 0 a) (λ t. absurd (let from = among-from b 0 a t in let below = among-below b 0 a t in omega arith)) (λ t. t))
 
--- sectors put behind those of a fragment: what stood there stays, and the new ones stand behind
+-- sectors put after those of a fragment: what stood there stays, and the new ones stand after
 sectors-behind :
     (old : ℕ → List ℕ) (l x : List ℕ) (b c n : ℕ) (new : ℕ → List ℕ) → length l ≡ 2048 * c
     → ((i : ℕ) → i < c → old (b + i) ≡ sectorAt i l) → ((i : ℕ) → i < n → new (b + c + i) ≡ sectorAt i x)
@@ -148,7 +148,7 @@ module _ (d e : Disc) (j blocks : ℕ) (g : Fragment) (m x p q : List ℕ) (w : 
             ∙ ap (λ (x : List ℕ). x ++ take (2048 * pendingIn e n) q) (sym (kept-region d e j blocks g m x w n one other))));
       }
 
-  -- the bytes of the fragment itself: pending sectors and zeros behind them are recorded
+  -- the bytes of the fragment itself: pending sectors and zeros after them are recorded
   zeroed-bytes :
       (z : ℕ) → x ≡ take (2048 * pendingIn d j) p ++ zeros (2048 * z) → pendingIn e j ≡ 0
       → bytesOf d m p j ++ zeros (2048 * z) ≡ bytesOf e (grownMedium d j m x) q j

@@ -18,7 +18,7 @@ use Rattle.history.specs.Types.{Fragment, Disc}
 use Rattle.history.specs.Account.{Extent, Account, sectorAt, zeroed, missing, flushed, filled}
 use Rattle.history.specs.Brought.{Written, broughtTo, broughtIn}
 
--- WRITEs behind WRITEs
+-- WRITEs after WRITEs
 pub brought-append : (a : ℕ) (ws vs : List Written) → broughtTo a (ws ++ vs) ≡ broughtTo a ws ++ broughtTo a vs
 unfolding broughtTo
 brought-append a [] vs = refl
@@ -115,7 +115,7 @@ apart d n m a s one₁ one₂ from₁ below₁ from₂ below₂ =
         let none = s .unused (k - 1) (let l = leb-false k (used d) t in omega arith) in
         absurd (omega (arith, long, ap (λ (f : Fragment). f .length) none)))
 
--- an account that the drive's zeros are put behind, as a fragment that begins at b has it
+-- an account that the drive's zeros are put after, as a fragment that begins at b has it
 pub record Pads (b : ℕ) (k l : Account) : Type 0 where
   pub more : ℕ
   pub accepted : l .accepted ≡ k .accepted

@@ -332,7 +332,7 @@ block-stays demand f l x j i h =
     ap (λ (d : Disc). recordedByte d i) d ∙ tail-readable (discAfter earlyShapes (blank 256)) 1 0 (i / 2048) early-list (omega (arith, h)) in
     ap (λ (vs : List Turn). getD (final vs s .medium) i 0) split ∙ demand .stays 256 s (flash-start f) ts us whole i here .1
 
--- a WRITE that fits in part, and one that fits whole: their parts, behind RESERVE
+-- a WRITE that fits in part, and one that fits whole: their parts, after RESERVE
 abbrev joined : List ℕ → List ℕ → List ℕ
 joined x y = x ++ (y ++ [])
 

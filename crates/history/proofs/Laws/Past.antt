@@ -118,7 +118,7 @@ gathers a (suc n) b h few here =
     short : {a : ℕ} → a < 16 → (a + 1 ≡ 16 → ⊥) → a + 1 < 16
     short h e = omega arith
 
--- the address behind them
+-- the address after them
 one-next : (a : ℕ) (h : Past) → sectorGathered a h .next ≡ a + 1
 one-next a h = cond-cases (λ (g : Past). g .next ≡ a + 1) (eqb (h .held + 1) 16) _ _ (λ t. refl) (λ t. refl)
 
@@ -131,7 +131,7 @@ pub gathers-next : (a n : ℕ) (h : Past) → 1 ≤ n → sectorsGathered a n h 
 gathers-next a zero h some = absurd (omega (arith, some))
 gathers-next a (suc n) h some = gathered-next a n h
 
--- the history and the state: recorded blocks, how many sectors are pending, and the address behind them
+-- the history and the state: recorded blocks, how many sectors are pending, and the address after them
 pub record Recalls (d : Disc) (h : Past) : Type 0 where
   pub recorded : (a : ℕ) → readable d (lba a) ≡ h .recorded (a / 16)
   pub held : d .pending ≡ h .held
@@ -227,7 +227,7 @@ module _ (d : Disc) (h : Past) (r : Ready d) (w : Recalls d h) where
   recalled-idle : (reply : Reply) → d .pending ≡ 0 → Recalled (pastFlushed h) (accept d d reply noPlan)
   recalled-idle reply z = recalled-as (accept d d reply noPlan) (sym (flushed-idle z)) (recalled-same reply)
 
-  -- what is recorded behind it
+  -- what is recorded after it
   flushed-recorded : (a : ℕ) → readable (flush d) (lba a) ≡ pastFlushed h .recorded (a / 16)
   flushed-recorded a =
       let o = flush-onward d r in
@@ -249,7 +249,7 @@ module _ (d : Disc) (h : Past) (r : Ready d) (w : Recalls d h) where
       ∙ held-readable (flush d) (lba (16 * k))
       (record { index = j - 1; listed = omega (arith, from, to); from = omega (arith, first); below = omega (arith, below) }))
 
-  -- WRITE of one sector up, to fragment j: the held sectors stay where it goes on behind them, and are flushed where it does not
+  -- WRITE of one sector up, to fragment j: the held sectors stay where it goes on after them, and are flushed where it does not
   module _ (a : Lba) (n j : ℕ) (v : Writable d a j) (some : 1 ≤ n) where
     abbrev flushedElsewhere : Past
     flushedElsewhere = cond (eqb (a .0) (h .next)) h (pastFlushed h)

@@ -84,7 +84,7 @@ module _ (d : Disc) (n : ℕ) (r : Ready d) (one : 1 ≤ n) where
   places-placed e s p =
       record { start = λ z. p .start (n - 1); within = omega (arith, taken-within e n s one, p .size (n - 1)) }
 
-  -- a change that records nothing, behind one that keeps the places and leaves nothing pending
+  -- a change that records nothing, after one that keeps the places and leaves nothing pending
   counts-placed :
       (e f : Disc) → Sound e → SamePlaces d e → e .pending ≡ 0 → SameCounts e f → f .pending ≡ 0 → InPlace d f n
   counts-placed e f s p none same after =

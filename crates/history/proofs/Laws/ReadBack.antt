@@ -96,7 +96,7 @@ module _ (c : ℕ) (s : Drive) (start : Start c s) (ts : List Turn) (h : Admissi
         within = omega (arith, k .within, k .pending, a);
       }
 
--- one sequence behind another
+-- one sequence after another
 writes-append : (ts us : List Turn) (s : Drive) → writes (ts ++ us) s ≡ writes ts s ++ writes us (final ts s)
 unfolding writes final
 writes-append [] us s = refl

@@ -20,7 +20,7 @@ use borrow.Author.Tests.{leb-true, leb-false}
 use lib.Dec.{leb}
 use Rattle.history.specs.Types.{Fragment, Disc}
 
--- a run of bytes that a stretch is put behind, and one that lies elsewhere
+-- a run of bytes that a stretch is put after, and one that lies elsewhere
 grown-run :
     (m x : List ℕ) (a w : ℕ) → (a + w) + length x ≤ length m → take (w + length x) (drop a (splice m (a + w) x)) ≡ take w (drop a m) ++ x
 grown-run m x a w h =
@@ -65,7 +65,7 @@ pub record Grows (d e : Disc) (j blocks : ℕ) (g : Fragment) (m x : List ℕ) :
   pub medium : length m ≡ 32768 * d .capacity
   pub bytes : length x ≡ 32768 * blocks
 
--- the medium then: x stands behind the blocks that were recorded
+-- the medium then: x stands after the blocks that were recorded
 abbrev pub grownMedium : Disc → ℕ → List ℕ → List ℕ → List ℕ
 grownMedium d j m x = splice m (32768 * (numbered d j .start .0 + numbered d j .recorded)) x
 

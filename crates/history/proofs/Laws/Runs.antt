@@ -59,7 +59,7 @@ undisturbed-runs (t ∷ ps) s h =
     undisturbed-runs ps (result t s .after) (h .1)
     ∙ ap (λ (x : Drive). runs (requests ps) (step x (t .request) .after)) (h .0)
 
--- one sequence behind another
+-- one sequence after another
 pub final-append : (ts us : List Turn) (s : Drive) → final (ts ++ us) s ≡ final us (final ts s)
 unfolding final
 final-append [] us s = refl

@@ -48,7 +48,7 @@ Fresh d ws = (a : ℕ) → ((n : ℕ) → 1 ≤ n → base d n ≤ a → a < bas
 abbrev pub Once : List Written → Type 0
 Once ws = (a : ℕ) → length (broughtTo a ws) ≤ 1
 
--- addresses behind a fragment's sectors and in its blocks are fresh
+-- addresses after a fragment's sectors and in its blocks are fresh
 pub fresh-behind :
     (d : Disc) (ws : List Written) (n : ℕ) → Sound d → 1 ≤ n → Fresh d ws → (a : ℕ) → base d n + taken d n ≤ a
     → a < base d n + 16 * numbered d n .length → broughtTo a ws ≡ []
@@ -65,7 +65,7 @@ module _
     (d e : Disc) (ws vs : List Written) (n : ℕ) (k l : Account) (s : Sound d) (one : 1 ≤ n) (p : InPlace d e n) (f : Fresh d ws)
     (before : k .recorded + k .pending ≡ taken d n) (after : l .recorded + l .pending ≡ taken e n) (tr : Traces d ws n k)
   where
-    -- more sectors behind those that it has
+    -- more sectors after those that it has
     traces-more :
         (z : ℕ) → taken e n ≡ taken d n + z → ((i : ℕ) → i < taken d n → broughtTo (base d n + i) vs ≡ [])
         → ((i : ℕ) → i < taken d n → l .content (base d n + i) ≡ k .content (base d n + i))
@@ -154,7 +154,7 @@ traces-written d e ws n k a count x s one p f before after tr here =
     (λ i h. cond-yes (among a count (b + c + i)) _ _ (covers i h) ∙ ap sole (sym (brought-one (b + c + i) w (covers i h))))
     (omega (arith, count-each (b + c) count (w ∷ []) (λ i h. ap (length {A = List ℕ}) (brought-one (b + c + i) w (covers i h)))))
 
--- an accepted command that is no WRITE to the fragment puts zeros behind its sectors, or nothing
+-- an accepted command that is no WRITE to the fragment puts zeros after its sectors, or nothing
 credited-pads :
     (n : ℕ) (x : Extent) (c : Command) (sectors : List ℕ) (k : Account) (b : ℕ) → x .first ≡ b
     → ((a : Lba) (count : ℕ) → c ≡ Write a count → (count ≡ 0 → ⊥) → among (x .first) (x .sectors) (a .0) ≡ false)

@@ -64,7 +64,7 @@ filled-shapes x [] = refl
 filled-shapes x (h ∷ hs) =
     ap (λ (g : Shape). g ∷ map shapeOf (map (filled x) hs)) (filled-shape x h) ∙ ap (λ (gs : List Shape). h ∷ gs) (filled-shapes x hs)
 
--- one steady sequence behind another
+-- one steady sequence after another
 steady-append : (ps qs : List Request) (s : Drive) → steady (ps ++ qs) s ≡ steady ps s ++ steady qs (final (steady ps s) s)
 unfolding final steady
 steady-append [] qs s = refl

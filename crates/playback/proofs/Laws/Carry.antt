@@ -8,7 +8,7 @@ use lib.ListN.{length, getD, set, take, drop, length-set, length-drop}
 use lib.Seq.{take-suc, take-suc-set, drop-set-lt, drop-drop, getD-drop, take-add, drop-at, length-take-le}
 use Rattle.playback.specs.Input.{Carried}
 
--- after i of them: they are in front, and behind them nothing has changed
+-- after i of them: they are in front, and after them nothing has changed
 pub record Carrying (from count : ℕ) (before now : List ℕ) (i : ℕ) : Type 0 where
   pub some : i ≤ count
   pub same : length now ≡ length before

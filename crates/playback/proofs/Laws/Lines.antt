@@ -19,7 +19,7 @@ pub append-push : (l : Line) (s : List ℕ) (b : ℕ) → push (append l s) b �
 unfolding append
 append-push l s b = append-append l s (b ∷ [])
 
--- one byte behind a text
+-- one byte after a text
 push-text : (s : List ℕ) (b : ℕ) → length s < 80 → push (lineOf s) b ≡ lineOf (s ++ (b ∷ []))
 unfolding push lineOf
 push-text s b h =
@@ -41,7 +41,7 @@ append-text s (b ∷ t) h =
 pub append-new : (t : List ℕ) → length t ≤ 80 → append (lineOf []) t ≡ lineOf t
 append-new t h = append-text [] t (omega arith)
 
--- words behind a line, one by one
+-- words after a line, one by one
 words-more : (l : Line) (w v : List ℕ) (vs : List (List ℕ)) → append l (words w (v ∷ vs)) ≡ append (append (append l w) (0x20 ∷ [])) (words v vs)
 unfolding words append
 words-more l w v vs = sym (append-append l w (0x20 ∷ words v vs))

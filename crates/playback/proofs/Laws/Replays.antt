@@ -36,7 +36,7 @@ unfolding replayed
 replayed-append r [] cs = refl
 replayed-append r (b ∷ bs) cs = replayed-append (onward r b) bs cs
 
--- an input in two parts: what is left of the first, with the second behind it, is replayed from where the first leads
+-- an input in two parts: what is left of the first, with the second after it, is replayed from where the first leads
 pub replayed-parts :
     (r : Replay) (a b : List ℕ)
     → replayed r (wholeBlocks (a ++ b)) ≡ replayed (replayed r (wholeBlocks a)) (wholeBlocks (drop (wholeEnd a) a ++ b))

@@ -144,7 +144,7 @@ end-within (suc k) t at h l =
 pub whole-within : (t : List ℕ) → wholeEnd t ≤ length t
 whole-within t = end-within (length t) t 0 (omega arith) (omega arith)
 
--- a trace in two parts: the records of the first, and then those of what it leaves with the second behind it; the whole stops as that does
+-- a trace in two parts: the records of the first, and then those of what it leaves with the second after it; the whole stops as that does
 pub record InParts (a b : List ℕ) : Type 0 where
   pub blocks : wholeBlocks (a ++ b) ≡ wholeBlocks a ++ wholeBlocks (drop (wholeEnd a) a ++ b)
   pub reading :

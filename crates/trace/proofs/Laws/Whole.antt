@@ -18,7 +18,7 @@ pub by-cases {ℓ} : {P : Type ℓ} (b : Bool) → (b ≡ true → P) → (b ≡
 by-cases true yes-case no-case = yes-case refl
 by-cases false yes-case no-case = no-case refl
 
--- the step at a record: its block stands behind the mark, and the position goes behind it
+-- the step at a record: its block stands after the mark, and the position goes after it
 is-record : (r : Reading) → isRecord r ≡ true → r ≡ Record
 is-record Record h = refl
 is-record BadMark h = absurd (false≢true h)
@@ -52,7 +52,7 @@ record-found t at h =
     let r : readingOf l ≡ Record = is-record (readingOf l) (ap isRecord (sym (reading-step (readingOf l) l at)) ∙ h) in
     record { marked = record-marked l r; block = rw r; next = rw r }
 
--- what is left at a record is the mark, its block, and what is left behind it
+-- what is left at a record is the mark, its block, and what is left after it
 marked-split : (l : List ℕ) → Marked l → l ≡ 0xA5 ∷ 0x5A ∷ take 12 (drop 2 l) ++ drop 14 l
 marked-split l m =
     let long : 14 ≤ length l = m .long in
@@ -61,7 +61,7 @@ marked-split l m =
     ∙ ap (λ (x : List ℕ). 0xA5 ∷ x) (drop-cons l 1 0 (omega arith) ∙ ap (λ (x : ℕ). x ∷ drop 2 l) (m .second))
     ∙ ap (λ (x : List ℕ). 0xA5 ∷ 0x5A ∷ x) (sym (take-append-drop 12 (drop 2 l)) ∙ ap (λ (x : List ℕ). take 12 (drop 2 l) ++ x) (drop-drop 12 2 l))
 
--- the records read from a position on, put back behind their marks, and what is left at the stop are the trace from that position on
+-- the records read from a position on, put back after their marks, and what is left at the stop are the trace from that position on
 pub split-from : (n : ℕ) (t : List ℕ) (at : ℕ) → traceOf (blocks n t at) ++ drop (behind n t at) t ≡ drop at t
 unfolding blocks behind traceOf
 split-from zero t at = refl
@@ -171,7 +171,7 @@ enough (suc n) t at h =
     ))
     (λ r. (rw r, rw r))
 
--- one record more: the first of those from its position on, and then those behind it
+-- one record more: the first of those from its position on, and then those after it
 pub record Next (t : List ℕ) (at : ℕ) : Type 0 where
   pub more : allFrom t at ≡ stepAt t at .block ∷ allFrom t (stepAt t at .next)
   pub onward : endFrom t at ≡ endFrom t (stepAt t at .next)

@@ -62,13 +62,13 @@ impl Disc {
 
     // The decision about a command block, with data and a reply buffer of these lengths: the link refusals that need no buffer, in order,
     // then the drive.
-    pub fn judge(self, block: &[u8], data_length: usize, reply_length: usize) -> Verdict
-        ensures { λ r. ⌜ Judged self (now (block .entry)) «data_length» «reply_length» r ⌝ }
+    pub fn judge(self, cdb: &[u8], data_length: usize, reply_length: usize) -> Verdict
+        ensures { λ r. ⌜ Judged self (now (cdb .entry)) «data_length» «reply_length» r ⌝ }
     {
-        if block.len() != protocol::COMMAND_LENGTH {
+        if cdb.len() != protocol::CDB_LENGTH {
             return Verdict::refused_link(self, LinkRefusal::CommandBlockLength);
         }
-        let command = Command::decode(block);
+        let command = Command::decode(cdb);
         if !Disc::in_range(self.capacity) {
             return Verdict::refused_link(self, LinkRefusal::MediumSize);
         }
@@ -82,13 +82,13 @@ impl Disc {
     }
 
     // The same with data and a reply buffer of the lengths that the block asks for: no L4.
-    pub fn judge_as_asked(self, block: &[u8]) -> Verdict
-        ensures { λ r. ⌜ JudgedAsAsked self (now (block .entry)) r ⌝ }
+    pub fn judge_as_asked(self, cdb: &[u8]) -> Verdict
+        ensures { λ r. ⌜ JudgedAsAsked self (now (cdb .entry)) r ⌝ }
     {
-        if block.len() != protocol::COMMAND_LENGTH {
+        if cdb.len() != protocol::CDB_LENGTH {
             return Verdict::refused_link(self, LinkRefusal::CommandBlockLength);
         }
-        let command = Command::decode(block);
-        self.judge(block, command.data_length(), command.reply_room())
+        let command = Command::decode(cdb);
+        self.judge(cdb, command.data_length(), command.reply_room())
     }
 }

@@ -21,14 +21,11 @@ fn stretch<'a>(address: Lba, sectors: u32, medium: &'a [u8]) -> &'a [u8]
 
 impl Disc {
     // Whether a command block, the state and a medium, of these lengths, get past the link.
-    fn serves(self, block: usize, medium: usize) -> bool
-        ensures { λ r. ⌜ r ≡ served self «block» medium ⌝ }
+    fn serves(self, cdb: usize, medium: usize) -> bool
+        ensures { λ r. ⌜ r ≡ served self cdb medium ⌝ }
     {
         let whole = medium == protocol::BLOCK_LENGTH * (self.capacity as usize);
-        (block == protocol::COMMAND_LENGTH)
-            & Disc::in_range(self.capacity)
-            & whole
-            & self.is_allowed()
+        (cdb == protocol::CDB_LENGTH) & Disc::in_range(self.capacity) & whole & self.is_allowed()
     }
 
     // What a READ sends: the run, or nothing.
@@ -43,11 +40,11 @@ impl Disc {
     }
 
     // The recorded run of an accepted 28h of length 1 up, in place; an empty part for every other input.
-    pub fn recorded_run<'a>(self, block: &[u8], medium: &'a [u8]) -> &'a [u8]
-        ensures { λ r. ⌜ RunOf self (now (block .entry)) (now (medium .entry)) (now r) ⌝ }
+    pub fn recorded_run<'a>(self, cdb: &[u8], medium: &'a [u8]) -> &'a [u8]
+        ensures { λ r. ⌜ RunOf self (now (cdb .entry)) (now (medium .entry)) (now r) ⌝ }
     {
-        if self.serves(block.len(), medium.len()) {
-            let command = Command::decode(block);
+        if self.serves(cdb.len(), medium.len()) {
+            let command = Command::decode(cdb);
             return match command {
                 Command::Read { address, length } => self.run(address, length, medium),
                 _ => &medium[0..0],

@@ -7,16 +7,16 @@ use Rattle.drive.specs.Bytes.{zeros, splice, padded}
 
 -- the pending sectors, then the data of a WRITE
 unfoldable pub stream : ℕ → List ℕ → List ℕ → List ℕ
-stream held pending sectors = take (2048 * held) pending ++ sectors
+stream held pending payload = take (2048 * held) pending ++ payload
 
 -- n sectors gather after those held for block b: each sixteen of them are recorded, from that block on
 unfoldable pub gatheredMedium : ℕ → ℕ → ℕ → List ℕ → List ℕ → List ℕ → List ℕ
-gatheredMedium b held n medium pending sectors =
-    splice medium (32768 * b) (take (32768 * ((held + n) / 16)) (stream held pending sectors))
+gatheredMedium b held n medium pending payload =
+    splice medium (32768 * b) (take (32768 * ((held + n) / 16)) (stream held pending payload))
 
 -- and the rest stays pending, with zeros after it
 unfoldable pub gatheredPending : ℕ → ℕ → List ℕ → List ℕ → List ℕ
-gatheredPending held n pending sectors = padded (drop (32768 * ((held + n) / 16)) (stream held pending sectors))
+gatheredPending held n pending payload = padded (drop (32768 * ((held + n) / 16)) (stream held pending payload))
 
 -- a "flush": the pending block is recorded, its missing sectors zero, and the pending buffer becomes all zero
 unfoldable pub flushedMedium : Flush → List ℕ → List ℕ → List ℕ
@@ -29,21 +29,21 @@ flushedPending (Record b n) pending = padded []
 
 -- then the transfer, on medium and pending buffer as the flush leaves them
 unfoldable pub transferredMedium : Transfer → List ℕ → List ℕ → List ℕ → List ℕ
-transferredMedium Nothing medium pending sectors = medium
-transferredMedium (Send a n) medium pending sectors = medium
-transferredMedium (Gather b held n) medium pending sectors = gatheredMedium (b .0) held n medium pending sectors
-transferredMedium (Fill b n) medium pending sectors = splice medium (32768 * b .0) (zeros (32768 * n))
+transferredMedium Nothing medium pending payload = medium
+transferredMedium (Send a n) medium pending payload = medium
+transferredMedium (Gather b held n) medium pending payload = gatheredMedium (b .0) held n medium pending payload
+transferredMedium (Fill b n) medium pending payload = splice medium (32768 * b .0) (zeros (32768 * n))
 
 unfoldable pub transferredPending : Transfer → List ℕ → List ℕ → List ℕ
-transferredPending Nothing pending sectors = pending
-transferredPending (Send a n) pending sectors = pending
-transferredPending (Gather b held n) pending sectors = gatheredPending held n pending sectors
-transferredPending (Fill b n) pending sectors = pending
+transferredPending Nothing pending payload = pending
+transferredPending (Send a n) pending payload = pending
+transferredPending (Gather b held n) pending payload = gatheredPending held n pending payload
+transferredPending (Fill b n) pending payload = pending
 
 -- a whole plan
 unfoldable pub movedMedium : Plan → List ℕ → List ℕ → List ℕ → List ℕ
-movedMedium p medium pending sectors =
-    transferredMedium (p .transfer) (flushedMedium (p .flush) medium pending) (flushedPending (p .flush) pending) sectors
+movedMedium p medium pending payload =
+    transferredMedium (p .transfer) (flushedMedium (p .flush) medium pending) (flushedPending (p .flush) pending) payload
 
 unfoldable pub movedPending : Plan → List ℕ → List ℕ → List ℕ
-movedPending p pending sectors = transferredPending (p .transfer) (flushedPending (p .flush) pending) sectors
+movedPending p pending payload = transferredPending (p .transfer) (flushedPending (p .flush) pending) payload

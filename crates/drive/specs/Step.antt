@@ -26,12 +26,12 @@ drive d m p = record { disc = d; medium = m; pending = p }
 
 -- what the cable delivers with a command: the command block, its data, and the reply buffer as it is lent
 pub record Request : Type 0 where
-  pub block : List ℕ
-  pub sectors : List ℕ
+  pub cdb : List ℕ
+  pub payload : List ℕ
   pub buffer : List ℕ
 
 abbrev pub request : List ℕ → List ℕ → List ℕ → Request
-request b x r = record { block = b; sectors = x; buffer = r }
+request b x r = record { cdb = b; payload = x; buffer = r }
 
 -- what comes of it: the answer, the reply's bytes, the number of blocks recorded, the reply buffer and the drive afterwards
 pub record Result : Type 0 where
@@ -48,9 +48,9 @@ lent d mediumLent pendingLent = eqb mediumLent (32768 * d .capacity) && eqb pend
 -- L1, then L2 of what is lent, then what the disc decides (the rest of L2, L3, L4 and the drive's refusals)
 unfoldable pub verdictOn : Drive → Request → Verdict
 verdictOn s q =
-    cond (not (eqb (length (q .block)) 12)) (refuseLink (s .disc) CommandBlockLength)
+    cond (not (eqb (length (q .cdb)) 12)) (refuseLink (s .disc) CommandBlockLength)
     (cond (not (lent (s .disc) (length (s .medium)) (length (s .pending)))) (refuseLink (s .disc) MediumSize)
-    (judge (s .disc) (q .block) (length (q .sectors)) (length (q .buffer))))
+    (judge (s .disc) (q .cdb) (length (q .payload)) (length (q .buffer))))
 
 -- a verdict carried out
 unfoldable pub carriedOut : Verdict → Drive → Request → Result
@@ -62,7 +62,7 @@ carriedOut v s q =
       recorded = v .recorded;
       buffer = splice (q .buffer) 0 reply;
       after =
-          drive (v .disc) (movedMedium (v .plan) (s .medium) (s .pending) (q .sectors)) (movedPending (v .plan) (s .pending) (q .sectors));
+          drive (v .disc) (movedMedium (v .plan) (s .medium) (s .pending) (q .payload)) (movedPending (v .plan) (s .pending) (q .payload));
     }
 
 unfoldable pub step : Drive → Request → Result
@@ -75,10 +75,10 @@ untouched s q a d =
 
 -- what the code that carries a verdict out asks: what is sent is the recorded run, and what the plan asks of the lent buffers is there
 pub record Feasible (v : Verdict) (s : Drive) (q : Request) : Type 0 where
-  pub sends : Sendable (s .disc) (q .block) (s .medium) (v .plan .transfer) (v .reply) (length (q .buffer))
-  pub block : length (s .pending) ≡ 32768
+  pub sends : Sendable (s .disc) (q .cdb) (s .medium) (v .plan .transfer) (v .reply) (length (q .buffer))
+  pub cdb : length (s .pending) ≡ 32768
   pub flush : FlushFits (length (s .medium)) (v .plan .flush)
-  pub transfer : TransferFits (length (s .medium)) (length (q .sectors)) (v .plan .transfer)
+  pub transfer : TransferFits (length (s .medium)) (length (q .payload)) (v .plan .transfer)
 
 -- the response by value: of a verdict whose reply has so many bytes, and of a link refusal
 abbrev pub response : Verdict → ℕ → Response
@@ -106,4 +106,4 @@ pub record Answered (s : Drive) (q : Request) (r : Response) (medium pending buf
   pub filledBuffer : buffer ≡ step s q .buffer
   -- the number of blocks recorded is the rise of the recorded blocks of all fragments, and for a WRITE of n at most 1 + n/16
   pub risen : r .recorded ≡ rise (s .disc) (r .disc)
-  pub bounded : (a : Lba) (n : ℕ) → decode (q .block) ≡ Write a n → r .recorded ≤ 1 + n / 16
+  pub bounded : (a : Lba) (n : ℕ) → decode (q .cdb) ≡ Write a n → r .recorded ≤ 1 + n / 16

@@ -5,7 +5,7 @@ use disc::Disc;
 use disc::Verdict;
 use protocol::Answer;
 use protocol::BLOCK_LENGTH;
-use protocol::COMMAND_LENGTH;
+use protocol::CDB_LENGTH;
 use protocol::LinkRefusal;
 ghost use mathlib.Core.Path.{_≡_};
 ghost use Rattle.drive.specs.Step.{drive, request, lent, refused, Feasible, CarriedOut, Answered};
@@ -42,22 +42,22 @@ fn is_lent(disc: Disc, medium: usize, pending: usize) -> bool
 // Sends the reply, then moves the bytes that the plan names.
 fn carry_out(
     verdict: Verdict,
-    block: &[u8],
+    cdb: &[u8],
     data: &[u8],
     disc: Disc,
     medium: &mut [u8],
     pending: &mut [u8],
     reply: &mut [u8],
 ) -> Response
-    requires { ⌜ Feasible verdict (drive disc (now medium) (now pending)) (request (now block) (now «data») (now reply)) ⌝ }
+    requires { ⌜ Feasible verdict (drive disc (now medium) (now pending)) (request (now cdb) (now «data») (now reply)) ⌝ }
     ensures { λ r.
         ⌜ CarriedOut verdict (drive disc (now (medium .entry)) (now (pending .entry)))
-        (request (now (block .entry)) (now («data» .entry)) (now (reply .entry)))
+        (request (now (cdb .entry)) (now («data» .entry)) (now (reply .entry)))
         r (now (medium .exit)) (now (pending .exit)) (now (reply .exit)) ⌝ }
 {
     let plan = verdict.plan;
     let sent = plan.transfer;
-    let length = reply::send(sent, verdict.reply, disc, block, medium, reply);
+    let length = reply::send(sent, verdict.reply, disc, cdb, medium, reply);
     transfer::carry_out(plan, data, medium, pending);
     let answer = verdict.answer;
     let disc = verdict.disc;
@@ -71,7 +71,7 @@ fn carry_out(
 
 // Answers one command: the command block, its data, the disc by value, and the lent medium, pending buffer and reply buffer.
 pub fn command(
-    block: &[u8],
+    cdb: &[u8],
     data: &[u8],
     disc: Disc,
     medium: &mut [u8],
@@ -80,15 +80,15 @@ pub fn command(
 ) -> Response
     ensures { λ r.
         ⌜ Answered (drive disc (now (medium .entry)) (now (pending .entry)))
-        (request (now (block .entry)) (now («data» .entry)) (now (reply .entry)))
+        (request (now (cdb .entry)) (now («data» .entry)) (now (reply .entry)))
         r (now (medium .exit)) (now (pending .exit)) (now (reply .exit)) ⌝ }
 {
-    if block.len() != COMMAND_LENGTH {
+    if cdb.len() != CDB_LENGTH {
         return Response::refused(disc, LinkRefusal::CommandBlockLength);
     }
     if !is_lent(disc, medium.len(), pending.len()) {
         return Response::refused(disc, LinkRefusal::MediumSize);
     }
-    let verdict = disc.judge(block, data.len(), reply.len());
-    carry_out(verdict, block, data, disc, medium, pending, reply)
+    let verdict = disc.judge(cdb, data.len(), reply.len());
+    carry_out(verdict, cdb, data, disc, medium, pending, reply)
 }

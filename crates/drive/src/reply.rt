@@ -23,12 +23,12 @@ fn send_report(report: Reply, reply: &mut [u8]) -> usize
 }
 
 // The recorded run that a READ asks for.
-fn send_run(disc: Disc, block: &[u8], medium: &[u8], reply: &mut [u8]) -> usize
-    requires { ⌜ length (recordedRun disc (now block) (now medium)) ≤ length (now reply) ⌝ }
-    ensures { λ r. ⌜ r ≡ length (recordedRun disc (now (block .entry)) (now (medium .entry))) ⌝ }
-    ensures reply { λ _. ⌜ now (reply .exit) ≡ splice (now (reply .entry)) 0 (recordedRun disc (now (block .entry)) (now (medium .entry))) ⌝ }
+fn send_run(disc: Disc, cdb: &[u8], medium: &[u8], reply: &mut [u8]) -> usize
+    requires { ⌜ length (recordedRun disc (now cdb) (now medium)) ≤ length (now reply) ⌝ }
+    ensures { λ r. ⌜ r ≡ length (recordedRun disc (now (cdb .entry)) (now (medium .entry))) ⌝ }
+    ensures reply { λ _. ⌜ now (reply .exit) ≡ splice (now (reply .entry)) 0 (recordedRun disc (now (cdb .entry)) (now (medium .entry))) ⌝ }
 {
-    let run = disc.recorded_run(block, medium);
+    let run = disc.recorded_run(cdb, medium);
     bytes::put(reply, 0, run);
     run.len()
 }
@@ -38,11 +38,11 @@ pub(crate) fn send(
     transfer: Transfer,
     report: Reply,
     disc: Disc,
-    block: &[u8],
+    cdb: &[u8],
     medium: &[u8],
     reply: &mut [u8],
 ) -> usize
-    requires { ⌜ Sendable disc (now block) (now medium) transfer report (length (now reply)) ⌝ }
+    requires { ⌜ Sendable disc (now cdb) (now medium) transfer report (length (now reply)) ⌝ }
     ensures { λ r. ⌜ r ≡ length (sentBytes transfer report (now (medium .entry))) ⌝ }
     ensures reply { λ _. ⌜ now (reply .exit) ≡ splice (now (reply .entry)) 0 (sentBytes transfer report (now (medium .entry))) ⌝ }
 {
@@ -50,7 +50,7 @@ pub(crate) fn send(
         Transfer::Send {
             address: _,
             sectors: _,
-        } => send_run(disc, block, medium, reply),
+        } => send_run(disc, cdb, medium, reply),
         _ => send_report(report, reply),
     }
 }

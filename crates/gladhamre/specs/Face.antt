@@ -68,7 +68,7 @@ lentFits w mediumLent pendingLent =
 -- L1, then L2 as far as it can be told, then L3 for words that are no state, then the step of the state
 unfoldable pub face : Lent → Request → Outcome
 face l q =
-    cond (not (eqb (length (q .block)) 12)) (refusedFace l q CommandBlockLength)
+    cond (not (eqb (length (q .cdb)) 12)) (refusedFace l q CommandBlockLength)
     (cond (not (lentFits (l .state) (length (l .medium)) (length (l .pending)))) (refusedFace l q MediumSize)
     (cond (not (isState (l .state))) (refusedFace l q UnsoundState)
     (steppedFace (l .state) (step (drive (decode (l .state)) (l .medium) (l .pending)) q))))

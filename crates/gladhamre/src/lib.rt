@@ -6,7 +6,7 @@ mod image;
 use disc::Disc;
 use protocol::Answer;
 use protocol::BLOCK_LENGTH;
-use protocol::COMMAND_LENGTH;
+use protocol::CDB_LENGTH;
 use protocol::LinkRefusal;
 ghost use mathlib.Core.Path.{_≡_};
 ghost use Rattle.protocol.specs.Answer.{number};
@@ -64,7 +64,7 @@ pub extern "C" fn gladhamre_blank(capacity: u32, state: &mut [u32]) -> u32
 // Answers one command. The reply's length and the number of blocks recorded come back through the last two.
 #[no_mangle]
 pub extern "C" fn gladhamre_command(
-    block: &[u8],
+    cdb: &[u8],
     data: &[u8],
     state: &mut [u32],
     medium: &mut [u8],
@@ -75,13 +75,13 @@ pub extern "C" fn gladhamre_command(
 ) -> u32
     ensures { λ r.
         ⌜ Faced (lending (now (state .entry)) (now (medium .entry)) (now (pending .entry)))
-        (request (now (block .entry)) (now («data» .entry)) (now (reply .entry)))
+        (request (now (cdb .entry)) (now («data» .entry)) (now (reply .entry)))
         r (now (count .exit)) (now (recorded .exit))
         (now (state .exit)) (now (medium .exit)) (now (pending .exit)) (now (reply .exit)) ⌝ }
 {
     *count = 0;
     *recorded = 0;
-    if block.len() != COMMAND_LENGTH {
+    if cdb.len() != CDB_LENGTH {
         return refusal_number(LinkRefusal::CommandBlockLength);
     }
     if !is_lent(state, medium.len(), pending.len()) {
@@ -91,7 +91,7 @@ pub extern "C" fn gladhamre_command(
         return refusal_number(LinkRefusal::UnsoundState);
     }
     let disc = image::read(state);
-    let response = drive::command(block, data, disc, medium, pending, reply);
+    let response = drive::command(cdb, data, disc, medium, pending, reply);
     *count = response.length as u64;
     *recorded = response.recorded as u64;
     let answer = response.answer;

@@ -96,7 +96,7 @@ credited n x Unlisted sectors k = k
 
 -- a command by its answer: what is refused counts for nothing
 unfoldable pub noted : ℕ → Extent → Request → Answer → Account → Account
-noted n x q Accepted k = credited n x (decode (q .block)) (q .sectors) k
+noted n x q Accepted k = credited n x (decode (q .cdb)) (q .payload) k
 noted n x q (Link r) k = k
 noted n x q (byDrive r) k = k
 

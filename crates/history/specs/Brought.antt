@@ -20,11 +20,11 @@ use Rattle.history.specs.Account.{Extent, extentOf, sectorAt, account}
 pub record Written : Type 0 where
   pub address : ℕ
   pub count : ℕ
-  pub sectors : List ℕ
+  pub payload : List ℕ
 
 -- the WRITE that a command is, if it is one
 unfoldable pub writeOf : Command → List ℕ → List Written
-writeOf (Write a n) x = record { address = a .0; count = n; sectors = x } ∷ []
+writeOf (Write a n) x = record { address = a .0; count = n; payload = x } ∷ []
 writeOf TestUnitReady x = []
 writeOf (RequestSense allocation) x = []
 writeOf ReadCapacity x = []
@@ -38,7 +38,7 @@ writeOf Unlisted x = []
 
 -- if it is accepted
 unfoldable pub acceptedWrite : Answer → Request → List Written
-acceptedWrite Accepted q = writeOf (decode (q .block)) (q .sectors)
+acceptedWrite Accepted q = writeOf (decode (q .cdb)) (q .payload)
 acceptedWrite (Link r) q = []
 acceptedWrite (byDrive r) q = []
 
@@ -50,7 +50,7 @@ writes (t ∷ ts) s = acceptedWrite (result t s .answer) (t .request) ++ writes 
 -- the sectors that WRITEs brought to an address
 unfoldable pub broughtTo : ℕ → List Written → List (List ℕ)
 broughtTo a [] = []
-broughtTo a (w ∷ ws) = cond (among (w .address) (w .count) a) (sectorAt (a - w .address) (w .sectors) ∷ broughtTo a ws) (broughtTo a ws)
+broughtTo a (w ∷ ws) = cond (among (w .address) (w .count) a) (sectorAt (a - w .address) (w .payload) ∷ broughtTo a ws) (broughtTo a ws)
 
 -- what stands at an address then: the sector brought there, and the drive's zeros where there is none
 unfoldable pub sole : List (List ℕ) → List ℕ
@@ -69,16 +69,16 @@ pub record ReadBack : Type 0 where
   -- every sector of an accepted READ is what an accepted WRITE brought to its address; every other one is zeros, and none brought anything
   pub back :
       (c : ℕ) (s : Drive) → Start c s → (ts : List Turn) → Admissible ts s → (t : Turn) → Alike (final ts s) (found t (final ts s))
-      → (a : Lba) (n : ℕ) → decode (t .request .block) ≡ Read a n → result t (final ts s) .answer ≡ Accepted
+      → (a : Lba) (n : ℕ) → decode (t .request .cdb) ≡ Read a n → result t (final ts s) .answer ≡ Accepted
       → (i : ℕ) → i < n → sectorAt i (result t (final ts s) .reply) ≡ sole (broughtTo (a .0 + i) (writes ts s))
   -- so, request by request: sector i of an accepted WRITE at a is sector j of every later accepted READ at b, where a + i = b + j
   pub later :
       (c : ℕ) (s : Drive) → Start c s → (ts : List Turn) (w : Turn) (us : List Turn) → Admissible (ts ++ (w ∷ us)) s
-      → (a : Lba) (n : ℕ) → decode (w .request .block) ≡ Write a n → result w (final ts s) .answer ≡ Accepted
+      → (a : Lba) (n : ℕ) → decode (w .request .cdb) ≡ Write a n → result w (final ts s) .answer ≡ Accepted
       → (t : Turn) → Alike (final (ts ++ (w ∷ us)) s) (found t (final (ts ++ (w ∷ us)) s))
-      → (b : Lba) (m : ℕ) → decode (t .request .block) ≡ Read b m → result t (final (ts ++ (w ∷ us)) s) .answer ≡ Accepted
+      → (b : Lba) (m : ℕ) → decode (t .request .cdb) ≡ Read b m → result t (final (ts ++ (w ∷ us)) s) .answer ≡ Accepted
       → (i j : ℕ) → i < n → j < m → a .0 + i ≡ b .0 + j
-      → sectorAt j (result t (final (ts ++ (w ∷ us)) s) .reply) ≡ sectorAt i (w .request .sectors)
+      → sectorAt j (result t (final (ts ++ (w ∷ us)) s) .reply) ≡ sectorAt i (w .request .payload)
 
 -- the sectors that accepted WRITEs brought to the addresses of an extent
 abbrev pub broughtInto : Extent → List Written → ℕ

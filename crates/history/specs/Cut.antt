@@ -15,7 +15,7 @@ pub data Parts : Lba → ℕ → List ℕ → List Request → Type 0 where
   none : (a : Lba) → Parts a 0 [] []
   part :
       (a : Lba) (k n : ℕ) (q : Request) (rest : List ℕ) (qs : List Request) → 1 ≤ k → WriteOf q a k → Parts (lba (a .0 + k)) n rest qs
-      → Parts a (k + n) (q .sectors ++ rest) (q ∷ qs)
+      → Parts a (k + n) (q .payload ++ rest) (q ∷ qs)
 
 -- a cut of a WRITE: two or more parts, which together are its sectors from its address on
 pub record CutOf (q : Request) (qs : List Request) : Type 0 where
@@ -23,12 +23,12 @@ pub record CutOf (q : Request) (qs : List Request) : Type 0 where
   pub count : ℕ
   pub whole : WriteOf q address count
   pub several : 2 ≤ length qs
-  pub parts : Parts address count (q .sectors) qs
+  pub parts : Parts address count (q .payload) qs
 
 -- the same command given again: the same block and data, and a reply buffer of the same length
 pub record SameCommand (q u : Request) : Type 0 where
-  pub block : q .block ≡ u .block
-  pub sectors : q .sectors ≡ u .sectors
+  pub cdb : q .cdb ≡ u .cdb
+  pub payload : q .payload ≡ u .payload
   pub room : length (q .buffer) ≡ length (u .buffer)
 
 -- the same sequence again, as a flat sequence: `ts` from the drive `s` on, and in place of each turn the same command, or the parts of a

@@ -17,7 +17,7 @@ use Rattle.history.specs.Account.{Account, account, sectorAt, contentAt,
 
 -- the "kept count" of the fragment with a number, and the state's own figures
 pub record Keeps (k : Account) (d : Disc) (n : ℕ) : Type 0 where
-  -- recorded sectors = sectors accepted there - pending there + zero-filled there
+  -- recorded payload = sectors accepted there - pending there + zero-filled there
   pub kept : k .recorded ≡ k .accepted - k .pending + k .zeroFilled
   -- pending sectors are accepted ones, so the difference is a plain one
   pub within : k .pending ≤ k .accepted
@@ -45,5 +45,5 @@ pub record KeptAccount : Type 0 where
   -- every sector of an accepted READ is what the history put at its address
   pub back :
       (c : ℕ) (s : Drive) → Start c s → (ts : List Turn) → Admissible ts s → (t : Turn) → Alike (final ts s) (found t (final ts s))
-      → (a : Lba) (n : ℕ) → decode (t .request .block) ≡ Read a n → result t (final ts s) .answer ≡ Accepted
+      → (a : Lba) (n : ℕ) → decode (t .request .cdb) ≡ Read a n → result t (final ts s) .answer ≡ Accepted
       → (i : ℕ) → i < n → sectorAt i (result t (final ts s) .reply) ≡ contentAt ts s (a .0 + i)

@@ -66,7 +66,7 @@ pastAfter d Unlisted h = h
 
 -- a command by its answer: what is refused records nothing
 unfoldable pub pastNoted : Disc → Request → Answer → Past → Past
-pastNoted d q Accepted h = pastAfter d (decode (q .block)) h
+pastNoted d q Accepted h = pastAfter d (decode (q .cdb)) h
 pastNoted d q (Link r) h = h
 pastNoted d q (byDrive r) h = h
 

@@ -48,12 +48,12 @@ nameable (k ∷ ks) = leb 1 k && leb k 65535 && nameable ks
 -- they are a cut of a WRITE of n sectors at an address: two or more, n sectors together, no address past what a block can name
 abbrev pub isCut : Request → ℕ → ℕ → List ℕ → Bool
 isCut q a n ks =
-    eqb (length (q .block)) 12 && eqb (length (q .sectors)) (2048 * n) && leb 2 (length ks) && eqb (total ks) n && nameable ks
+    eqb (length (q .cdb)) 12 && eqb (length (q .payload)) (2048 * n) && leb 2 (length ks) && eqb (total ks) n && nameable ks
     && leb (a + n) 0x100000000
 
 -- a command again: in parts, if they are a cut of a WRITE that was accepted, else as it was
 unfoldable pub recutCommand : List ℕ → Request → Command → List Request
-recutCommand ks q (Write a n) = cond (isCut q (a .0) n ks) (partsOf (a .0) ks (q .sectors)) (q ∷ [])
+recutCommand ks q (Write a n) = cond (isCut q (a .0) n ks) (partsOf (a .0) ks (q .payload)) (q ∷ [])
 recutCommand ks q TestUnitReady = q ∷ []
 recutCommand ks q (RequestSense allocation) = q ∷ []
 recutCommand ks q ReadCapacity = q ∷ []
@@ -66,7 +66,7 @@ recutCommand ks q (ReadTrackInformation addressType n allocation) = q ∷ []
 recutCommand ks q Unlisted = q ∷ []
 
 unfoldable pub recut : Answer → List ℕ → Request → List Request
-recut Accepted ks q = recutCommand ks q (decode (q .block))
+recut Accepted ks q = recutCommand ks q (decode (q .cdb))
 recut (Link r) ks q = q ∷ []
 recut (byDrive r) ks q = q ∷ []
 

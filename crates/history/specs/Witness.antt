@@ -19,29 +19,29 @@ numbers (t ∷ ts) s = number (result t s .answer) ∷ numbers ts (result t s .a
 
 -- what of a request decides: its block, and how long its data and its reply buffer are
 pub record Shape : Type 0 where
-  pub block : List ℕ
-  pub sectors : ℕ
+  pub cdb : List ℕ
+  pub payload : ℕ
   pub room : ℕ
 
 abbrev pub shape : List ℕ → ℕ → ℕ → Shape
-shape b n m = record { block = b; sectors = n; room = m }
+shape b n m = record { cdb = b; payload = n; room = m }
 
 -- a request of that shape, its data all of one byte
 abbrev pub filled : ℕ → Shape → Request
-filled x h = request (h .block) (replicate (h .sectors) x) (replicate (h .room) x)
+filled x h = request (h .cdb) (replicate (h .payload) x) (replicate (h .room) x)
 
 abbrev pub shapeOf : Request → Shape
-shapeOf q = shape (q .block) (length (q .sectors)) (length (q .buffer))
+shapeOf q = shape (q .cdb) (length (q .payload)) (length (q .buffer))
 
 -- the answers' numbers by the shapes alone, and the disc after them
 unfoldable pub discAfter : List Shape → Disc → Disc
 discAfter [] d = d
-discAfter (h ∷ hs) d = discAfter hs (judge d (h .block) (h .sectors) (h .room) .disc)
+discAfter (h ∷ hs) d = discAfter hs (judge d (h .cdb) (h .payload) (h .room) .disc)
 
 unfoldable pub judged : List Shape → Disc → List ℕ
 judged [] d = []
 judged (h ∷ hs) d =
-    let v = judge d (h .block) (h .sectors) (h .room) in
+    let v = judge d (h .cdb) (h .payload) (h .room) in
     number (v .answer) ∷ judged hs (v .disc)
 
 -- a block of three bytes (L1), a WRITE without its data (L4), an opcode that is not listed, RESERVE 33, WRITE 0 of 5 to the reserved

@@ -5,13 +5,13 @@ use mathlib.Core.Bool.{Bool, true, false}
 use mathlib.Core.List.{List}
 use lib.ListN.{length, take, drop}
 use Rattle.trace.specs.Record.{stepAt}
-use Rattle.trace.specs.Whole.{wholeBlocks, wholeEnd}
+use Rattle.trace.specs.Whole.{wholeCdbs, wholeEnd}
 use Rattle.playback.specs.Types.{Reading, Record, BadMark, CutShort, End, Replay, Stop, Input, Progress}
 use Rattle.playback.specs.Replay.{replayed}
 
 -- exactly the records that the record reader finds in the bytes held are played, up to its stop
 pub record Stopped (before : Replay) (held : List ℕ) (r : Stop) : Type 0 where
-  pub replay : r .replay ≡ replayed before (wholeBlocks held)
+  pub replay : r .replay ≡ replayed before (wholeCdbs held)
   pub at : r .at ≡ wholeEnd held
   pub reading : r .reading ≡ stepAt held (wholeEnd held) .reading
 
@@ -41,7 +41,7 @@ over r w = record { replay = r; filled = 0; ended = true; whole = w }
 
 -- one turn: the records held are played, and, unless the replay is over, what they leave is held in front of what was read
 pub record WentOn (before : Progress) (buffer after : List ℕ) (r : Progress) : Type 0 where
-  pub replay : r .replay ≡ replayed (before .replay) (wholeBlocks (take (before .filled) buffer))
+  pub replay : r .replay ≡ replayed (before .replay) (wholeCdbs (take (before .filled) buffer))
   pub front :
       r .ended ≡ false
       → take (before .filled - wholeEnd (take (before .filled) buffer)) after

@@ -13,7 +13,7 @@ use Rattle.disc.specs.Flush.{flush, flushPlan, synchronizeCache}
 use Rattle.disc.specs.Write.{flushOthers, flushOthersPlan, gather, writeTo, writeFound, write}
 use Rattle.disc.specs.Judge.{perform, judgeCommand, judge}
 use Rattle.trace.specs.Record.{badMark, readingOf, stepOf, stepAt}
-use Rattle.trace.specs.Whole.{blocks, behind, traceOf, wholeBlocks, wholeEnd}
+use Rattle.trace.specs.Whole.{cdbs, behind, traceOf, wholeCdbs, wholeEnd}
 use Rattle.playback.specs.Types.{Replay}
 use Rattle.playback.specs.Text.{digits, nextText, words}
 use Rattle.playback.specs.Replay.{start, lineText, onward, lastText, replayed}
@@ -33,7 +33,7 @@ lines r (b ∷ bs) = lineText r b ++ lines (onward r b) bs
 unfoldable pub transcript : List ℕ → List ℕ
 transcript trace =
     heading
-    ++ (lines start (wholeBlocks trace) ++ lastText (replayed start (wholeBlocks trace)) (stepAt trace (wholeEnd trace) .reading))
+    ++ (lines start (wholeCdbs trace) ++ lastText (replayed start (wholeCdbs trace)) (stepAt trace (wholeEnd trace) .reading))
 
 -- WRITE 0 of 20, WRITE 16 of 1, 35h
 abbrev pub three : List (List ℕ)
@@ -53,7 +53,7 @@ printedThree =
 
 pub example : transcript (traceOf three) ≡ heading ++ printedThree
 unfolding
-    transcript lines lastText replayed digits nextText words blocks behind traceOf stepAt stepOf readingOf badMark
+    transcript lines lastText replayed digits nextText words cdbs behind traceOf stepAt stepOf readingOf badMark
     blank judge judgeCommand perform decode dataLength replyRoom lengthsFit accepted accept refuse refuseLink
     isRefusalSense allowedSense listed some every find sumRecorded
     usedFirst firstAtZero followsFrom inOrder endsWithin recordedWithin zeroedWithin incompleteLast tailLast tailOrFull pendingNamed

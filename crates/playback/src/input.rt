@@ -48,7 +48,7 @@ fn play_held(replay: Replay, held: &[u8]) -> Stop
     loop {
         let step = trace::read_at(held, at);
         let reading = step.reading;
-        let block = step.block;
+        let cdb = step.cdb;
         let Reading::Record = reading else {
             return Stop {
                 replay,
@@ -56,7 +56,7 @@ fn play_held(replay: Replay, held: &[u8]) -> Stop
                 reading,
             };
         };
-        let played = replay.play(block);
+        let played = replay.play(cdb);
         print(STDOUT_FILENO, played.line);
         replay = played.replay;
         at = step.next;

@@ -32,12 +32,12 @@ impl Replay {
     }
 
     // The command of a record, with data and a reply buffer of the lengths that it asks for.
-    pub fn play(self, block: [u8; trace::BLOCK_LENGTH]) -> Played
-        ensures { λ r. ⌜ Plays self block r ⌝ }
+    pub fn play(self, cdb: [u8; trace::CDB_LENGTH]) -> Played
+        ensures { λ r. ⌜ Plays self cdb r ⌝ }
     {
-        let verdict = self.disc.judge_as_asked(&block);
+        let verdict = self.disc.judge_as_asked(&cdb);
         let disc = verdict.disc;
-        let line = Line::of_record(self.number, block[0], disc.sense, disc.tail_next());
+        let line = Line::of_record(self.number, cdb[0], disc.sense, disc.tail_next());
         let number = std::num::wrapping_add_u64(self.number, 1);
         let replay = Replay { disc, number };
         Played { line, replay }

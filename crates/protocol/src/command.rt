@@ -40,67 +40,67 @@ pub enum Command {
 }
 
 // The byte at a place; 0 where there is none.
-fn byte_at(block: &[u8], at: usize) -> u8
-    ensures { λ r. ⌜ r ≡ byteAt (now (block .entry)) at ⌝ }
+fn byte_at(cdb: &[u8], at: usize) -> u8
+    ensures { λ r. ⌜ r ≡ byteAt (now (cdb .entry)) at ⌝ }
 {
-    if at < block.len() {
-        return block[at];
+    if at < cdb.len() {
+        return cdb[at];
     }
     0
 }
 
 // Two bytes from a place on, the highest first.
-fn word16(block: &[u8], at: usize) -> u16
+fn word16(cdb: &[u8], at: usize) -> u16
     requires { ⌜ at ≤ 12 ⌝ }
-    ensures { λ r. ⌜ r ≡ word16 (now (block .entry)) at ⌝ }
+    ensures { λ r. ⌜ r ≡ word16 (now (cdb .entry)) at ⌝ }
 {
-    0x100 * (byte_at(block, at) as u16) + byte_at(block, at + 1) as u16
+    0x100 * (byte_at(cdb, at) as u16) + byte_at(cdb, at + 1) as u16
 }
 
 // Four bytes from a place on, the highest first.
-fn word32(block: &[u8], at: usize) -> u32
+fn word32(cdb: &[u8], at: usize) -> u32
     requires { ⌜ at ≤ 8 ⌝ }
-    ensures { λ r. ⌜ r ≡ word32 (now (block .entry)) at ⌝ }
+    ensures { λ r. ⌜ r ≡ word32 (now (cdb .entry)) at ⌝ }
 {
-    0x10000 * (word16(block, at) as u32) + word16(block, at + 2) as u32
+    0x10000 * (word16(cdb, at) as u32) + word16(cdb, at + 2) as u32
 }
 
 impl Command {
     // The command of a block; bytes that are missing count as 0.
-    pub fn decode(block: &[u8]) -> Command
-        ensures { λ r. ⌜ r ≡ decode (now (block .entry)) ⌝ }
+    pub fn decode(cdb: &[u8]) -> Command
+        ensures { λ r. ⌜ r ≡ decode (now (cdb .entry)) ⌝ }
     {
-        let opcode = byte_at(block, 0);
+        let opcode = byte_at(cdb, 0);
         match opcode {
             0x00 => Command::TestUnitReady,
             0x03 => Command::RequestSense {
-                allocation: byte_at(block, 4),
+                allocation: byte_at(cdb, 4),
             },
             0x25 => Command::ReadCapacity,
             0x28 => Command::Read {
-                address: Lba(word32(block, 2) as u64),
-                length: word16(block, 7) as u32,
+                address: Lba(word32(cdb, 2) as u64),
+                length: word16(cdb, 7) as u32,
             },
             0x2A => Command::Write {
-                address: Lba(word32(block, 2) as u64),
-                length: word16(block, 7) as u32,
+                address: Lba(word32(cdb, 2) as u64),
+                length: word16(cdb, 7) as u32,
             },
             0x35 => Command::SynchronizeCache,
             0x53 => Command::ReserveTrack {
-                size: word32(block, 5),
+                size: word32(cdb, 5),
             },
             0x5B => Command::CloseTrackSession {
-                function: byte_at(block, 2) % 8,
-                number: word16(block, 4),
+                function: byte_at(cdb, 2) % 8,
+                number: word16(cdb, 4),
             },
             0x51 => Command::ReadDiscInformation {
-                data_type: byte_at(block, 1) % 8,
-                allocation: word16(block, 7),
+                data_type: byte_at(cdb, 1) % 8,
+                allocation: word16(cdb, 7),
             },
             0x52 => Command::ReadTrackInformation {
-                address_type: byte_at(block, 1) % 4,
-                number: word32(block, 2),
-                allocation: word16(block, 7),
+                address_type: byte_at(cdb, 1) % 4,
+                number: word32(cdb, 2),
+                allocation: word16(cdb, 7),
             },
             _ => Command::Unlisted,
         }

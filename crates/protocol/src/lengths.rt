@@ -5,7 +5,7 @@ ghost use Prim.Native.Nat.{min};
 ghost use Rattle.protocol.specs.Lengths.{dataLength, replyRoom, lengthsFit};
 
 // Bytes of a command block.
-pub const COMMAND_LENGTH: usize = 12;
+pub const CDB_LENGTH: usize = 12;
 
 // Bytes of a sector, and of a block of sixteen.
 pub const SECTOR_LENGTH: usize = 2048;

@@ -12,7 +12,7 @@ pub use answer::LinkRefusal;
 pub use answer::Sense;
 pub use command::Command;
 pub use lengths::BLOCK_LENGTH;
-pub use lengths::COMMAND_LENGTH;
+pub use lengths::CDB_LENGTH;
 pub use lengths::SECTOR_LENGTH;
 pub use reply::Reply;
 pub use reports::DiscReport;

@@ -17,21 +17,21 @@ fn print(name: &[u8], length: usize, answer: Answer) {
 }
 
 // The entry's answer to a command block without data.
-fn ask(block: &[u8], disc: Disc, medium: &mut [u8], pending: &mut [u8]) -> Answer {
+fn ask(cdb: &[u8], disc: Disc, medium: &mut [u8], pending: &mut [u8]) -> Answer {
     let no_data = [0u8; 0];
     let mut reply = [0u8; 8];
-    let response = drive::command(block, &no_data, disc, medium, pending, &mut reply);
+    let response = drive::command(cdb, &no_data, disc, medium, pending, &mut reply);
     response.answer
 }
 
 // A command block of so many bytes, with a medium and a pending buffer of 16.
-fn ask_tiny(block: &[u8], disc: Disc) {
+fn ask_tiny(cdb: &[u8], disc: Disc) {
     let mut medium = [0u8; 16];
     let mut pending = [0u8; 16];
     print(
         b"block",
-        block.len(),
-        ask(block, disc, &mut medium, &mut pending),
+        cdb.len(),
+        ask(cdb, disc, &mut medium, &mut pending),
     );
 }
 
@@ -47,32 +47,32 @@ fn ask_blocks(disc: Disc) {
 fn ask_zero_state() {
     let made = Disc::blank(0);
     let disc = made.disc;
-    let block = [0u8; 12];
+    let cdb = [0u8; 12];
     let mut no_medium = [0u8; 0];
     let mut short = [0u8; 32767];
     print(
         b"pending",
         short.len(),
-        ask(&block, disc, &mut no_medium, &mut short),
+        ask(&cdb, disc, &mut no_medium, &mut short),
     );
     let mut whole = [0u8; 32768];
     print(
         b"pending",
         whole.len(),
-        ask(&block, disc, &mut no_medium, &mut whole),
+        ask(&cdb, disc, &mut no_medium, &mut whole),
     );
     let mut medium = [0u8; 1];
     print(
         b"medium",
         medium.len(),
-        ask(&block, disc, &mut medium, &mut whole),
+        ask(&cdb, disc, &mut medium, &mut whole),
     );
 }
 
 // What the disc decides about an opcode with address 256, length 1 and, for 03h, allocation length 1.
 fn decide(disc: Disc, opcode: u8, data: usize, reply: usize) -> Answer {
-    let block = [opcode, 0, 0, 0, 1, 0, 0, 0, 1, 0, 0, 0];
-    let verdict = disc.judge(&block, data, reply);
+    let cdb = [opcode, 0, 0, 0, 1, 0, 0, 0, 1, 0, 0, 0];
+    let verdict = disc.judge(&cdb, data, reply);
     verdict.answer
 }
 

@@ -22,16 +22,16 @@ readingOf left =
     Record))
 
 -- the command block of the record at the front
-abbrev pub blockOf : List ℕ → List ℕ
-blockOf left = take 12 (drop 2 left)
+abbrev pub cdbOf : List ℕ → List ℕ
+cdbOf left = take 12 (drop 2 left)
 
 -- no record: no block, and the position stays
 abbrev pub stopped : Reading → ℕ → Step
-stopped r at = record { reading = r; block = replicate 12 0; next = at }
+stopped r at = record { reading = r; cdb = replicate 12 0; next = at }
 
 -- a record at the front, or none
 unfoldable pub stepOf : Reading → List ℕ → ℕ → Step
-stepOf Record left at = record { reading = Record; block = blockOf left; next = at + 14 }
+stepOf Record left at = record { reading = Record; cdb = cdbOf left; next = at + 14 }
 stepOf BadMark left at = stopped BadMark at
 stepOf CutShort left at = stopped CutShort at
 stepOf End left at = stopped End at

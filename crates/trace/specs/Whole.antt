@@ -14,10 +14,10 @@ isRecord CutShort = false
 isRecord End = false
 
 -- the blocks of the first n records from a position on, or of as many as there are before the reader stops
-unfoldable pub blocks : ℕ → List ℕ → ℕ → List (List ℕ)
-blocks zero trace at = []
-blocks (suc n) trace at =
-    cond (isRecord (stepAt trace at .reading)) (stepAt trace at .block ∷ blocks n trace (stepAt trace at .next)) []
+unfoldable pub cdbs : ℕ → List ℕ → ℕ → List (List ℕ)
+cdbs zero trace at = []
+cdbs (suc n) trace at =
+    cond (isRecord (stepAt trace at .reading)) (stepAt trace at .cdb ∷ cdbs n trace (stepAt trace at .next)) []
 
 -- the position that they lead to
 unfoldable pub behind : ℕ → List ℕ → ℕ → ℕ
@@ -26,14 +26,14 @@ behind (suc n) trace at = cond (isRecord (stepAt trace at .reading)) (behind n t
 
 -- every record from a position on up to the stop, and where that is; there are no more records than bytes
 abbrev pub allFrom : List ℕ → ℕ → List (List ℕ)
-allFrom trace at = blocks (length trace) trace at
+allFrom trace at = cdbs (length trace) trace at
 
 abbrev pub endFrom : List ℕ → ℕ → ℕ
 endFrom trace at = behind (length trace) trace at
 
 -- those of a whole trace
-abbrev pub wholeBlocks : List ℕ → List (List ℕ)
-wholeBlocks trace = allFrom trace 0
+abbrev pub wholeCdbs : List ℕ → List (List ℕ)
+wholeCdbs trace = allFrom trace 0
 
 abbrev pub wholeEnd : List ℕ → ℕ
 wholeEnd trace = endFrom trace 0

@@ -5,6 +5,6 @@ mod record;
 
 pub use reader::RecordReader;
 pub use reader::read_at;
-pub use record::BLOCK_LENGTH;
+pub use record::CDB_LENGTH;
 pub use record::Reading;
 pub use record::Step;

@@ -2,7 +2,7 @@
 ghost use mathlib.Core.Path.{_≡_};
 ghost use Prim.Native.Nat.{_≤_};
 ghost use lib.ListN.{length};
-ghost use Rattle.trace.specs.Record.{readingOf, blockOf, stopped, stepAt};
+ghost use Rattle.trace.specs.Record.{readingOf, cdbOf, stopped, stepAt};
 
 // The two bytes in front of a command block.
 const FIRST_MARK: u8 = 0xA5;
@@ -12,10 +12,10 @@ const SECOND_MARK: u8 = 0x5A;
 const MARK_LENGTH: usize = 2;
 
 // Bytes of a command block.
-pub const BLOCK_LENGTH: usize = 12;
+pub const CDB_LENGTH: usize = 12;
 
 // Bytes of a record: the mark and the command block.
-const RECORD_LENGTH: usize = MARK_LENGTH + BLOCK_LENGTH;
+const RECORD_LENGTH: usize = MARK_LENGTH + CDB_LENGTH;
 
 // What stands at a position.
 pub enum Reading {
@@ -31,7 +31,7 @@ pub enum Reading {
 // What stands at a position, the command block of a record, else zeros, and the position to go on from: after a record, else the same.
 pub struct Step {
     pub reading: Reading,
-    pub block: [u8; BLOCK_LENGTH],
+    pub cdb: [u8; CDB_LENGTH],
     pub next: usize,
 }
 
@@ -40,10 +40,10 @@ impl Step {
     fn stopped(reading: Reading, at: usize) -> Step
         ensures { λ r. ⌜ r ≡ stopped reading at ⌝ }
     {
-        let block = [0u8; BLOCK_LENGTH];
+        let cdb = [0u8; CDB_LENGTH];
         Step {
             reading,
-            block,
+            cdb,
             next: at,
         }
     }
@@ -72,17 +72,17 @@ fn classify(left: &[u8]) -> Reading
 }
 
 // The command block of the record at the front.
-fn block_of(left: &[u8]) -> [u8; BLOCK_LENGTH]
+fn cdb_of(left: &[u8]) -> [u8; CDB_LENGTH]
     requires { ⌜ 14 ≤ length (now left) ⌝ }
-    ensures { λ r. ⌜ r ≡ blockOf (now (left .entry)) ⌝ }
+    ensures { λ r. ⌜ r ≡ cdbOf (now (left .entry)) ⌝ }
 {
-    let mut block = [0u8; BLOCK_LENGTH];
+    let mut cdb = [0u8; CDB_LENGTH];
     let mut i = 0;
-    while i < BLOCK_LENGTH {
-        block[i] = left[MARK_LENGTH + i];
+    while i < CDB_LENGTH {
+        cdb[i] = left[MARK_LENGTH + i];
         i += 1;
     }
-    block
+    cdb
 }
 
 // What stands at a position of a trace: the covered part of the reader. A position past the end is the end.
@@ -97,7 +97,7 @@ pub(crate) fn find_record(trace: &[u8], at: usize) -> Step
     match reading {
         Reading::Record => Step {
             reading: Reading::Record,
-            block: block_of(left),
+            cdb: cdb_of(left),
             next: at + RECORD_LENGTH,
         },
         _ => Step::stopped(reading, at),

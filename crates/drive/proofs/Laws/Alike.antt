@@ -58,23 +58,23 @@ step-refused s q x e =
 -- the link's tests of what is lent, as cases: a refusal, or the disc decides
 pub verdict-cases :
     {P : Type 0} (s : Drive) (q : Request) → ((x : LinkRefusal) → verdictOn s q ≡ refuseLink (s .disc) x → P)
-    → (length (q .block) ≡ 12 → lent (s .disc) (length (s .medium)) (length (s .pending)) ≡ true
-    → verdictOn s q ≡ judge (s .disc) (q .block) (length (q .sectors)) (length (q .buffer)) → P) → P
+    → (length (q .cdb) ≡ 12 → lent (s .disc) (length (s .medium)) (length (s .pending)) ≡ true
+    → verdictOn s q ≡ judge (s .disc) (q .cdb) (length (q .payload)) (length (q .buffer)) → P) → P
 verdict-cases s q link judged =
-    by-cases (eqb (length (q .block)) 12)
+    by-cases (eqb (length (q .cdb)) 12)
     (λ b.
-    let block = eqb-true (length (q .block)) 12 b in
+    let twelve = eqb-true (length (q .cdb)) 12 b in
     by-cases (lent (s .disc) (length (s .medium)) (length (s .pending)))
-    (λ l. judged block l (sym (verdict-judge s q block l)))
-    (λ l. link MediumSize (sym (verdict-lent s q block l))))
-    (λ b. link CommandBlockLength (sym (verdict-block s q (eqb-false (length (q .block)) 12 b))))
+    (λ l. judged twelve l (sym (verdict-judge s q twelve l)))
+    (λ l. link MediumSize (sym (verdict-lent s q twelve l))))
+    (λ b. link CommandBlockLength (sym (verdict-block s q (eqb-false (length (q .cdb)) 12 b))))
 
 carried-outside :
     (s : Drive) (q : Request) (i : ℕ) (v : Verdict) → Judgement s q v → recordsBlock (v .plan) (i / 32768) ≡ false
     → getD (carriedOut v s q .after .medium) i 0 ≡ getD (s .medium) i 0
 unfolding carriedOut
 carried-outside s q i v j none =
-    moved-kept (v .plan) (s .medium) (s .pending) (q .sectors) (j .block) (j .fits .flush) (j .fits .transfer) i none
+    moved-kept (v .plan) (s .medium) (s .pending) (q .payload) (j .cdb) (j .fits .flush) (j .fits .transfer) i none
 
 -- a step records in the blocks of its plan and nowhere else
 pub step-outside :
@@ -84,7 +84,7 @@ unfolding step
 step-outside s q i none =
     verdict-cases s q (λ x e. ap (λ (r : Result). getD (r .after .medium) i 0) (ap (λ v. carriedOut v s q) e ∙ link-carried s q x))
     (λ b l e.
-    let v = judge (s .disc) (q .block) (length (q .sectors)) (length (q .buffer)) in
+    let v = judge (s .disc) (q .cdb) (length (q .payload)) (length (q .buffer)) in
     let j = judgement s q l in
     ap (λ (v : Verdict). getD (carriedOut v s q .after .medium) i 0) e
     ∙ carried-outside s q i v j (rw e at none))
@@ -108,8 +108,8 @@ carried-lengths :
     → (length (carriedOut v s q .after .medium) ≡ length (s .medium)) × (length (carriedOut v s q .after .pending) ≡ length (s .pending))
 unfolding carriedOut
 carried-lengths s q v j = (
-  length-moved-medium (v .plan) (s .medium) (s .pending) (q .sectors) (j .block) (j .fits .flush) (j .fits .transfer),
-  length-moved-pending (v .plan) (s .medium) (s .pending) (q .sectors) (j .block) (j .fits .flush) (j .fits .transfer) ∙ sym (j .block),
+  length-moved-medium (v .plan) (s .medium) (s .pending) (q .payload) (j .cdb) (j .fits .flush) (j .fits .transfer),
+  length-moved-pending (v .plan) (s .medium) (s .pending) (q .payload) (j .cdb) (j .fits .flush) (j .fits .transfer) ∙ sym (j .cdb),
 )
 
 pub step-lengths :
@@ -122,7 +122,7 @@ step-lengths s q =
     let r = ap (λ v. carriedOut v s q) e ∙ link-carried s q x in
     (ap (λ (r : Result). length (r .after .medium)) r, ap (λ (r : Result). length (r .after .pending)) r))
     (λ b l e.
-    let w = carried-lengths s q (judge (s .disc) (q .block) (length (q .sectors)) (length (q .buffer))) (judgement s q l) in (
+    let w = carried-lengths s q (judge (s .disc) (q .cdb) (length (q .payload)) (length (q .buffer))) (judgement s q l) in (
       ap (λ (v : Verdict). length (carriedOut v s q .after .medium)) e ∙ w .0,
       ap (λ (v : Verdict). length (carriedOut v s q .after .pending)) e ∙ w .1,
     ))
@@ -144,8 +144,8 @@ lent-after s q h =
 
 pub step-judges :
     (s : Drive) (q : Request) → lent (s .disc) (length (s .medium)) (length (s .pending)) ≡ true
-    → (step s q .answer ≡ judge (s .disc) (q .block) (length (q .sectors)) (length (q .buffer)) .answer)
-    × (step s q .after .disc ≡ judge (s .disc) (q .block) (length (q .sectors)) (length (q .buffer)) .disc)
+    → (step s q .answer ≡ judge (s .disc) (q .cdb) (length (q .payload)) (length (q .buffer)) .answer)
+    × (step s q .after .disc ≡ judge (s .disc) (q .cdb) (length (q .payload)) (length (q .buffer)) .disc)
 unfolding step carriedOut
 step-judges s q l = let e = verdict-judges s q l in (ap (λ (v : Verdict). v .answer) e, ap (λ (v : Verdict). v .disc) e)
 
@@ -184,7 +184,7 @@ module _
     (held : take (2048 * d .pending) p ≡ take (2048 * d .pending) q)
   where
     other-block : length q ≡ 32768
-    other-block = sym hp ∙ j .block
+    other-block = sym hp ∙ j .cdb
 
     pending : Pending d (v .plan) (v .disc)
     pending = decided-pending d v (j .decided)
@@ -210,7 +210,7 @@ module _
         Agree (λ i. (recordedByte d i ≡ true) ⊎ (flushes (v .plan .flush) (i / 32768) ≡ true)) (flushedMedium (v .plan .flush) m p)
         (flushedMedium (v .plan .flush) n q)
     flushed-alike =
-        flushed-agree (λ i. recordedByte d i ≡ true) m n p q (j .block) other-block hm same (v .plan .flush) (j .fits .flush) flush-sectors
+        flushed-agree (λ i. recordedByte d i ≡ true) m n p q (j .cdb) other-block hm same (v .plan .flush) (j .fits .flush) flush-sectors
 
     flushed-held :
         take (2048 * flushedCount (v .plan .flush) (d .pending)) (flushedPending (v .plan .flush) p)
@@ -218,7 +218,7 @@ module _
     flushed-held = flushed-sectors (v .plan .flush) (d .pending) p q held
 
     flushed-length : length (flushedMedium (v .plan .flush) m p) ≡ length m
-    flushed-length = length-flushed-medium (v .plan .flush) m p (j .block) (j .fits .flush)
+    flushed-length = length-flushed-medium (v .plan .flush) m p (j .cdb) (j .fits .flush)
 
     other-flush : FlushFits (length n) (v .plan .flush)
     other-flush = subst (λ (l : ℕ). FlushFits l (v .plan .flush)) hm (j .fits .flush)
@@ -232,7 +232,7 @@ module _
         let f = v .plan .flush in
         let g = v .plan .transfer in
         transferred-agree (λ i. (recordedByte d i ≡ true) ⊎ (flushes f (i / 32768) ≡ true)) (flushedMedium f m p) (flushedMedium f n q)
-        (flushedPending f p) (flushedPending f q) (length-flushed-pending f p (j .block)) (length-flushed-pending f q other-block)
+        (flushedPending f p) (flushedPending f q) (length-flushed-pending f p (j .cdb)) (length-flushed-pending f q other-block)
         (flushed-length ∙ (hm ∙ sym (length-flushed-medium f n q other-block other-flush))) flushed-alike g x
         (subst (λ (l : ℕ). TransferFits l (length x) g) (sym flushed-length) (j .fits .transfer))
         (λ c h l e. rw (pending .gathered c h l e .0) flushed-held)
@@ -260,10 +260,10 @@ module _
               record {
                 disc = refl;
                 mediumLength =
-                    length-moved-medium (v .plan) m p x (j .block) (j .fits .flush) (j .fits .transfer)
+                    length-moved-medium (v .plan) m p x (j .cdb) (j .fits .flush) (j .fits .transfer)
                     ∙ (hm ∙ sym (length-moved-medium (v .plan) n q x other-block other-flush other-transfer));
                 pendingLength =
-                    length-moved-pending (v .plan) m p x (j .block) (j .fits .flush) (j .fits .transfer)
+                    length-moved-pending (v .plan) m p x (j .cdb) (j .fits .flush) (j .fits .transfer)
                     ∙ sym (length-moved-pending (v .plan) n q x other-block other-flush other-transfer);
                 recorded = medium-alike;
                 pending = sectors-alike;
@@ -304,15 +304,15 @@ module _
 
 -- stale bytes decide nothing: alike drives, the same command and data and reply buffers of the same length
 pub step-alike :
-    (s t : Drive) (q u : Request) → Alike s t → q .block ≡ u .block → q .sectors ≡ u .sectors → length (q .buffer) ≡ length (u .buffer)
+    (s t : Drive) (q u : Request) → Alike s t → q .cdb ≡ u .cdb → q .payload ≡ u .payload → length (q .buffer) ≡ length (u .buffer)
     → AlikeResults (step s q) (step t u)
 step-alike s t q u a block sectors buffer =
     let other : drive (s .disc) (t .medium) (t .pending) ≡ t = ap (λ (d : Disc). drive d (t .medium) (t .pending)) (a .disc) in
-    let given : request (q .block) (q .sectors) (u .buffer) ≡ u =
-    ap (λ (b : List ℕ). request b (q .sectors) (u .buffer)) block ∙ ap (λ (x : List ℕ). request (u .block) x (u .buffer)) sectors in
+    let given : request (q .cdb) (q .payload) (u .buffer) ≡ u =
+    ap (λ (b : List ℕ). request b (q .payload) (u .buffer)) block ∙ ap (λ (x : List ℕ). request (u .cdb) x (u .buffer)) sectors in
     subst (λ (z : Drive). AlikeResults (step s q) (step z u)) other
     (subst (λ (z : Request). AlikeResults (step s q) (step (drive (s .disc) (t .medium) (t .pending)) z)) given
-    (step-alike-plain (s .disc) (s .medium) (t .medium) (s .pending) (t .pending) (q .block) (q .sectors) (q .buffer) (u .buffer)
+    (step-alike-plain (s .disc) (s .medium) (t .medium) (s .pending) (t .pending) (q .cdb) (q .payload) (q .buffer) (u .buffer)
     (a .mediumLength) (a .pendingLength) buffer (a .recorded)
     (a .pending ∙ ap (λ (d : Disc). take (2048 * d .pending) (t .pending)) (sym (a .disc)))))
 

@@ -35,8 +35,8 @@ pub record Served (s : Drive) : Type 0 where
 -- a WRITE with its data is then decided by the drive
 pub write-verdict : (s : Drive) (q : Request) (a : Lba) (n : ℕ) → WriteOf q a n → Served s → verdictOn s q ≡ write (s .disc) a n
 write-verdict s q a n w k =
-    sym (verdict-judge s q (w .block) (k .lends))
-    ∙ judge-writes (s .disc) (q .block) (length (q .sectors)) (length (q .buffer)) a n (w .block) (w .command) (k .range) (k .allowed) (w .sectors)
+    sym (verdict-judge s q (w .cdb) (k .lends))
+    ∙ judge-writes (s .disc) (q .cdb) (length (q .payload)) (length (q .buffer)) a n (w .cdb) (w .command) (k .range) (k .allowed) (w .payload)
 
 -- an accepted command was served, and what a command leaves is served again
 link-answer : (d : Disc) (x : LinkRefusal) → refuseLink d x .answer ≡ Accepted → ⊥
@@ -76,7 +76,7 @@ served-alike s t a k =
 pub served-link :
     (s : Drive) (q : Request) (x : LinkRefusal) → Served s → step s q .answer ≡ Link x → (x ≡ CommandBlockLength) ⊎ (x ≡ TransferLength)
 served-link s q x k e =
-    judge-link (s .disc) (q .block) (length (q .sectors)) (length (q .buffer)) x (k .range) (k .allowed)
+    judge-link (s .disc) (q .cdb) (length (q .payload)) (length (q .buffer)) x (k .range) (k .allowed)
     (sym (step-judges s q (k .lends) .0) ∙ e)
 
 -- the answer and the count of a WRITE that is served
@@ -92,18 +92,18 @@ module _ (s : Drive) (q : Request) (a : Lba) (n : ℕ) (w : WriteOf q a n) (k : 
   write-after : step s q .after .disc ≡ write (s .disc) a n .disc
   write-after = step-disc s q ∙ ap (λ (v : Verdict). v .disc) (write-verdict s q a n w k)
 
-  write-medium : step s q .after .medium ≡ movedMedium (write (s .disc) a n .plan) (s .medium) (s .pending) (q .sectors)
+  write-medium : step s q .after .medium ≡ movedMedium (write (s .disc) a n .plan) (s .medium) (s .pending) (q .payload)
   unfolding step carriedOut
-  write-medium = ap (λ (v : Verdict). movedMedium (v .plan) (s .medium) (s .pending) (q .sectors)) (write-verdict s q a n w k)
+  write-medium = ap (λ (v : Verdict). movedMedium (v .plan) (s .medium) (s .pending) (q .payload)) (write-verdict s q a n w k)
 
-  write-pending : step s q .after .pending ≡ movedPending (write (s .disc) a n .plan) (s .pending) (q .sectors)
+  write-pending : step s q .after .pending ≡ movedPending (write (s .disc) a n .plan) (s .pending) (q .payload)
   unfolding step carriedOut
-  write-pending = ap (λ (v : Verdict). movedPending (v .plan) (s .pending) (q .sectors)) (write-verdict s q a n w k)
+  write-pending = ap (λ (v : Verdict). movedPending (v .plan) (s .pending) (q .payload)) (write-verdict s q a n w k)
 
-  write-fits : Fits (length (s .medium)) (length (q .sectors)) (length (q .buffer)) (write (s .disc) a n)
+  write-fits : Fits (length (s .medium)) (length (q .payload)) (length (q .buffer)) (write (s .disc) a n)
   write-fits =
-      subst (λ (v : Verdict). Fits (length (s .medium)) (length (q .sectors)) (length (q .buffer)) v)
-      (verdict-judge s q (w .block) (k .lends) ∙ write-verdict s q a n w k) (judgement s q (k .lends) .fits)
+      subst (λ (v : Verdict). Fits (length (s .medium)) (length (q .payload)) (length (q .buffer)) v)
+      (verdict-judge s q (w .cdb) (k .lends) ∙ write-verdict s q a n w k) (judgement s q (k .lends) .fits)
 
   write-ready : Ready (s .disc)
   write-ready = allowed-ready (s .disc) (k .range) (k .allowed)
@@ -179,7 +179,7 @@ module _
 
     -- and the drive afterwards is the same, byte for byte
     pub cut-after :
-        q .sectors ≡ one .sectors ++ two .sectors → step s q .answer ≡ Accepted → step (step s one .after) two .after ≡ step s q .after
+        q .payload ≡ one .payload ++ two .payload → step s q .answer ≡ Accepted → step (step s one .after) two .after ≡ step s q .after
     cut-after joined e =
         let d = s .disc in
         let k = accepted-served s q e in
@@ -192,7 +192,7 @@ module _
         let between = write-after s one a n w₁ k in
         let fits = write-fits s q a (n + m) w k in
         let flush : FlushFits (length (s .medium)) (p .flush) = rw (ap (λ (x : Plan). x .flush) (p .whole)) at (fits .flush) in
-        let gather : TransferFits (length (s .medium)) (length (q .sectors)) (Gather (p .from) (p .held) (n + m)) =
+        let gather : TransferFits (length (s .medium)) (length (q .payload)) (Gather (p .from) (p .held) (n + m)) =
         rw (ap (λ (x : Plan). x .transfer) (p .whole)) at (fits .transfer) in
         let lp = length-flushed-pending (p .flush) (s .pending) (lent-pending d (length (s .medium)) (length (s .pending)) (k .lends)) in
         let lm = length-flushed-medium (p .flush) (s .medium) (s .pending) (lent-pending d (length (s .medium)) (length (s .pending)) (k .lends)) flush in
@@ -201,24 +201,24 @@ module _
         ∙ (ap (λ (x : Disc). write x (lba (a .0 + n)) m .disc) between ∙ (c .2 ∙ sym (write-after s q a (n + m) w k))) in
         let second : write (s₁ .disc) (lba (a .0 + n)) m .plan ≡ plan Skip (Gather (block (p .from .0 + (p .held + n) / 16)) ((p .held + n) % 16) m) =
         ap (λ (x : Disc). write x (lba (a .0 + n)) m .plan) between ∙ p .second in
-        let pending₁ : s₁ .pending ≡ movedPending (plan (p .flush) (Gather (p .from) (p .held) n)) (s .pending) (one .sectors) =
-        write-pending s one a n w₁ k ∙ ap (λ (x : Plan). movedPending x (s .pending) (one .sectors)) (p .first) in
-        let medium₁ : s₁ .medium ≡ movedMedium (plan (p .flush) (Gather (p .from) (p .held) n)) (s .medium) (s .pending) (one .sectors) =
-        write-medium s one a n w₁ k ∙ ap (λ (x : Plan). movedMedium x (s .medium) (s .pending) (one .sectors)) (p .first) in
-        let all = one .sectors ++ two .sectors in
+        let pending₁ : s₁ .pending ≡ movedPending (plan (p .flush) (Gather (p .from) (p .held) n)) (s .pending) (one .payload) =
+        write-pending s one a n w₁ k ∙ ap (λ (x : Plan). movedPending x (s .pending) (one .payload)) (p .first) in
+        let medium₁ : s₁ .medium ≡ movedMedium (plan (p .flush) (Gather (p .from) (p .held) n)) (s .medium) (s .pending) (one .payload) =
+        write-medium s one a n w₁ k ∙ ap (λ (x : Plan). movedMedium x (s .medium) (s .pending) (one .payload)) (p .first) in
+        let all = one .payload ++ two .payload in
         let whole = plan (p .flush) (Gather (p .from) (p .held) (n + m)) in
-        let medium-parts : movedMedium (write (s₁ .disc) (lba (a .0 + n)) m .plan) (s₁ .medium) (s₁ .pending) (two .sectors) ≡ movedMedium whole (s .medium) (s .pending) all =
+        let medium-parts : movedMedium (write (s₁ .disc) (lba (a .0 + n)) m .plan) (s₁ .medium) (s₁ .pending) (two .payload) ≡ movedMedium whole (s .medium) (s .pending) all =
         rw (second, medium₁, pending₁)
-        (cut-moved-medium (p .flush) (p .from) (p .held) n m (s .medium) (s .pending) (one .sectors) (two .sectors) (omega (arith, lp, gather .0)) (w₁ .sectors) (w₂ .sectors) (omega (arith, lm, gather .3))) in
-        let pending-parts : movedPending (write (s₁ .disc) (lba (a .0 + n)) m .plan) (s₁ .pending) (two .sectors) ≡ movedPending whole (s .pending) all =
+        (cut-moved-medium (p .flush) (p .from) (p .held) n m (s .medium) (s .pending) (one .payload) (two .payload) (omega (arith, lp, gather .0)) (w₁ .payload) (w₂ .payload) (omega (arith, lm, gather .3))) in
+        let pending-parts : movedPending (write (s₁ .disc) (lba (a .0 + n)) m .plan) (s₁ .pending) (two .payload) ≡ movedPending whole (s .pending) all =
         rw (second, pending₁)
-        (cut-moved-pending (p .flush) (p .from) (p .held) n m (s .medium) (s .pending) (one .sectors) (two .sectors) (omega (arith, lp, gather .0)) (w₁ .sectors) (w₂ .sectors)) in
+        (cut-moved-pending (p .flush) (p .from) (p .held) n m (s .medium) (s .pending) (one .payload) (two .payload) (omega (arith, lp, gather .0)) (w₁ .payload) (w₂ .payload)) in
         let medium-whole : step s q .after .medium ≡ movedMedium whole (s .medium) (s .pending) all =
         write-medium s q a (n + m) w k
-        ∙ (ap (λ (x : Plan). movedMedium x (s .medium) (s .pending) (q .sectors)) (p .whole) ∙ ap (movedMedium whole (s .medium) (s .pending)) joined) in
+        ∙ (ap (λ (x : Plan). movedMedium x (s .medium) (s .pending) (q .payload)) (p .whole) ∙ ap (movedMedium whole (s .medium) (s .pending)) joined) in
         let pending-whole : step s q .after .pending ≡ movedPending whole (s .pending) all =
         write-pending s q a (n + m) w k
-        ∙ (ap (λ (x : Plan). movedPending x (s .pending) (q .sectors)) (p .whole) ∙ ap (movedPending whole (s .pending)) joined) in
+        ∙ (ap (λ (x : Plan). movedPending x (s .pending) (q .payload)) (p .whole) ∙ ap (movedPending whole (s .pending)) joined) in
         let medium : step s₁ two .after .medium ≡ step s q .after .medium =
         write-medium s₁ two (lba (a .0 + n)) m w₂ k₁ ∙ (medium-parts ∙ sym medium-whole) in
         let pending : step s₁ two .after .pending ≡ step s q .after .pending =

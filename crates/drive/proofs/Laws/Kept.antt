@@ -126,7 +126,7 @@ module _ (R : ℕ → Type 0) (m n p q : List ℕ) (hp : length p ≡ 32768) (hq
       (f : Flush) → FlushFits (length m) f → ((b : Block) (k : ℕ) → f ≡ Record b k → take (2048 * k) p ≡ take (2048 * k) q)
       → Agree (λ i. (R i) ⊎ (flushes f (i / 32768) ≡ true)) (flushedMedium f m p) (flushedMedium f n q)
   unfolding flushedMedium flushes
-  flushed-agree Skip w sectors = λ i r. ⊎-elim (λ u. same i u) (λ u. absurd (contradiction u refl)) r
+  flushed-agree Skip w payload = λ i r. ⊎-elim (λ u. same i u) (λ u. absurd (contradiction u refl)) r
   flushed-agree (Record b k) w sectors =
       let x = padded (take (2048 * k) p) in
       let y : padded (take (2048 * k) q) ≡ x = ap padded (sym (sectors b k refl)) in
@@ -140,8 +140,8 @@ module _ (R : ℕ → Type 0) (m n p q : List ℕ) (hp : length p ≡ 32768) (hq
       → ((b : Block) (held k : ℕ) → t ≡ Gather b held k → take (2048 * held) p ≡ take (2048 * held) q)
       → Agree (λ i. (R i) ⊎ (transfers t (i / 32768) ≡ true)) (transferredMedium t m p x) (transferredMedium t n q x)
   unfolding transferredMedium transfers gatheredMedium
-  transferred-agree Nothing x w sectors = λ i r. ⊎-elim (λ u. same i u) (λ u. absurd (contradiction u refl)) r
-  transferred-agree (Send a k) x w sectors = λ i r. ⊎-elim (λ u. same i u) (λ u. absurd (contradiction u refl)) r
+  transferred-agree Nothing x w payload = λ i r. ⊎-elim (λ u. same i u) (λ u. absurd (contradiction u refl)) r
+  transferred-agree (Send a k) x w payload = λ i r. ⊎-elim (λ u. same i u) (λ u. absurd (contradiction u refl)) r
   transferred-agree (Gather b held k) x w sectors =
       let c = (held + k) / 16 in
       let y = take (32768 * c) (stream held p x) in

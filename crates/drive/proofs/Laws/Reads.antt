@@ -25,9 +25,9 @@ use Rattle.drive.proofs.Laws.Cut.{Served}
 -- a READ with its lengths is decided by the drive
 read-verdict : (s : Drive) (q : Request) (a : Lba) (n : ℕ) → ReadOf q a n → Served s → verdictOn s q ≡ read (s .disc) a n
 read-verdict s q a n w k =
-    sym (verdict-judge s q (w .block) (k .lends))
-    ∙ (ap (λ (l : ℕ). judge (s .disc) (q .block) l (length (q .buffer))) (w .sectors)
-    ∙ judge-reads (s .disc) (q .block) (length (q .buffer)) a n (w .block) (w .command) (k .range) (k .allowed) (w .room))
+    sym (verdict-judge s q (w .cdb) (k .lends))
+    ∙ (ap (λ (l : ℕ). judge (s .disc) (q .cdb) l (length (q .buffer))) (w .payload)
+    ∙ judge-reads (s .disc) (q .cdb) (length (q .buffer)) a n (w .cdb) (w .command) (k .range) (k .allowed) (w .room))
 
 -- a READ of 1 up within the disc is accepted exactly when every sector that it touches is recorded
 module _ (s : Drive) (q : Request) (a : Lba) (n : ℕ) (w : ReadOf q a n) (k : Served s) (z : n ≡ 0 → ⊥) (within : a .0 + n ≤ sectorsIn (s .disc .capacity)) where
@@ -57,7 +57,7 @@ read-bytes d m a n e =
     (λ z. sends-stretch (read d a n .plan .transfer) (read d a n .reply) m a n (read-sends d a n e z))
 
 pub read-reply :
-    (s : Drive) (q : Request) (a : Lba) (n : ℕ) → decode (q .block) ≡ Read a n → step s q .answer ≡ Accepted
+    (s : Drive) (q : Request) (a : Lba) (n : ℕ) → decode (q .cdb) ≡ Read a n → step s q .answer ≡ Accepted
     → step s q .reply ≡ stretch a n (s .medium)
 unfolding step carriedOut
 read-reply s q a n c e =

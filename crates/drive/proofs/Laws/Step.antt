@@ -23,45 +23,45 @@ use Rattle.drive.proofs.Laws.Bytes.{splice-nil}
 
 -- the lower layer's laws of a decision hold of the verdict: it is a link refusal or what the disc decides
 pub verdict-decided :
-    (s : Drive) (q : Request) → Decided (s .disc) (decode (q .block)) (length (q .sectors)) (length (q .buffer)) (verdictOn s q)
+    (s : Drive) (q : Request) → Decided (s .disc) (decode (q .cdb)) (length (q .payload)) (length (q .buffer)) (verdictOn s q)
 unfolding verdictOn
 verdict-decided s q =
-    let c = decode (q .block) in
-    let n = length (q .sectors) in
+    let c = decode (q .cdb) in
+    let n = length (q .payload) in
     let m = length (q .buffer) in
-    cond-cases (Decided (s .disc) c n m) (not (eqb (length (q .block)) 12)) _ _ (λ e. onLink CommandBlockLength)
+    cond-cases (Decided (s .disc) c n m) (not (eqb (length (q .cdb)) 12)) _ _ (λ e. onLink CommandBlockLength)
     (λ e.
     cond-cases (Decided (s .disc) c n m) (not (lent (s .disc) (length (s .medium)) (length (s .pending)))) _ _ (λ l. onLink MediumSize)
-    (λ l. judge-decided (s .disc) (q .block) n m))
+    (λ l. judge-decided (s .disc) (q .cdb) n m))
 
 -- the link's tests, in order
 module _ (s : Drive) (q : Request) where
-  pub verdict-block : (length (q .block) ≡ 12 → ⊥) → refuseLink (s .disc) CommandBlockLength ≡ verdictOn s q
+  pub verdict-block : (length (q .cdb) ≡ 12 → ⊥) → refuseLink (s .disc) CommandBlockLength ≡ verdictOn s q
   unfolding verdictOn
-  verdict-block h = rw (ne-eqb (length (q .block)) 12 h)
+  verdict-block h = rw (ne-eqb (length (q .cdb)) 12 h)
 
-  module _ (block : length (q .block) ≡ 12) where
+  module _ (block : length (q .cdb) ≡ 12) where
     pub verdict-lent :
         lent (s .disc) (length (s .medium)) (length (s .pending)) ≡ false → refuseLink (s .disc) MediumSize ≡ verdictOn s q
     unfolding verdictOn
-    verdict-lent h = rw (eq-eqb (length (q .block)) 12 block, h)
+    verdict-lent h = rw (eq-eqb (length (q .cdb)) 12 block, h)
 
     pub verdict-judge :
         lent (s .disc) (length (s .medium)) (length (s .pending)) ≡ true
-        → judge (s .disc) (q .block) (length (q .sectors)) (length (q .buffer)) ≡ verdictOn s q
+        → judge (s .disc) (q .cdb) (length (q .payload)) (length (q .buffer)) ≡ verdictOn s q
     unfolding verdictOn
-    verdict-judge h = rw (eq-eqb (length (q .block)) 12 block, h)
+    verdict-judge h = rw (eq-eqb (length (q .cdb)) 12 block, h)
 
 -- with right buffers the disc decides alone, L1 included
 pub verdict-judges :
     (s : Drive) (q : Request) → lent (s .disc) (length (s .medium)) (length (s .pending)) ≡ true
-    → verdictOn s q ≡ judge (s .disc) (q .block) (length (q .sectors)) (length (q .buffer))
+    → verdictOn s q ≡ judge (s .disc) (q .cdb) (length (q .payload)) (length (q .buffer))
 verdict-judges s q l =
-    by-cases (eqb (length (q .block)) 12)
-    (λ b. sym (verdict-judge s q (eqb-true (length (q .block)) 12 b) l))
+    by-cases (eqb (length (q .cdb)) 12)
+    (λ b. sym (verdict-judge s q (eqb-true (length (q .cdb)) 12 b) l))
     (λ b.
-    let h = eqb-false (length (q .block)) 12 b in
-    sym (verdict-block s q h) ∙ sym (judge-block (s .disc) (q .block) (length (q .sectors)) (length (q .buffer)) h))
+    let h = eqb-false (length (q .cdb)) 12 b in
+    sym (verdict-block s q h) ∙ sym (judge-block (s .disc) (q .cdb) (length (q .payload)) (length (q .buffer)) h))
 
 -- what is lent
 pub lent-medium : (d : Disc) (m p : ℕ) → lent d m p ≡ true → m ≡ 32768 * d .capacity
@@ -82,43 +82,43 @@ sent-room (Fill b k) r medium n m f g h = simp length-take (omega arith)
 
 -- what the disc has decided, with all that is known of it
 pub record Judgement (s : Drive) (q : Request) (v : Verdict) : Type 0 where
-  pub fits : Fits (length (s .medium)) (length (q .sectors)) (length (q .buffer)) v
-  pub block : length (s .pending) ≡ 32768
-  pub decided : Decided (s .disc) (decode (q .block)) (length (q .sectors)) (length (q .buffer)) v
+  pub fits : Fits (length (s .medium)) (length (q .payload)) (length (q .buffer)) v
+  pub cdb : length (s .pending) ≡ 32768
+  pub decided : Decided (s .disc) (decode (q .cdb)) (length (q .payload)) (length (q .buffer)) v
 
 pub judgement :
     (s : Drive) (q : Request) → lent (s .disc) (length (s .medium)) (length (s .pending)) ≡ true
-    → Judgement s q (judge (s .disc) (q .block) (length (q .sectors)) (length (q .buffer)))
+    → Judgement s q (judge (s .disc) (q .cdb) (length (q .payload)) (length (q .buffer)))
 judgement s q l =
-    let n = length (q .sectors) in
+    let n = length (q .payload) in
     let m = length (q .buffer) in
     let d = s .disc in
     record {
-      fits = judge-fits d (q .block) (length (s .medium)) n m (lent-medium d (length (s .medium)) (length (s .pending)) l);
-      block = lent-pending d (length (s .medium)) (length (s .pending)) l;
-      decided = judge-decided d (q .block) n m;
+      fits = judge-fits d (q .cdb) (length (s .medium)) n m (lent-medium d (length (s .medium)) (length (s .pending)) l);
+      cdb = lent-pending d (length (s .medium)) (length (s .pending)) l;
+      decided = judge-decided d (q .cdb) n m;
     }
 
 -- what the code that carries a decision out asks is there
 pub judge-feasible :
-    (s : Drive) (q : Request) → length (q .block) ≡ 12 → lent (s .disc) (length (s .medium)) (length (s .pending)) ≡ true
-    → Feasible (judge (s .disc) (q .block) (length (q .sectors)) (length (q .buffer))) s q
+    (s : Drive) (q : Request) → length (q .cdb) ≡ 12 → lent (s .disc) (length (s .medium)) (length (s .pending)) ≡ true
+    → Feasible (judge (s .disc) (q .cdb) (length (q .payload)) (length (q .buffer))) s q
 judge-feasible s q block h =
-    let n = length (q .sectors) in
+    let n = length (q .payload) in
     let m = length (q .buffer) in
     let whole = lent-medium (s .disc) (length (s .medium)) (length (s .pending)) h in
-    let v = judge (s .disc) (q .block) n m in
+    let v = judge (s .disc) (q .cdb) n m in
     let j = judgement s q h in
     let f = j .fits in
     record {
       sends =
           record {
-            run = λ a k e. judge-run (s .disc) (q .block) (s .medium) n m a k block whole e;
+            run = λ a k e. judge-run (s .disc) (q .cdb) (s .medium) n m a k block whole e;
             room = sent-room (v .plan .transfer) (v .reply) (s .medium) n m (f .transfer) (f .run) (f .report);
             report = f .report;
             whole = f .whole;
           };
-      block = j .block;
+      cdb = j .cdb;
       flush = f .flush;
       transfer = f .transfer;
     }
@@ -129,7 +129,7 @@ pub verdict-answered :
     → CarriedOut v s q r medium pending buffer → Answered s q r medium pending buffer
 unfolding step carriedOut
 verdict-answered s q v r medium pending buffer same out =
-    let w : Decided (s .disc) (decode (q .block)) (length (q .sectors)) (length (q .buffer)) v = rw same (verdict-decided s q) in
+    let w : Decided (s .disc) (decode (q .cdb)) (length (q .payload)) (length (q .buffer)) v = rw same (verdict-decided s q) in
     let e = out .responds in
     let count : r .recorded ≡ v .recorded = ap (λ x. x .recorded) e in
     let disc : r .disc ≡ v .disc = ap (λ x. x .disc) e in

@@ -56,23 +56,23 @@ module _ (l : Lent) (q : Request) where
         filledBuffer = sym (ap (λ o. o .buffer) e);
       }
 
-  pub block-faced : (n : ℕ) → (length (q .block) ≡ 12 → ⊥) → n ≡ number (Link CommandBlockLength) → Faced l q n 0 0 (l .state) (l .medium) (l .pending) (q .buffer)
+  pub block-faced : (n : ℕ) → (length (q .cdb) ≡ 12 → ⊥) → n ≡ number (Link CommandBlockLength) → Faced l q n 0 0 (l .state) (l .medium) (l .pending) (q .buffer)
   unfolding face
-  block-faced n h told = refused-faced CommandBlockLength n (rw (ne-eqb (length (q .block)) 12 h)) told
+  block-faced n h told = refused-faced CommandBlockLength n (rw (ne-eqb (length (q .cdb)) 12 h)) told
 
-  module _ (block : length (q .block) ≡ 12) where
+  module _ (block : length (q .cdb) ≡ 12) where
     pub lent-faced :
         (n : ℕ) → lentFits (l .state) (length (l .medium)) (length (l .pending)) ≡ false → n ≡ number (Link MediumSize)
         → Faced l q n 0 0 (l .state) (l .medium) (l .pending) (q .buffer)
     unfolding face
-    lent-faced n h told = refused-faced MediumSize n (rw (eq-eqb (length (q .block)) 12 block, h)) told
+    lent-faced n h told = refused-faced MediumSize n (rw (eq-eqb (length (q .cdb)) 12 block, h)) told
 
     module _ (lent : lentFits (l .state) (length (l .medium)) (length (l .pending)) ≡ true) where
       pub state-faced :
           (n : ℕ) → isState (l .state) ≡ false → n ≡ number (Link UnsoundState)
           → Faced l q n 0 0 (l .state) (l .medium) (l .pending) (q .buffer)
       unfolding face
-      state-faced n h told = refused-faced UnsoundState n (rw (eq-eqb (length (q .block)) 12 block, lent, h)) told
+      state-faced n h told = refused-faced UnsoundState n (rw (eq-eqb (length (q .cdb)) 12 block, lent, h)) told
 
       -- what the entry answers, and the image written unless that is a link refusal
       pub step-faced :
@@ -82,7 +82,7 @@ module _ (l : Lent) (q : Request) where
           → Faced l q n count recorded state medium pending buffer
       unfolding face steppedFace
       step-faced r n count recorded state medium pending buffer h a told c k w =
-          let t = eq-eqb (length (q .block)) 12 block in
+          let t = eq-eqb (length (q .cdb)) 12 block in
           let same = told ∙ a .numbered in
           record {
             numbered = rw (t, lent, h) same;

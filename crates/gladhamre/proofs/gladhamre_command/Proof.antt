@@ -27,7 +27,7 @@ returns : tie.Need-returns
 returns c =
     let start = c .before .before .before .before .before .before .before .before in
     let l = lending (start .args .state .now) (start .args .medium .now) (start .args .pending .now) in
-    let q = request (start .args .block .now) (start .args .«data» .now) (start .args .reply .now) in
+    let q = request (start .args .cdb .now) (start .args .«data» .now) (start .args .reply .now) in
     block-faced l q (c .refusal-number .result) (c .before .if1 .taken) (c .refusal-number .ensures)
 
 -- src/lib.rt:83:9
@@ -47,7 +47,7 @@ returns-2 : tie.Need-returns-2
 returns-2 c =
     let start = c .before .before .before .before .before .before .before .before .before .before .before in
     let l = lending (start .args .state .now) (start .args .medium .now) (start .args .pending .now) in
-    let q = request (start .args .block .now) (start .args .«data» .now) (start .args .reply .now) in
+    let q = request (start .args .cdb .now) (start .args .«data» .now) (start .args .reply .now) in
     lent-faced l q (c .before .before .before .before .if1 .left) (c .refusal-number2 .result) (sym (c .before .before .is-lent .ensures) ∙ not-true _ (c .before .if2 .taken)) (c .refusal-number2 .ensures)
 
 -- src/lib.rt:86:9
@@ -67,7 +67,7 @@ returns-3 : tie.Need-returns-3
 returns-3 c =
     let start = c .before .before .before .before .before .before .before .before .before .before .before .before .before .before in
     let l = lending (start .args .state .now) (start .args .medium .now) (start .args .pending .now) in
-    let q = request (start .args .block .now) (start .args .«data» .now) (start .args .reply .now) in
+    let q = request (start .args .cdb .now) (start .args .«data» .now) (start .args .reply .now) in
     state-faced l q (c .before .before .before .before .before .before .before .if1 .left) (sym (c .before .before .before .before .before .is-lent .ensures) ∙ not-false _ (c .before .before .before .before .if2 .left)) (c .refusal-number3 .result) (sym (c .before .before .is-state .ensures) ∙ not-true _ (c .before .if3 .taken)) (c .refusal-number3 .ensures)
 
 -- src/lib.rt:89:9
@@ -111,7 +111,7 @@ returns-4 : tie.Need-returns-4
 returns-4 c =
     let start = c .before .before .before .before .before .before .before .before .before .before .before .before .before .before .before .before .before .before .before .before .before .before .before .before .before .before .before .before .before in
     let l = lending (start .args .state .now) (start .args .medium .now) (start .args .pending .now) in
-    let q = request (start .args .block .now) (start .args .«data» .now) (start .args .reply .now) in
+    let q = request (start .args .cdb .now) (start .args .«data» .now) (start .args .reply .now) in
     let link = sym (c .before .is-link .ensures) ∙ c .if4 .taken in
     step-faced l q (c .before .before .before .before .before .before .before .before .before .before .before .before .before .before .before .before .before .before .before .before .before .before .if1 .left) (sym (c .before .before .before .before .before .before .before .before .before .before .before .before .before .before .before .before .before .before .before .before .is-lent .ensures) ∙ not-false _ (c .before .before .before .before .before .before .before .before .before .before .before .before .before .before .before .before .before .before .before .if2 .left)) (c .before .before .before .before .before .before .before .before .before .before .command .result) (c .before .before .number .result) (c .before .before .before .before .before .before .before .before .before .before .command .result .length) (c .before .before .before .before .before .before .before .before .before .before .command .result .recorded) (l .state) (c .before .before .before .before .before .before .before .before .before .before .command .last .1 .1 .1 .0) (c .before .before .before .before .before .before .before .before .before .before .command .last .1 .1 .1 .1 .0) (c .before .before .before .before .before .before .before .before .before .before .command .last .1 .1 .1 .1 .1 .0)
     (sym (c .before .before .before .before .before .before .before .before .before .before .before .before .before .before .before .before .before .is-state .ensures) ∙ not-false _ (c .before .before .before .before .before .before .before .before .before .before .before .before .before .before .before .before .if3 .left)) (rw (c .before .before .before .before .before .before .before .before .before .before .before .before .before .before .read .ensures) at (c .before .before .before .before .before .before .before .before .before .before .command .ensures)) (c .before .before .number .ensures) refl refl (rw link)
@@ -141,7 +141,7 @@ returns-5 : tie.Need-returns-5
 returns-5 c =
     let start = c .before .before .before .before .before .before .before .before .before .before .before .before .before .before .before .before .before .before .before .before .before .before .before .before .before .before .before .before .before .before .before .before .before in
     let l = lending (start .args .state .now) (start .args .medium .now) (start .args .pending .now) in
-    let q = request (start .args .block .now) (start .args .«data» .now) (start .args .reply .now) in
+    let q = request (start .args .cdb .now) (start .args .«data» .now) (start .args .reply .now) in
     let link = sym (c .before .before .before .before .before .is-link .ensures) ∙ c .before .before .before .before .if4 .left in
     step-faced l q (c .before .before .before .before .before .before .before .before .before .before .before .before .before .before .before .before .before .before .before .before .before .before .before .before .before .before .if1 .left) (sym (c .before .before .before .before .before .before .before .before .before .before .before .before .before .before .before .before .before .before .before .before .before .before .before .before .is-lent .ensures) ∙ not-false _ (c .before .before .before .before .before .before .before .before .before .before .before .before .before .before .before .before .before .before .before .before .before .before .before .if2 .left)) (c .before .before .before .before .before .before .before .before .before .before .before .before .before .before .command .result) (c .before .before .before .before .before .before .number .result) (c .before .before .before .before .before .before .before .before .before .before .before .before .before .before .command .result .length) (c .before .before .before .before .before .before .before .before .before .before .before .before .before .before .command .result .recorded) (c .before .before .write .last .0) (c .before .before .before .before .before .before .before .before .before .before .before .before .before .before .command .last .1 .1 .1 .0) (c .before .before .before .before .before .before .before .before .before .before .before .before .before .before .command .last .1 .1 .1 .1 .0) (c .before .before .before .before .before .before .before .before .before .before .before .before .before .before .command .last .1 .1 .1 .1 .1 .0)
     (sym (c .before .before .before .before .before .before .before .before .before .before .before .before .before .before .before .before .before .before .before .before .before .is-state .ensures) ∙ not-false _ (c .before .before .before .before .before .before .before .before .before .before .before .before .before .before .before .before .before .before .before .before .if3 .left)) (rw (c .before .before .before .before .before .before .before .before .before .before .before .before .before .before .before .before .before .before .read .ensures) at (c .before .before .before .before .before .before .before .before .before .before .before .before .before .before .command .ensures)) (c .before .before .before .before .before .before .number .ensures) refl refl (c .before .before .write .ensures ∙ rw link)

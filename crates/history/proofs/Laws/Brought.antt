@@ -25,11 +25,11 @@ brought-append a [] vs = refl
 brought-append a (w ∷ ws) vs =
     let i = brought-append a ws vs in
     by-cases (among (w .address) (w .count) a)
-    (λ t. rw t (ap (λ (l : List (List ℕ)). sectorAt (a - w .address) (w .sectors) ∷ l) i))
+    (λ t. rw t (ap (λ (l : List (List ℕ)). sectorAt (a - w .address) (w .payload) ∷ l) i))
     (λ t. rw t i)
 
 -- a WRITE alone: an address that it has, and one that it has not
-pub brought-one : (a : ℕ) (w : Written) → among (w .address) (w .count) a ≡ true → broughtTo a (w ∷ []) ≡ sectorAt (a - w .address) (w .sectors) ∷ []
+pub brought-one : (a : ℕ) (w : Written) → among (w .address) (w .count) a ≡ true → broughtTo a (w ∷ []) ≡ sectorAt (a - w .address) (w .payload) ∷ []
 unfolding broughtTo
 brought-one a w t = cond-yes (among (w .address) (w .count) a) _ _ t
 

@@ -122,31 +122,31 @@ cut-in-two a n m p x y some more sum h k =
     none-more : (m : ℕ) → m + 0 ≡ m
     none-more m = omega arith
 
-same-again : (q u : Request) → q .block ≡ u .block → q .sectors ≡ u .sectors → length (q .buffer) ≡ length (u .buffer) → SameCommand q u
-same-again q u b x r = record { block = b; sectors = x; room = r }
+same-again : (q u : Request) → q .cdb ≡ u .cdb → q .payload ≡ u .payload → length (q .buffer) ≡ length (u .buffer) → SameCommand q u
+same-again q u b x r = record { cdb = b; payload = x; room = r }
 
 -- the shapes of the newer controller's commands
 abbrev newerShapes : List Shape
 newerShapes =
-    shape (writeBlock 0 5) 10240 0 ∷ shape (asking 0 .block) 0 36 ∷ shape (writeBlock 5 13) 26624 0 ∷ shape (reading 0 0 .block) 0 32768
-    ∷ shape (flushing .block) 0 0 ∷ []
+    shape (writeBlock 0 5) 10240 0 ∷ shape (asking 0 .cdb) 0 36 ∷ shape (writeBlock 5 13) 26624 0 ∷ shape (reading 0 0 .cdb) 0 32768
+    ∷ shape (flushing .cdb) 0 0 ∷ []
 
 abbrev earlyShapes : List Shape
-earlyShapes = shape (writeBlock 0 5) 10240 0 ∷ shape (asking 0 .block) 0 36 ∷ shape (writeBlock 5 13) 26624 0 ∷ []
+earlyShapes = shape (writeBlock 0 5) 10240 0 ∷ shape (asking 0 .cdb) 0 36 ∷ shape (writeBlock 5 13) 26624 0 ∷ []
 
 newer-shapes : (s : Drive) (l : Log) (x : ℕ) (j : ℕ → Change) → shapes (given (newer l x j) s) ≡ newerShapes
 unfolding given
 newer-shapes s l x j =
     λ i.
-    shape (writeBlock 0 5) (five-length l i) 0 ∷ shape (asking 0 .block) 0 (length-replicate {A = ℕ} 36 x i)
-    ∷ shape (writeBlock 5 13) (thirteen-length l i) 0 ∷ shape (reading 0 0 .block) 0 (length-replicate {A = ℕ} 32768 x i)
-    ∷ shape (flushing .block) 0 0 ∷ []
+    shape (writeBlock 0 5) (five-length l i) 0 ∷ shape (asking 0 .cdb) 0 (length-replicate {A = ℕ} 36 x i)
+    ∷ shape (writeBlock 5 13) (thirteen-length l i) 0 ∷ shape (reading 0 0 .cdb) 0 (length-replicate {A = ℕ} 32768 x i)
+    ∷ shape (flushing .cdb) 0 0 ∷ []
 
 early-shapes : (s : Drive) (l : Log) (x : ℕ) (j : ℕ → Change) → shapes (given (early l x j) s) ≡ earlyShapes
 unfolding given
 early-shapes s l x j =
     λ i.
-    shape (writeBlock 0 5) (five-length l i) 0 ∷ shape (asking 0 .block) 0 (length-replicate {A = ℕ} 36 x i)
+    shape (writeBlock 0 5) (five-length l i) 0 ∷ shape (asking 0 .cdb) 0 (length-replicate {A = ℕ} 36 x i)
     ∷ shape (writeBlock 5 13) (thirteen-length l i) 0 ∷ []
 
 -- what the list decides, computed
@@ -340,7 +340,7 @@ joined-length : (x y : List ℕ) (n m : ℕ) → length x ≡ n → length y ≡
 joined-length x y n m h k = length-append x (y ++ []) ∙ omega (arith, length-append y [], h, k)
 
 abbrev wholeShapes : ℕ → ℕ → List Shape
-wholeShapes p n = shape (reserving .block) 0 0 ∷ shape (writeBlock 0 p) n 0 ∷ []
+wholeShapes p n = shape (reserving .cdb) 0 0 ∷ shape (writeBlock 0 p) n 0 ∷ []
 
 decided-partly : decisions (wholeShapes 49 100352) (blank 256) ≡ Accepted ∷ byDrive EndOfUserArea ∷ []
 unfolding decisions decode listed some every find sumRecorded usedFirst firstAtZero followsFrom inOrder endsWithin recordedWithin zeroedWithin incompleteLast tailLast tailOrFull pendingNamed finalizedComplete sound allowedState isRefusalSense allowedSense blank dataLength replyRoom lengthsFit accepted accept refuse flush flushPlan synchronizeCache allReadable read flushOthers flushOthersPlan gather writeTo writeFound write nextWritableOrZero freeSectors trackBytes trackVerdict trackFound trackNumbered readTrackInformation perform judgeCommand judge splitTail reserve
@@ -355,7 +355,7 @@ whole-then x p j = after (j 0) reserving ∷ after (j 1) (writing 0 p x) ∷ []
 
 whole-shapes : (s : Drive) (x : List ℕ) (p b : ℕ) (j : ℕ → Change) → length x ≡ b → shapes (given (whole-then x p j) s) ≡ wholeShapes p b
 unfolding given
-whole-shapes s x p b j size = λ i. shape (reserving .block) 0 0 ∷ shape (writeBlock 0 p) (size i) 0 ∷ []
+whole-shapes s x p b j size = λ i. shape (reserving .cdb) 0 0 ∷ shape (writeBlock 0 p) (size i) 0 ∷ []
 
 whole-answers :
     (s : Drive) → Start 256 s → (x : List ℕ) (p b : ℕ) (j : ℕ → Change) → length x ≡ b
@@ -408,7 +408,7 @@ fits demand f x y z a b c j =
 
 -- what the history says of the newer controller's log, computed: where an address lies, and what stands there
 abbrev lateShapes : ℕ → List Shape
-lateShapes a = newerShapes ++ (shape (reading a 0 .block) 0 32768 ∷ [])
+lateShapes a = newerShapes ++ (shape (reading a 0 .cdb) 0 32768 ∷ [])
 
 abbrev late : ℕ → Log → ℕ → (ℕ → Change) → List Given
 late a l x j = newer l x j ++ (after (j 5) (reading a x) ∷ [])
@@ -421,9 +421,9 @@ late-shapes : (s : Drive) (a : ℕ) (l : Log) (x : ℕ) (j : ℕ → Change) →
 unfolding given
 late-shapes s a l x j =
     λ i.
-    shape (writeBlock 0 5) (five-length l i) 0 ∷ shape (asking 0 .block) 0 (length-replicate {A = ℕ} 36 x i)
-    ∷ shape (writeBlock 5 13) (thirteen-length l i) 0 ∷ shape (reading 0 0 .block) 0 (length-replicate {A = ℕ} 32768 x i)
-    ∷ shape (flushing .block) 0 0 ∷ shape (reading a 0 .block) 0 (length-replicate {A = ℕ} 32768 x i) ∷ []
+    shape (writeBlock 0 5) (five-length l i) 0 ∷ shape (asking 0 .cdb) 0 (length-replicate {A = ℕ} 36 x i)
+    ∷ shape (writeBlock 5 13) (thirteen-length l i) 0 ∷ shape (reading 0 0 .cdb) 0 (length-replicate {A = ℕ} 32768 x i)
+    ∷ shape (flushing .cdb) 0 0 ∷ shape (reading a 0 .cdb) 0 (length-replicate {A = ℕ} 32768 x i) ∷ []
 
 late-answers :
     (f : Flash) (a : ℕ) (l : Log) (x : ℕ) (j : ℕ → Change) → decisions (lateShapes a) (blank 256) ≡ replicate 6 Accepted
@@ -547,7 +547,7 @@ module _ (kept : KeptAccount) (f : Flash) (l : Log) (x : ℕ) (j : ℕ → Chang
   unfolding decode
   one-read =
       let size = length-replicate {A = ℕ} 2048 x in
-      record { block = refl; command = refl; sectors = refl; room = omega (arith, size) }
+      record { cdb = refl; command = refl; payload = refl; room = omega (arith, size) }
 
   log-kept : Keeps (account 1 logTurns disc₀) (discAfter newerShapes (blank 256)) 1
   log-kept =

@@ -30,7 +30,7 @@ lent-found t s a l = rw (sym (a .mediumLength), sym (a .pendingLength)) l
 unfoldable pub decisions : List Shape → Disc → List Answer
 decisions [] d = []
 decisions (h ∷ hs) d =
-    let v = judge d (h .block) (h .sectors) (h .room) in
+    let v = judge d (h .cdb) (h .payload) (h .room) in
     v .answer ∷ decisions hs (v .disc)
 
 -- the account of a fragment by the turns' requests and their shapes
@@ -38,7 +38,7 @@ unfoldable pub accountBy : ℕ → List Turn → List Shape → Disc → Account
 accountBy n [] hs d k = k
 accountBy n (t ∷ ts) [] d k = k
 accountBy n (t ∷ ts) (h ∷ hs) d k =
-    let v = judge d (h .block) (h .sectors) (h .room) in
+    let v = judge d (h .cdb) (h .payload) (h .room) in
     accountBy n ts hs (v .disc) (noted n (extentOf d n) (t .request) (v .answer) k)
 
 abbrev pub shapes : List Turn → List Shape
@@ -64,7 +64,7 @@ decided-answers (t ∷ ts) s l h =
     let m = lent-found t s (h .0) l in
     let j = step-judges (found t s) (t .request) m in
     ap (λ (a : Answer). a ∷ answers ts (result t s .after)) (j .0)
-    ∙ ap (λ (rest : List Answer). judge (s .disc) (t .request .block) (length (t .request .sectors)) (length (t .request .buffer)) .answer ∷ rest)
+    ∙ ap (λ (rest : List Answer). judge (s .disc) (t .request .cdb) (length (t .request .payload)) (length (t .request .buffer)) .answer ∷ rest)
     (decided-answers ts (result t s .after) (lent-after (found t s) (t .request) m) (h .1) ∙ ap (decisions (shapes ts)) (j .1))
 
 pub decided-account :
@@ -74,7 +74,7 @@ decided-account n [] s k l h = refl
 decided-account n (t ∷ ts) s k l h =
     let m = lent-found t s (h .0) l in
     let j = step-judges (found t s) (t .request) m in
-    let v = judge (s .disc) (t .request .block) (length (t .request .sectors)) (length (t .request .buffer)) in
+    let v = judge (s .disc) (t .request .cdb) (length (t .request .payload)) (length (t .request .buffer)) in
     decided-account n ts (result t s .after) (noted n (extentOf (s .disc) n) (t .request) (result t s .answer) k)
     (lent-after (found t s) (t .request) m) (h .1)
     ∙ (ap (λ (a : Answer). accountBy n ts (shapes ts) (result t s .after .disc) (noted n (extentOf (s .disc) n) (t .request) a k)) (j .0)

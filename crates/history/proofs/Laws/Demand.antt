@@ -32,7 +32,7 @@ start-alike c s e a b =
 
 -- the parts of a cut do what the WRITE does
 cut-does : (s : Drive) (q : Request) (qs : List Request) → CutOf q qs → Does s q qs
-cut-does s q qs c = parts-do s q (c .address) (c .count) (q .sectors) qs (c .whole) refl (several (c .several)) (c .parts)
+cut-does s q qs c = parts-do s q (c .address) (c .count) (q .payload) qs (c .whole) refl (several (c .several)) (c .parts)
   where
     several : {n : ℕ} → 2 ≤ n → 1 ≤ n
     several h = omega arith
@@ -50,7 +50,7 @@ again-alike :
 unfolding final Admissible Agreeing
 again-alike s e ts us a h k (ends x) = (tt, a)
 again-alike s e ts us a h k (same x t u rs vs c w) =
-    let r = step-alike (found t x) (found u e) (t .request) (u .request) (found-alike t u x e a (h .0) (k .0)) (c .block) (c .sectors) (c .room) in
+    let r = step-alike (found t x) (found u e) (t .request) (u .request) (found-alike t u x e a (h .0) (k .0)) (c .cdb) (c .payload) (c .room) in
     let i = again-alike (result t x .after) (result u e .after) rs vs (r .after) (h .1) (k .1) w in
     ((told-alike (result t x) (result u e) r, i .0), i .1)
 again-alike s e ts us a h k (cut x t rs ps ws vs accepted c w q) =
@@ -69,7 +69,7 @@ again-alike s e ts us a h k (cut x t rs ps ws vs accepted c w q) =
 same-after :
     (s : Drive) (q u : Request) → SameCommand q u → step s q .after ≡ step s u .after
 unfolding step carriedOut verdictOn
-same-after s q u c = rw (c .block, c .sectors, c .room)
+same-after s q u c = rw (c .cdb, c .payload, c .room)
 
 again-exact : (s : Drive) (ts us : List Turn) → Undisturbed ts s → Undisturbed us s → Again s ts us → final ts s ≡ final us s
 unfolding final Undisturbed

@@ -32,7 +32,7 @@ cut-in-two a =
     record {
       address = lba a;
       count = 2;
-      whole = write-request (lba a) 2 (wholeWrite a .sectors) whole-sectors;
+      whole = write-request (lba a) 2 (wholeWrite a .payload) whole-sectors;
       several = omega arith;
       parts = part (lba a) 1 1 (firstPart a) _ _ (omega arith) (one-sector a 7) (part (lba (a + 1)) 1 0 (secondPart a) [] [] (omega arith) (one-sector (a + 1) 9) (none _));
     }
@@ -50,7 +50,7 @@ parts-empty a b n x q qs w (part c k m u rest us h v p) = let e = write-count (s
 pub empty-part-is-none : (q : Request) (qs : List Request) → CutOf q (emptyPart ∷ qs) → ⊥
 unfolding decode
 empty-part-is-none q qs c =
-    parts-empty (lba 0) (c .address) (c .count) (q .sectors) emptyPart qs (record { block = refl; command = refl; sectors = refl }) (c .parts)
+    parts-empty (lba 0) (c .address) (c .count) (q .payload) emptyPart qs (record { cdb = refl; command = refl; payload = refl }) (c .parts)
 
 parts-joined :
     (a b c : Lba) (n m k : ℕ) (x : List ℕ) (one two : Request) (qs : List Request) → WriteOf one a n → WriteOf two b m
@@ -63,12 +63,12 @@ parts-joined a b c n m k x one two qs w v (part d i j u rest us h y (part f g l 
 
 pub gap-is-none : (q : Request) (qs : List Request) → CutOf q (firstPart 0 ∷ partBehindGap ∷ qs) → ⊥
 gap-is-none q qs c =
-    let e = parts-joined (lba 0) (lba 2) (c .address) 1 1 (c .count) (q .sectors) (firstPart 0) partBehindGap qs (one-sector 0 7) (one-sector 2 9) (c .parts) in
+    let e = parts-joined (lba 0) (lba 2) (c .address) 1 1 (c .count) (q .payload) (firstPart 0) partBehindGap qs (one-sector 0 7) (one-sector 2 9) (c .parts) in
     omega arith
 
 pub overlap-is-none : (q : Request) (qs : List Request) → CutOf q (firstPart 0 ∷ partOverFirst ∷ qs) → ⊥
 overlap-is-none q qs c =
-    let e = parts-joined (lba 0) (lba 0) (c .address) 1 1 (c .count) (q .sectors) (firstPart 0) partOverFirst qs (one-sector 0 7) (one-sector 0 9) (c .parts) in
+    let e = parts-joined (lba 0) (lba 0) (c .address) 1 1 (c .count) (q .payload) (firstPart 0) partOverFirst qs (one-sector 0 7) (one-sector 0 9) (c .parts) in
     omega arith
 
 -- one part alone is no cut

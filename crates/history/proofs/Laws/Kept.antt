@@ -50,18 +50,18 @@ served-sound s w = sound-rules (s .disc) (allowed-ready (s .disc) (w .range) (w 
 
 -- one command, by its answer
 module _ (s : Drive) (q : Request) (n : ℕ) (k : Account) (w : Served s) (one : 1 ≤ n) (h : HoldsOn s n k) where
-  accepted-holds : step s q .answer ≡ Accepted → HoldsOn (step s q .after) n (credited n (extentOf (s .disc) n) (decode (q .block)) (q .sectors) k)
+  accepted-holds : step s q .answer ≡ Accepted → HoldsOn (step s q .after) n (credited n (extentOf (s .disc) n) (decode (q .cdb)) (q .payload) k)
   unfolding step carriedOut
   accepted-holds e =
       let d = s .disc in
-      let c = decode (q .block) in
+      let c = decode (q .cdb) in
       let l = length (s .medium) in
       let j = judgement s q (w .lends) in
       let performed : verdictOn s q ≡ perform d c = decided-performed d (verdictOn s q) (verdict-decided s q) e in
-      let fits : Fits l (length (q .sectors)) (length (q .buffer)) (perform d c) =
-      subst (λ (v : Verdict). Fits l (length (q .sectors)) (length (q .buffer)) v) (sym (verdict-judges s q (w .lends)) ∙ performed) (j .fits) in
-      subst (λ (v : Verdict). HoldsOn (carriedOut v s q .after) n (credited n (extentOf d n) c (q .sectors) k)) (sym performed)
-      (noted-performed d (s .medium) (s .pending) (q .sectors) n k (allowed-ready d (w .range) (w .allowed)) one (j .block)
+      let fits : Fits l (length (q .payload)) (length (q .buffer)) (perform d c) =
+      subst (λ (v : Verdict). Fits l (length (q .payload)) (length (q .buffer)) v) (sym (verdict-judges s q (w .lends)) ∙ performed) (j .fits) in
+      subst (λ (v : Verdict). HoldsOn (carriedOut v s q .after) n (credited n (extentOf d n) c (q .payload) k)) (sym performed)
+      (noted-performed d (s .medium) (s .pending) (q .payload) n k (allowed-ready d (w .range) (w .allowed)) one (j .cdb)
       (lent-medium d l (length (s .pending)) (w .lends)) h c (sym (ap (λ (v : Verdict). v .answer) performed) ∙ e) (fits .flush) (fits .transfer))
 
   pub answer-holds : (a : Answer) → step s q .answer ≡ a → HoldsOn (step s q .after) n (noted n (extentOf (s .disc) n) q a k)
@@ -279,7 +279,7 @@ module _ (c : ℕ) (s : Drive) (start : Start c s) (ts : List Turn) (h : Admissi
     content-found a Nowhere e r = absurd (nowhere-unreadable (reached .disc) a point-sound e r)
 
     point-back :
-        (a : Lba) (n : ℕ) → decode (t .request .block) ≡ Read a n → result t reached .answer ≡ Accepted → (i : ℕ) → i < n
+        (a : Lba) (n : ℕ) → decode (t .request .cdb) ≡ Read a n → result t reached .answer ≡ Accepted → (i : ℕ) → i < n
         → sectorAt i (result t reached .reply) ≡ contentAt ts s (a .0 + i)
     unfolding step carriedOut
     point-back a n e accepted i l =

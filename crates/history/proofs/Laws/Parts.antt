@@ -25,13 +25,13 @@ write-request a n x h =
     let address : 0 + (0 + a .0) ≡ a .0 = omega arith in
     let count : 0 + n ≡ n = omega arith in
     record {
-      block = refl;
+      cdb = refl;
       command = ap (λ (k : ℕ). Write (lba k) (0 + n)) address ∙ ap (λ (k : ℕ). Write a k) count;
-      sectors = h;
+      payload = h;
     }
 
 -- a request with the same fields and sectors is answered alike
-module _ (s : Drive) (q u : Request) (a : Lba) (n : ℕ) (w : WriteOf q a n) (x : WriteOf u a n) (same : q .sectors ≡ u .sectors) where
+module _ (s : Drive) (q u : Request) (a : Lba) (n : ℕ) (w : WriteOf q a n) (x : WriteOf u a n) (same : q .payload ≡ u .payload) where
   same-verdict : Served s → verdictOn s q ≡ verdictOn s u
   same-verdict k = write-verdict s q a n w k ∙ sym (write-verdict s u a n x k)
 
@@ -47,7 +47,7 @@ module _ (s : Drive) (q u : Request) (a : Lba) (n : ℕ) (w : WriteOf q a n) (x 
   unfolding step carriedOut
   same-after k =
       ap (λ (v : Verdict). carriedOut v s q .after) (same-verdict k)
-      ∙ ap (λ (y : List ℕ). carriedOut (verdictOn s u) s (request (u .block) y (u .buffer)) .after) same
+      ∙ ap (λ (y : List ℕ). carriedOut (verdictOn s u) s (request (u .cdb) y (u .buffer)) .after) same
 
 -- the requests, one after another, do what the one does
 pub record Does (s : Drive) (q : Request) (qs : List Request) : Type 0 where
@@ -57,7 +57,7 @@ pub record Does (s : Drive) (q : Request) (qs : List Request) : Type 0 where
   pub after : step s q .answer ≡ Accepted → runs qs s ≡ step s q .after
 
 does-one :
-    (s : Drive) (q u : Request) (a : Lba) (n : ℕ) → WriteOf q a n → WriteOf u a n → q .sectors ≡ u .sectors → Does s q (u ∷ [])
+    (s : Drive) (q u : Request) (a : Lba) (n : ℕ) → WriteOf q a n → WriteOf u a n → q .payload ≡ u .payload → Does s q (u ∷ [])
 unfolding runs RunAccepted runBlocks
 does-one s q u a n w x same =
     record {
@@ -70,7 +70,7 @@ does-one s q u a n w x same =
 -- the first part, and then those that make up the rest
 does-more :
     (s : Drive) (q one two : Request) (qs : List Request) (a : Lba) (n m : ℕ) → WriteOf q a (n + m) → WriteOf one a n
-    → WriteOf two (lba (a .0 + n)) m → (n ≡ 0 → ⊥) → (m ≡ 0 → ⊥) → q .sectors ≡ one .sectors ++ two .sectors
+    → WriteOf two (lba (a .0 + n)) m → (n ≡ 0 → ⊥) → (m ≡ 0 → ⊥) → q .payload ≡ one .payload ++ two .payload
     → Does (step s one .after) two qs → Does s q (one ∷ qs)
 unfolding runs RunAccepted runBlocks
 does-more s q one two qs a n m w w₁ w₂ z y joined i =
@@ -94,15 +94,15 @@ some-part a n x q qs (part b k m u rest us h w p) e = omega (arith, h, e)
 parts-length : (a : Lba) (n : ℕ) (x : List ℕ) (qs : List Request) → Parts a n x qs → length x ≡ 2048 * n
 parts-length a n x qs (none b) = refl
 parts-length a n x qs (part b k m u rest us h w p) =
-    omega (arith, length-append (u .sectors) rest, w .sectors, parts-length (lba (b .0 + k)) m rest us p)
+    omega (arith, length-append (u .payload) rest, w .payload, parts-length (lba (b .0 + k)) m rest us p)
 
 pub parts-do :
-    (s : Drive) (q : Request) (a : Lba) (n : ℕ) (x : List ℕ) (qs : List Request) → WriteOf q a n → q .sectors ≡ x → 1 ≤ length qs
+    (s : Drive) (q : Request) (a : Lba) (n : ℕ) (x : List ℕ) (qs : List Request) → WriteOf q a n → q .payload ≡ x → 1 ≤ length qs
     → Parts a n x qs → Does s q qs
 parts-do s q a n x qs w e l (none b) = absurd (omega arith)
 parts-do s q a n x qs w e l (part b k m u rest [] h v (none c)) =
     let same : k + 0 ≡ k = omega arith in
-    does-one s q u b k (subst (λ (j : ℕ). WriteOf q b j) same w) v (e ∙ append-nil (u .sectors))
+    does-one s q u b k (subst (λ (j : ℕ). WriteOf q b j) same w) v (e ∙ append-nil (u .payload))
 parts-do s q a n x qs w e l (part b k m u rest (r ∷ rs) h v p) =
     let next = lba (b .0 + k) in
     let two = writeRequest next m rest in

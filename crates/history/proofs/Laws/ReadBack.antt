@@ -57,7 +57,7 @@ module _ (c : ℕ) (s : Drive) (start : Start c s) (ts : List Turn) (h : Admissi
 
   -- an accepted READ reads readable sectors
   read-sectors :
-      (t : Turn) (a : Lba) (n : ℕ) → decode (t .request .block) ≡ Read a n → result t there .answer ≡ Accepted → (i : ℕ) → i < n
+      (t : Turn) (a : Lba) (n : ℕ) → decode (t .request .cdb) ≡ Read a n → result t there .answer ≡ Accepted → (i : ℕ) → i < n
       → readable (there .disc) (lba (a .0 + i)) ≡ true
   unfolding step carriedOut
   read-sectors t a n e accepted i l =
@@ -67,7 +67,7 @@ module _ (c : ℕ) (s : Drive) (start : Start c s) (ts : List Turn) (h : Admissi
       accepted-read d a n (λ z. omega (arith, z, l)) (sym (ap (λ (v : Verdict). v .answer) performed) ∙ accepted) .1 i l
 
   point-back :
-      (t : Turn) → Alike there (found t there) → (a : Lba) (n : ℕ) → decode (t .request .block) ≡ Read a n → result t there .answer ≡ Accepted
+      (t : Turn) → Alike there (found t there) → (a : Lba) (n : ℕ) → decode (t .request .cdb) ≡ Read a n → result t there .answer ≡ Accepted
       → (i : ℕ) → i < n → sectorAt i (result t there .reply) ≡ sole (broughtTo (a .0 + i) (writes ts s))
   point-back t alike a n e accepted i l =
       kept-account .back c s start ts h t alike a n e accepted i l
@@ -114,16 +114,16 @@ sole-of (x ∷ (z ∷ zs)) y ys h = absurd (omega (arith, h))
 
 -- a WRITE of the sequence, at one of its addresses
 brought-there :
-    (ts : List Turn) (w : Turn) (us : List Turn) (s : Drive) (a : Lba) (n i : ℕ) → decode (w .request .block) ≡ Write a n
+    (ts : List Turn) (w : Turn) (us : List Turn) (s : Drive) (a : Lba) (n i : ℕ) → decode (w .request .cdb) ≡ Write a n
     → result w (final ts s) .answer ≡ Accepted → i < n
     → broughtTo (a .0 + i) (writes (ts ++ (w ∷ us)) s)
     ≡ broughtTo (a .0 + i) (writes ts s)
-    ++ (sectorAt i (w .request .sectors) ∷ broughtTo (a .0 + i) (writes us (result w (final ts s) .after)))
+    ++ (sectorAt i (w .request .payload) ∷ broughtTo (a .0 + i) (writes us (result w (final ts s) .after)))
 unfolding writes acceptedWrite writeOf
 brought-there ts w us s a n i is accepted l =
     let b = a .0 + i in
-    let x = w .request .sectors in
-    let one : Written = record { address = a .0; count = n; sectors = x } in
+    let x = w .request .payload in
+    let one : Written = record { address = a .0; count = n; payload = x } in
     let rest = writes us (result w (final ts s) .after) in
     let back : b - a .0 ≡ i = omega arith in
     let this : acceptedWrite (result w (final ts s) .answer) (w .request) ≡ one ∷ [] =
@@ -150,7 +150,7 @@ read-back =
           point-back c s start (ts ++ (w ∷ us)) h t alike b m e read j k
           ∙ (ap (λ (x : ℕ). sole (broughtTo x ws)) (sym same)
           ∙ (ap sole there
-          ∙ sole-of (broughtTo (a .0 + i) (writes ts s)) (sectorAt i (w .request .sectors))
+          ∙ sole-of (broughtTo (a .0 + i) (writes ts s)) (sectorAt i (w .request .payload))
           (broughtTo (a .0 + i) (writes us (result w (final ts s) .after))) most));
     }
 

@@ -27,23 +27,23 @@ use Rattle.history.proofs.Laws.Past.{Recalls, Tells, recalled-performed
 
 -- one command
 module _ (s : Drive) (q : Request) (h : Past) (w : Served s) (m : Recalls (s .disc) h) where
-  accepted-tells : step s q .answer ≡ Accepted → Tells (s .disc) h (pastAfter (s .disc) (decode (q .block)) h) (verdictOn s q .plan)
+  accepted-tells : step s q .answer ≡ Accepted → Tells (s .disc) h (pastAfter (s .disc) (decode (q .cdb)) h) (verdictOn s q .plan)
   unfolding step carriedOut
   accepted-tells e =
       let d = s .disc in
       let v = verdictOn s q in
       let performed = decided-performed d v (verdict-decided s q) e in
-      subst (λ (x : Verdict). Tells d h (pastAfter d (decode (q .block)) h) (x .plan)) (sym performed)
-      (recalled-performed d h (allowed-ready d (w .range) (w .allowed)) m (decode (q .block)) (sym (ap (λ (x : Verdict). x .answer) performed) ∙ e))
+      subst (λ (x : Verdict). Tells d h (pastAfter d (decode (q .cdb)) h) (x .plan)) (sym performed)
+      (recalled-performed d h (allowed-ready d (w .range) (w .allowed)) m (decode (q .cdb)) (sym (ap (λ (x : Verdict). x .answer) performed) ∙ e))
 
-  accepted-recalls : step s q .answer ≡ Accepted → Recalls (step s q .after .disc) (pastAfter (s .disc) (decode (q .block)) h)
+  accepted-recalls : step s q .answer ≡ Accepted → Recalls (step s q .after .disc) (pastAfter (s .disc) (decode (q .cdb)) h)
   unfolding step carriedOut
   accepted-recalls e =
       let d = s .disc in
       let v = verdictOn s q in
       let t = accepted-tells e in
       let p = decided-pending d v (verdict-decided s q) in
-      let held : v .disc .pending ≡ pastAfter d (decode (q .block)) h .held =
+      let held : v .disc .pending ≡ pastAfter d (decode (q .cdb)) h .held =
       p .count ∙ (ap (λ (n : ℕ). transferredCount (v .plan .transfer) (flushedCount (v .plan .flush) n)) (m .held) ∙ t .held) in
       record {
         recorded =

@@ -133,7 +133,7 @@ module _
         (omega (arith, q .accepted, count-none (b + c) (q .more) vs away))
 
 abbrev writing : ℕ → ℕ → List ℕ → Written
-writing a count x = record { address = a; count = count; sectors = x }
+writing a count x = record { address = a; count = count; payload = x }
 
 -- the sectors of a WRITE to the fragment itself
 traces-written :
@@ -309,13 +309,13 @@ module _
     (tr : Traced (s .disc) ws ks)
   where
     abbrev noting : Command → ℕ → Account
-    noting c n = credited n (extentOf (s .disc) n) c (q .sectors) (ks n)
+    noting c n = credited n (extentOf (s .disc) n) c (q .payload) (ks n)
 
     ready : Ready (s .disc)
     ready = allowed-ready (s .disc) (w .range) (w .allowed)
 
     -- it is accepted
-    module _ (accepted : step s q .answer ≡ Accepted) (c : Command) (is : decode (q .block) ≡ c) where
+    module _ (accepted : step s q .answer ≡ Accepted) (c : Command) (is : decode (q .cdb) ≡ c) where
       performed : verdictOn s q ≡ perform (s .disc) c
       unfolding step carriedOut
       performed = decided-performed (s .disc) (verdictOn s q) (verdict-decided s q) accepted ∙ ap (perform (s .disc)) is
@@ -350,19 +350,19 @@ module _
       command-plain other =
           command-none [] (λ a. refl)
           (λ n one.
-          credited-pads n (extentOf (s .disc) n) c (q .sectors) (ks n) (base (s .disc) n) refl
+          credited-pads n (extentOf (s .disc) n) c (q .payload) (ks n) (base (s .disc) n) refl
           (λ a count e z. absurd (contradiction (ap isWrite e) other)))
 
     -- it is a WRITE
-    module _ (accepted : step s q .answer ≡ Accepted) (a : Lba) (count : ℕ) (is : decode (q .block) ≡ Write a count) where
+    module _ (accepted : step s q .answer ≡ Accepted) (a : Lba) (count : ℕ) (is : decode (q .cdb) ≡ Write a count) where
       abbrev brings : Written
-      brings = writing (a .0) count (q .sectors)
+      brings = writing (a .0) count (q .payload)
 
       write-empty : count ≡ 0 → Traced (step s q .after .disc) (ws ++ (brings ∷ [])) (noting (Write a count))
       write-empty z =
           command-none accepted (Write a count) is (brings ∷ []) (λ b. brought-none b brings (λ from below. omega (arith, from, below, z)))
           (λ n one.
-          credited-pads n (extentOf (s .disc) n) (Write a count) (q .sectors) (ks n) (base (s .disc) n) refl
+          credited-pads n (extentOf (s .disc) n) (Write a count) (q .payload) (ks n) (base (s .disc) n) refl
           (λ b m e y. absurd (y (sym (counts e) ∙ z))))
         where
           counts : {b c : Lba} {n m : ℕ} → Write b n ≡ Write c m → n ≡ m
@@ -376,14 +376,14 @@ module _
           let j = t .number in
           let v = t .here in
           let x = extentOf d j in
-          let own : noting (Write a count) j ≡ written (a .0) count (q .sectors) (ks j) =
+          let own : noting (Write a count) j ≡ written (a .0) count (q .payload) (ks j) =
           cond-no (eqb count 0) (ks j) _ (ne-eqb count 0 z)
-          ∙ cond-yes (among (x .first) (x .sectors) (a .0)) (written (a .0) count (q .sectors) (ks j)) (flushed x (ks j)) (covers-own d a j j ready v refl) in
+          ∙ cond-yes (among (x .first) (x .sectors) (a .0)) (written (a .0) count (q .payload) (ks j)) (flushed x (ks j)) (covers-own d a j j ready v refl) in
           traced-write d (step s q .after .disc) ws ks (noting (Write a count)) (served-sound s w) (command-placed accepted (Write a count) is)
-          (λ n one. holds-taken s n (ks n) (hold n one)) (command-taken accepted (Write a count) is) tr a count j (q .sectors) (v .from)
+          (λ n one. holds-taken s n (ks n) (hold n one)) (command-taken accepted (Write a count) is) tr a count j (q .payload) (v .from)
           (omega (arith, v .here)) (omega (arith, t .fits)) own
           (λ n one other.
-          credited-pads n (extentOf d n) (Write a count) (q .sectors) (ks n) (base d n) refl
+          credited-pads n (extentOf d n) (Write a count) (q .payload) (ks n) (base d n) refl
           (λ b m e y. subst (λ (l : Lba). among (extentOf d n .first) (extentOf d n .sectors) (l .0) ≡ false) (address e) (covers-else d a j n ready v one other)))
           (some z)
         where
@@ -394,8 +394,8 @@ module _
           some y = omega arith
 
     accepted-traced :
-        step s q .answer ≡ Accepted → (c : Command) → decode (q .block) ≡ c
-        → Traced (step s q .after .disc) (ws ++ writeOf c (q .sectors)) (noting c)
+        step s q .answer ≡ Accepted → (c : Command) → decode (q .cdb) ≡ c
+        → Traced (step s q .after .disc) (ws ++ writeOf c (q .payload)) (noting c)
     unfolding writeOf isWrite
     accepted-traced e (Write a count) is = equal-cases count 0 (write-empty e a count is) (write-some e a count is)
     accepted-traced e TestUnitReady is = command-plain e TestUnitReady is refl
@@ -415,7 +415,7 @@ module _
         (a : Answer) → step s q .answer ≡ a
         → Traced (step s q .after .disc) (ws ++ acceptedWrite a q) (λ n. noted n (extentOf (s .disc) n) q a (ks n))
     unfolding acceptedWrite noted
-    answer-traced Accepted e = accepted-traced e (decode (q .block)) refl
+    answer-traced Accepted e = accepted-traced e (decode (q .cdb)) refl
     answer-traced (Link x) e =
         subst (λ (vs : List Written). Traced (step s q .after .disc) vs ks) (sym (append-nil ws))
         (subst (λ (r : Result). Traced (r .after .disc) ws ks) (sym (step-link s q x e)) tr)

@@ -30,18 +30,18 @@ use Rattle.history.proofs.Laws.Served.{start-lent}
 -- a verdict by the disc and the lengths, as numbers
 known-verdict :
     (s : Drive) (q : Request) (d : Disc) (n m : ℕ) → lent (s .disc) (length (s .medium)) (length (s .pending)) ≡ true → s .disc ≡ d
-    → length (q .sectors) ≡ n → length (q .buffer) ≡ m → verdictOn s q ≡ judge d (q .block) n m
+    → length (q .payload) ≡ n → length (q .buffer) ≡ m → verdictOn s q ≡ judge d (q .cdb) n m
 known-verdict s q d n m l e f g =
     verdict-judges s q l
-    ∙ (ap (λ (x : Disc). judge x (q .block) (length (q .sectors)) (length (q .buffer))) e
-    ∙ (ap (λ (k : ℕ). judge d (q .block) k (length (q .buffer))) f ∙ ap (judge d (q .block) n) g))
+    ∙ (ap (λ (x : Disc). judge x (q .cdb) (length (q .payload)) (length (q .buffer))) e
+    ∙ (ap (λ (k : ℕ). judge d (q .cdb) k (length (q .buffer))) f ∙ ap (judge d (q .cdb) n) g))
 
 -- what the lower layer decides, computed: three verdicts, one on the disc that the other left
 abbrev one : Verdict
 one = judge (blank 300) (writeBlock 0 16) 32768 0
 
 abbrev two : Verdict
-two = judge (one .disc) (informationRequest .block) 0 34
+two = judge (one .disc) (informationRequest .cdb) 0 34
 
 abbrev three : Verdict
 three = judge (two .disc) (writeBlock 16 16) 32768 0

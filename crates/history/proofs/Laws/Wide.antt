@@ -47,9 +47,9 @@ write-bytes a n x near few h =
     four-bytes a (a / 0x100) (a / 0x10000) (a / 0x1000000) refl (omega arith) (omega arith) (omega (arith, near)) in
     let count : 0x100 * (n / 0x100 % 0x100) + n % 0x100 ≡ n = omega (arith, few) in
     record {
-      block = refl;
+      cdb = refl;
       command = ap (λ (k : ℕ). Write (lba k) (0x100 * high n + low n)) address ∙ ap (λ (k : ℕ). Write (lba a) k) count;
-      sectors = h;
+      payload = h;
     }
 
 -- lengths make parts
@@ -81,10 +81,10 @@ length-parts a (k ∷ ks) x = ap suc (length-parts (a + k) ks (drop (2048 * k) x
 -- what the test says
 module _ (q : Request) (a n : ℕ) (ks : List ℕ) where
   abbrev block-fits : Bool
-  block-fits = eqb (length (q .block)) 12
+  block-fits = eqb (length (q .cdb)) 12
 
   abbrev data-fits : Bool
-  data-fits = eqb (length (q .sectors)) (2048 * n)
+  data-fits = eqb (length (q .payload)) (2048 * n)
 
   abbrev is-several : Bool
   is-several = leb 2 (length ks)
@@ -96,8 +96,8 @@ module _ (q : Request) (a n : ℕ) (ks : List ℕ) where
   is-near = leb (a + n) 0x100000000
 
   record Cuts : Type 0 where
-    block : length (q .block) ≡ 12
-    sectors : length (q .sectors) ≡ 2048 * n
+    cdb : length (q .cdb) ≡ 12
+    payload : length (q .payload) ≡ 2048 * n
     several : 2 ≤ length ks
     whole : total ks ≡ n
     named : nameable ks ≡ true
@@ -113,8 +113,8 @@ module _ (q : Request) (a n : ℕ) (ks : List ℕ) where
       let t₃ = and-left three is-whole t₄ in
       let t₂ = and-left (block-fits && data-fits) is-several t₃ in
       record {
-        block = eqb-true (length (q .block)) 12 (and-left block-fits data-fits t₂);
-        sectors = eqb-true (length (q .sectors)) (2048 * n) (and-right block-fits data-fits t₂);
+        cdb = eqb-true (length (q .cdb)) 12 (and-left block-fits data-fits t₂);
+        payload = eqb-true (length (q .payload)) (2048 * n) (and-right block-fits data-fits t₂);
         several = leb-true 2 (length ks) (and-right (block-fits && data-fits) is-several t₃);
         whole = eqb-true (total ks) n (and-right three is-whole t₄);
         named = and-right four (nameable ks) t₅;
@@ -125,35 +125,35 @@ module _ (q : Request) (a n : ℕ) (ks : List ℕ) where
   cuts-test c =
       and-both
       (and-both
-      (and-both (and-both (and-both (eq-eqb (length (q .block)) 12 (c .block)) (eq-eqb (length (q .sectors)) (2048 * n) (c .sectors))) (le-leb 2 (length ks) (c .several)))
+      (and-both (and-both (and-both (eq-eqb (length (q .cdb)) 12 (c .cdb)) (eq-eqb (length (q .payload)) (2048 * n) (c .payload))) (le-leb 2 (length ks) (c .several)))
       (eq-eqb (total ks) n (c .whole))) (c .named)) (le-leb (a + n) 0x100000000 (c .near))
 
 -- the parts of a command again are a cut, or there is but the command
-cut-of : (q : Request) (a : Lba) (n : ℕ) (ks : List ℕ) → decode (q .block) ≡ Write a n → Cuts q (a .0) n ks → CutOf q (partsOf (a .0) ks (q .sectors))
+cut-of : (q : Request) (a : Lba) (n : ℕ) (ks : List ℕ) → decode (q .cdb) ≡ Write a n → Cuts q (a .0) n ks → CutOf q (partsOf (a .0) ks (q .payload))
 cut-of q a n ks is c =
     record {
       address = a;
       count = n;
-      whole = record { block = c .block; command = is; sectors = c .sectors };
-      several = subst (λ (k : ℕ). 2 ≤ k) (sym (length-parts (a .0) ks (q .sectors))) (c .several);
+      whole = record { cdb = c .cdb; command = is; payload = c .payload };
+      several = subst (λ (k : ℕ). 2 ≤ k) (sym (length-parts (a .0) ks (q .payload))) (c .several);
       parts =
-          subst (λ (k : ℕ). Parts a k (q .sectors) (partsOf (a .0) ks (q .sectors))) (c .whole)
-          (parts-of (a .0) ks (q .sectors) (c .named) (c .sectors ∙ ap (λ (k : ℕ). 2048 * k) (sym (c .whole)))
+          subst (λ (k : ℕ). Parts a k (q .payload) (partsOf (a .0) ks (q .payload))) (c .whole)
+          (parts-of (a .0) ks (q .payload) (c .named) (c .payload ∙ ap (λ (k : ℕ). 2048 * k) (sym (c .whole)))
           (subst (λ (k : ℕ). a .0 + k ≤ 0x100000000) (sym (c .whole)) (c .near)));
     }
 
 abbrev Recut : Request → List Request → Type 0
 Recut q qs = (qs ≡ q ∷ []) ⊎ (CutOf q qs)
 
-recut-command : (ks : List ℕ) (q : Request) (c : Command) → decode (q .block) ≡ c → Recut q (recutCommand ks q c)
+recut-command : (ks : List ℕ) (q : Request) (c : Command) → decode (q .cdb) ≡ c → Recut q (recutCommand ks q c)
 unfolding recutCommand
 recut-command ks q (Write a n) is =
     by-cases (isCut q (a .0) n ks)
     (λ t.
     inr
-    (subst (λ (qs : List Request). CutOf q qs) (sym (cond-yes (isCut q (a .0) n ks) (partsOf (a .0) ks (q .sectors)) (q ∷ []) t))
+    (subst (λ (qs : List Request). CutOf q qs) (sym (cond-yes (isCut q (a .0) n ks) (partsOf (a .0) ks (q .payload)) (q ∷ []) t))
     (cut-of q a n ks is (test-cuts q (a .0) n ks t))))
-    (λ t. inl (cond-no (isCut q (a .0) n ks) (partsOf (a .0) ks (q .sectors)) (q ∷ []) t))
+    (λ t. inl (cond-no (isCut q (a .0) n ks) (partsOf (a .0) ks (q .payload)) (q ∷ []) t))
 recut-command ks q TestUnitReady is = inl refl
 recut-command ks q (RequestSense allocation) is = inl refl
 recut-command ks q ReadCapacity is = inl refl
@@ -167,7 +167,7 @@ recut-command ks q Unlisted is = inl refl
 
 recut-is : (a : Answer) (ks : List ℕ) (q : Request) → (recut a ks q ≡ q ∷ []) ⊎ ((a ≡ Accepted) × CutOf q (recut a ks q))
 unfolding recut
-recut-is Accepted ks q = elim (recut-command ks q (decode (q .block)) refl) [ inl e ↦ inl e | inr c ↦ inr (refl, c) ]
+recut-is Accepted ks q = elim (recut-command ks q (decode (q .cdb)) refl) [ inl e ↦ inl e | inr c ↦ inr (refl, c) ]
 recut-is (Link r) ks q = inl refl
 recut-is (byDrive r) ks q = inl refl
 
@@ -218,8 +218,8 @@ unfolding given
 again-same g h ts hs s e q w =
     same s (turn g s) (turn h e) ts (given hs (result (turn h e) e .after))
     (record {
-      block = ap (λ (r : Request). r .block) (sym q);
-      sectors = ap (λ (r : Request). r .sectors) (sym q);
+      cdb = ap (λ (r : Request). r .cdb) (sym q);
+      payload = ap (λ (r : Request). r .payload) (sym q);
       room = ap (λ (r : Request). length (r .buffer)) (sym q);
     }) w
 
@@ -261,10 +261,10 @@ recut-parts :
     → length (recut Accepted ks q) ≡ length ks
 unfolding recut recutCommand
 recut-parts q a n ks w several whole named near =
-    let c : Cuts q (a .0) n ks = record { block = w .block; sectors = w .sectors; several = several; whole = whole; named = named; near = near } in
+    let c : Cuts q (a .0) n ks = record { cdb = w .cdb; payload = w .payload; several = several; whole = whole; named = named; near = near } in
     ap (λ (x : Command). length (recutCommand ks q x)) (w .command)
-    ∙ (ap (λ (qs : List Request). length qs) (cond-yes (isCut q (a .0) n ks) (partsOf (a .0) ks (q .sectors)) (q ∷ []) (cuts-test q (a .0) n ks c))
-    ∙ length-parts (a .0) ks (q .sectors))
+    ∙ (ap (λ (qs : List Request). length qs) (cond-yes (isCut q (a .0) n ks) (partsOf (a .0) ks (q .payload)) (q ∷ []) (cuts-test q (a .0) n ks c))
+    ∙ length-parts (a .0) ks (q .payload))
 
 -- bytes by their index
 filled-length : (f : ℕ → ℕ) (n : ℕ) → length (filledBy f n) ≡ n

@@ -52,12 +52,12 @@ steady-numbers [] s l = refl
 steady-numbers (q ∷ qs) s l =
     let j = step-judges s q l in
     ap (λ (n : ℕ). n ∷ numbers (steady qs (step s q .after)) (step s q .after)) (ap number (j .0))
-    ∙ ap (λ (ns : List ℕ). number (judge (s .disc) (q .block) (length (q .sectors)) (length (q .buffer)) .answer) ∷ ns)
+    ∙ ap (λ (ns : List ℕ). number (judge (s .disc) (q .cdb) (length (q .payload)) (length (q .buffer)) .answer) ∷ ns)
     (steady-numbers qs (step s q .after) (lent-after s q l) ∙ ap (judged (map shapeOf qs)) (j .1))
 
 -- requests made of shapes have those shapes
 filled-shape : (x : ℕ) (h : Shape) → shapeOf (filled x h) ≡ h
-filled-shape x h = ap (λ (n : ℕ). shape (h .block) n (length (replicate (h .room) x))) (length-replicate (h .sectors) x) ∙ ap (λ (n : ℕ). shape (h .block) (h .sectors) n) (length-replicate (h .room) x)
+filled-shape x h = ap (λ (n : ℕ). shape (h .cdb) n (length (replicate (h .room) x))) (length-replicate (h .payload) x) ∙ ap (λ (n : ℕ). shape (h .cdb) (h .payload) n) (length-replicate (h .room) x)
 
 filled-shapes : (x : ℕ) (hs : List Shape) → map shapeOf (map (filled x) hs) ≡ hs
 filled-shapes x [] = refl
@@ -76,7 +76,7 @@ again-prefix :
 unfolding final steady
 again-prefix [] s e ts us w = w
 again-prefix (p ∷ ps) s e ts us w =
-    same s (asLeft p s) (asLeft p e) _ _ (record { block = refl; sectors = refl; room = refl })
+    same s (asLeft p s) (asLeft p e) _ _ (record { cdb = refl; payload = refl; room = refl })
     (again-prefix ps (step s p .after) (step e p .after) ts us w)
 
 -- what the list of the example comes to, computed: the WRITE in its place, and all answers
@@ -101,7 +101,7 @@ again-steady : (rs : List Request) (s e : Drive) → Again s (steady rs s) (stea
 unfolding steady
 again-steady [] s e = ends s
 again-steady (r ∷ rs) s e =
-    same s (asLeft r s) (asLeft r e) _ _ (record { block = refl; sectors = refl; room = refl }) (again-steady rs (step s r .after) (step e r .after))
+    same s (asLeft r s) (asLeft r e) _ _ (record { cdb = refl; payload = refl; room = refl }) (again-steady rs (step s r .after) (step e r .after))
 
 -- from every start of 300 blocks, over any bytes: the WRITE is accepted in its place
 module _ (s : Drive) (start : Start 300 s) where
@@ -121,7 +121,7 @@ module _ (s : Drive) (start : Start 300 s) where
   write-accepted : step place cutWrite .answer ≡ Accepted
   write-accepted =
       step-judges place cutWrite place-lent .0
-      ∙ (ap (λ (d : Disc). judge d (writeBlock 84 2) (length (cutWrite .sectors)) 0 .answer) place-disc
+      ∙ (ap (λ (d : Disc). judge d (writeBlock 84 2) (length (cutWrite .payload)) 0 .answer) place-disc
       ∙ (ap (λ (n : ℕ). judge (discAfter before (blank 300)) (writeBlock 84 2) n 0 .answer) whole-sectors ∙ computed .0))
 
   -- the answers: L1, L4, 5/20/00, and seven commands accepted

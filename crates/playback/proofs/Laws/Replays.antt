@@ -9,7 +9,7 @@ use types.Run.{OneOf, miss}
 use denote.Enum.Declared.{tagOf}
 use Rattle.trace.proofs.record.Reading as reading
 use Rattle.trace.specs.Record.{stepAt}
-use Rattle.trace.specs.Whole.{isRecord, allFrom, endFrom, wholeBlocks, wholeEnd}
+use Rattle.trace.specs.Whole.{isRecord, allFrom, endFrom, wholeCdbs, wholeEnd}
 use Rattle.trace.proofs.Laws.Whole.{record-found, whole-next, whole-stop}
 use Rattle.trace.proofs.Laws.Parts.{in-parts}
 use Rattle.playback.specs.Types.{Reading, Record, BadMark, CutShort, End, Step, Line, Replay, Played}
@@ -39,9 +39,9 @@ replayed-append r (b ∷ bs) cs = replayed-append (onward r b) bs cs
 -- an input in two parts: what is left of the first, with the second after it, is replayed from where the first leads
 pub replayed-parts :
     (r : Replay) (a b : List ℕ)
-    → replayed r (wholeBlocks (a ++ b)) ≡ replayed (replayed r (wholeBlocks a)) (wholeBlocks (drop (wholeEnd a) a ++ b))
+    → replayed r (wholeCdbs (a ++ b)) ≡ replayed (replayed r (wholeCdbs a)) (wholeCdbs (drop (wholeEnd a) a ++ b))
 replayed-parts r a b =
-    ap (replayed r) (in-parts a b .blocks) ∙ replayed-append r (wholeBlocks a) (wholeBlocks (drop (wholeEnd a) a ++ b))
+    ap (replayed r) (in-parts a b .cdbs) ∙ replayed-append r (wholeCdbs a) (wholeCdbs (drop (wholeEnd a) a ++ b))
 
 -- and their lines
 lines-append : (r : Replay) (bs cs : List (List ℕ)) → lines r (bs ++ cs) ≡ lines r bs ++ lines (replayed r bs) cs
@@ -53,15 +53,15 @@ lines-append r (b ∷ bs) cs =
 
 pub lines-parts :
     (r : Replay) (a b : List ℕ)
-    → lines r (wholeBlocks (a ++ b))
-    ≡ lines r (wholeBlocks a) ++ lines (replayed r (wholeBlocks a)) (wholeBlocks (drop (wholeEnd a) a ++ b))
+    → lines r (wholeCdbs (a ++ b))
+    ≡ lines r (wholeCdbs a) ++ lines (replayed r (wholeCdbs a)) (wholeCdbs (drop (wholeEnd a) a ++ b))
 lines-parts r a b =
-    ap (lines r) (in-parts a b .blocks) ∙ lines-append r (wholeBlocks a) (wholeBlocks (drop (wholeEnd a) a ++ b))
+    ap (lines r) (in-parts a b .cdbs) ∙ lines-append r (wholeCdbs a) (wholeCdbs (drop (wholeEnd a) a ++ b))
 
 -- some records of the bytes held are played, and these are to come
 pub record Playing (held : List ℕ) (before now : Replay) (at : ℕ) : Type 0 where
   pub within : at ≤ length held
-  pub replay : replayed now (allFrom held at) ≡ replayed before (wholeBlocks held)
+  pub replay : replayed now (allFrom held at) ≡ replayed before (wholeCdbs held)
   pub end : endFrom held at ≡ wholeEnd held
 
 abbrev pub withoutRecord : List ℕ
@@ -77,7 +77,7 @@ module _ (held : List ℕ) (before now : Replay) (at : ℕ) (s : Step) (e : s �
   found : s .reading ≡ Record → isRecord (stepAt held at .reading) ≡ true
   found r = rw (← e, r)
 
-  pub playing-next : (p : Played) → s .reading ≡ Record → Plays now (s .block) p → Playing held before now at → Playing held before (p .replay) (s .next)
+  pub playing-next : (p : Played) → s .reading ≡ Record → Plays now (s .cdb) p → Playing held before now at → Playing held before (p .replay) (s .next)
   unfolding replayed played
   playing-next p r h w =
       let n = whole-next held at (found r) in

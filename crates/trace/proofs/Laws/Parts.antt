@@ -11,7 +11,7 @@ use lib.ListN.{length, getD, take, drop, length-append, length-drop, List·getD-
 use lib.Seq.{drop-append-le, take-append-le, drop-drop}
 use Rattle.trace.specs.Types.{Record, BadMark, CutShort, End}
 use Rattle.trace.specs.Record.{isWrong, badMark, readingOf, stepOf, stopped, stepAt}
-use Rattle.trace.specs.Whole.{isRecord, allFrom, endFrom, wholeBlocks, wholeEnd}
+use Rattle.trace.specs.Whole.{isRecord, allFrom, endFrom, wholeCdbs, wholeEnd}
 use Rattle.trace.proofs.Laws.Record.{Marked, marked-record, step-end}
 use Rattle.trace.proofs.Laws.Whole.{by-cases, reading-step, block-step, record-found, whole-next, whole-stop}
 
@@ -65,11 +65,11 @@ bad-early a b at h =
 
 -- the records of a trace that goes on are those of its first part, and then those from its stop on
 record Goes (a b : List ℕ) (at : ℕ) : Type 0 where
-  blocks : allFrom (a ++ b) at ≡ allFrom a at ++ allFrom (a ++ b) (endFrom a at)
+  cdbs : allFrom (a ++ b) at ≡ allFrom a at ++ allFrom (a ++ b) (endFrom a at)
   end : endFrom (a ++ b) at ≡ endFrom (a ++ b) (endFrom a at)
 
 goes-stop : (a b : List ℕ) (at : ℕ) → isRecord (stepAt a at .reading) ≡ false → Goes a b at
-goes-stop a b at r = let s = whole-stop a at r in record { blocks = rw (s .0, s .1); end = rw (s .1) }
+goes-stop a b at r = let s = whole-stop a at r in record { cdbs = rw (s .0, s .1); end = rw (s .1) }
 
 goes : (k : ℕ) (a b : List ℕ) (at : ℕ) → length a ≤ at + k → Goes a b at
 goes zero a b at h = goes-stop a b at (rw (step-end a at (omega arith)))
@@ -81,7 +81,7 @@ goes (suc k) a b at h =
     let m = whole-next (a ++ b) at (rw e r) in
     let i = goes k a b (stepAt a at .next) (omega (arith, record-found a at r .next)) in
     record {
-      blocks = rw (n .more, n .onward) (m .more ∙ rw e (ap (λ (x : List (List ℕ)). stepAt a at .block ∷ x) (i .blocks)));
+      cdbs = rw (n .more, n .onward) (m .more ∙ rw e (ap (λ (x : List (List ℕ)). stepAt a at .cdb ∷ x) (i .cdbs)));
       end = rw (n .onward) (m .onward ∙ rw e (i .end));
     })
     (λ r. goes-stop a b at r)
@@ -92,7 +92,7 @@ shifted t p at = sym (drop-drop at p t)
 
 record Alike (t : List ℕ) (p at : ℕ) : Type 0 where
   reading : stepAt t (p + at) .reading ≡ stepAt (drop p t) at .reading
-  block : stepAt t (p + at) .block ≡ stepAt (drop p t) at .block
+  cdb : stepAt t (p + at) .cdb ≡ stepAt (drop p t) at .cdb
 
 alike : (t : List ℕ) (p at : ℕ) → Alike t p at
 unfolding stepAt
@@ -100,18 +100,18 @@ alike t p at =
     let l = drop at (drop p t) in
     record {
       reading = rw (shifted t p at) (reading-step (readingOf l) l (p + at) ∙ sym (reading-step (readingOf l) l at));
-      block = rw (shifted t p at) (block-step (readingOf l) l (p + at) at);
+      cdb = rw (shifted t p at) (block-step (readingOf l) l (p + at) at);
     }
 
 record Left (t : List ℕ) (p at : ℕ) : Type 0 where
-  blocks : allFrom t (p + at) ≡ allFrom (drop p t) at
+  cdbs : allFrom t (p + at) ≡ allFrom (drop p t) at
   end : endFrom t (p + at) ≡ p + endFrom (drop p t) at
 
 left-stop : (t : List ℕ) (p at : ℕ) → isRecord (stepAt (drop p t) at .reading) ≡ false → Left t p at
 left-stop t p at r =
     let s = whole-stop t (p + at) (rw (alike t p at .reading) r) in
     let u = whole-stop (drop p t) at r in
-    record { blocks = rw (s .0, u .0); end = rw (s .1, u .1) }
+    record { cdbs = rw (s .0, u .0); end = rw (s .1, u .1) }
 
 left-from : (k : ℕ) (t : List ℕ) (p at : ℕ) → length t ≤ p + at + k → Left t p at
 left-from zero t p at h = left-stop t p at (rw (step-end (drop p t) at (omega (arith, length-drop p t))))
@@ -126,7 +126,7 @@ left-from (suc k) t p at h =
     let q : p + at + 14 ≡ p + (at + 14) = omega arith in
     let i = left-from k t p (at + 14) (omega arith) in
     record {
-      blocks = rw (n .more, m .more, a .block, f .next, g .next, q) (ap (λ (x : List (List ℕ)). stepAt (drop p t) at .block ∷ x) (i .blocks));
+      cdbs = rw (n .more, m .more, a .cdb, f .next, g .next, q) (ap (λ (x : List (List ℕ)). stepAt (drop p t) at .cdb ∷ x) (i .cdbs));
       end = rw (n .onward, m .onward, f .next, g .next, q) (i .end);
     })
     (λ r. left-stop t p at r)
@@ -146,7 +146,7 @@ whole-within t = end-within (length t) t 0 (omega arith) (omega arith)
 
 -- a trace in two parts: the records of the first, and then those of what it leaves with the second after it; the whole stops as that does
 pub record InParts (a b : List ℕ) : Type 0 where
-  pub blocks : wholeBlocks (a ++ b) ≡ wholeBlocks a ++ wholeBlocks (drop (wholeEnd a) a ++ b)
+  pub cdbs : wholeCdbs (a ++ b) ≡ wholeCdbs a ++ wholeCdbs (drop (wholeEnd a) a ++ b)
   pub reading :
       stepAt (a ++ b) (wholeEnd (a ++ b)) .reading
       ≡ stepAt (drop (wholeEnd a) a ++ b) (wholeEnd (drop (wholeEnd a) a ++ b)) .reading
@@ -158,10 +158,10 @@ in-parts a b =
     let f = left-from (length (a ++ b)) (a ++ b) e 0 (omega arith) in
     let q : e + 0 ≡ e = omega arith in
     let d : drop e (a ++ b) ≡ drop e a ++ b = drop-append-le e a b (whole-within a) in
-    let l : allFrom (a ++ b) e ≡ wholeBlocks (drop e a ++ b) = ap (allFrom (a ++ b)) (sym q) ∙ f .blocks ∙ ap wholeBlocks d in
+    let l : allFrom (a ++ b) e ≡ wholeCdbs (drop e a ++ b) = ap (allFrom (a ++ b)) (sym q) ∙ f .cdbs ∙ ap wholeCdbs d in
     let n : endFrom (a ++ b) e ≡ e + wholeEnd (drop e (a ++ b)) = ap (endFrom (a ++ b)) (sym q) ∙ f .end in
     record {
-      blocks = g .blocks ∙ ap (λ (x : List (List ℕ)). wholeBlocks a ++ x) l;
+      cdbs = g .cdbs ∙ ap (λ (x : List (List ℕ)). wholeCdbs a ++ x) l;
       reading =
           ap (λ (x : ℕ). stepAt (a ++ b) x .reading) (g .end ∙ n)
           ∙ alike (a ++ b) e (wholeEnd (drop e (a ++ b))) .reading

@@ -11,7 +11,7 @@ use lib.ListN.{length, take, drop, length-append, length-take, length-drop, take
 use lib.Seq.{take-at, drop-at, drop-cons, drop-drop}
 use Rattle.trace.specs.Types.{Reading, Record, BadMark, CutShort, End}
 use Rattle.trace.specs.Record.{readingOf, stepOf, stepAt}
-use Rattle.trace.specs.Whole.{isRecord, blocks, behind, traceOf, allTwelve, allFrom, endFrom, wholeBlocks, wholeEnd}
+use Rattle.trace.specs.Whole.{isRecord, cdbs, behind, traceOf, allTwelve, allFrom, endFrom, wholeCdbs, wholeEnd}
 use Rattle.trace.proofs.Laws.Record.{Marked, record-marked, marked-record, step-none, step-end}
 
 pub by-cases {ℓ} : {P : Type ℓ} (b : Bool) → (b ≡ true → P) → (b ≡ false → P) → P
@@ -33,7 +33,7 @@ reading-step CutShort left at = refl
 reading-step End left at = refl
 
 -- the block does not depend on the position that the bytes are said to stand at
-pub block-step : (r : Reading) (left : List ℕ) (at bt : ℕ) → stepOf r left at .block ≡ stepOf r left bt .block
+pub block-step : (r : Reading) (left : List ℕ) (at bt : ℕ) → stepOf r left at .cdb ≡ stepOf r left bt .cdb
 unfolding stepOf
 block-step Record left at bt = refl
 block-step BadMark left at bt = refl
@@ -42,7 +42,7 @@ block-step End left at bt = refl
 
 pub record Found (t : List ℕ) (at : ℕ) : Type 0 where
   pub marked : Marked (drop at t)
-  pub block : stepAt t at .block ≡ take 12 (drop 2 (drop at t))
+  pub cdb : stepAt t at .cdb ≡ take 12 (drop 2 (drop at t))
   pub next : stepAt t at .next ≡ at + 14
 
 pub record-found : (t : List ℕ) (at : ℕ) → isRecord (stepAt t at .reading) ≡ true → Found t at
@@ -50,7 +50,7 @@ unfolding stepAt stepOf
 record-found t at h =
     let l = drop at t in
     let r : readingOf l ≡ Record = is-record (readingOf l) (ap isRecord (sym (reading-step (readingOf l) l at)) ∙ h) in
-    record { marked = record-marked l r; block = rw r; next = rw r }
+    record { marked = record-marked l r; cdb = rw r; next = rw r }
 
 -- what is left at a record is the mark, its block, and what is left after it
 marked-split : (l : List ℕ) → Marked l → l ≡ 0xA5 ∷ 0x5A ∷ take 12 (drop 2 l) ++ drop 14 l
@@ -62,36 +62,36 @@ marked-split l m =
     ∙ ap (λ (x : List ℕ). 0xA5 ∷ 0x5A ∷ x) (sym (take-append-drop 12 (drop 2 l)) ∙ ap (λ (x : List ℕ). take 12 (drop 2 l) ++ x) (drop-drop 12 2 l))
 
 -- the records read from a position on, put back after their marks, and what is left at the stop are the trace from that position on
-pub split-from : (n : ℕ) (t : List ℕ) (at : ℕ) → traceOf (blocks n t at) ++ drop (behind n t at) t ≡ drop at t
-unfolding blocks behind traceOf
+pub split-from : (n : ℕ) (t : List ℕ) (at : ℕ) → traceOf (cdbs n t at) ++ drop (behind n t at) t ≡ drop at t
+unfolding cdbs behind traceOf
 split-from zero t at = refl
 split-from (suc n) t at =
     by-cases (isRecord (stepAt t at .reading))
     (λ h.
     let f = record-found t at h in
     let l = drop at t in
-    rw (h, f .block, f .next)
+    rw (h, f .cdb, f .next)
     (ap (λ (x : List ℕ). 0xA5 ∷ 0x5A ∷ x)
-    (append-assoc (take 12 (drop 2 l)) (traceOf (blocks n t (at + 14))) (drop (behind n t (at + 14)) t)
+    (append-assoc (take 12 (drop 2 l)) (traceOf (cdbs n t (at + 14))) (drop (behind n t (at + 14)) t)
     ∙ ap (λ (x : List ℕ). take 12 (drop 2 l) ++ x) (split-from n t (at + 14) ∙ sym (drop-drop 14 at t)))
     ∙ sym (marked-split l (f .marked))))
     (λ h. rw h)
 
 -- for a whole trace
-pub split : (t : List ℕ) → traceOf (wholeBlocks t) ++ drop (wholeEnd t) t ≡ t
+pub split : (t : List ℕ) → traceOf (wholeCdbs t) ++ drop (wholeEnd t) t ≡ t
 split t = split-from (length t) t 0
 
 -- each block has twelve bytes
-pub blocks-twelve : (n : ℕ) (t : List ℕ) (at : ℕ) → allTwelve (blocks n t at) ≡ true
-unfolding blocks allTwelve
-blocks-twelve zero t at = refl
-blocks-twelve (suc n) t at =
+pub cdbs-twelve : (n : ℕ) (t : List ℕ) (at : ℕ) → allTwelve (cdbs n t at) ≡ true
+unfolding cdbs allTwelve
+cdbs-twelve zero t at = refl
+cdbs-twelve (suc n) t at =
     by-cases (isRecord (stepAt t at .reading))
     (λ h.
     let f = record-found t at h in
     let l = drop at t in
     let k : length (take 12 (drop 2 l)) ≡ 12 = simp (length-take, length-drop 2 l) (omega (arith, f .marked .long)) in
-    rw (h, f .block, eq-eqb (length (take 12 (drop 2 l))) 12 k) (blocks-twelve n t (stepAt t at .next)))
+    rw (h, f .cdb, eq-eqb (length (take 12 (drop 2 l))) 12 k) (cdbs-twelve n t (stepAt t at .next)))
     (λ h. rw h)
 
 -- where the reader stops there is no record
@@ -112,7 +112,7 @@ made-marked b r h = record { long = omega (arith, length-append b r); first = re
 
 record Made (t : List ℕ) (at : ℕ) (b r : List ℕ) : Type 0 where
   is : isRecord (stepAt t at .reading) ≡ true
-  block : stepAt t at .block ≡ b
+  cdb : stepAt t at .cdb ≡ b
   next : stepAt t at .next ≡ at + 14
   rest : drop (at + 14) t ≡ r
 
@@ -122,15 +122,15 @@ made t at b r h e =
     let k : readingOf (drop at t) ≡ Record = ap readingOf e ∙ marked-record _ (made-marked b r h) in
     record {
       is = rw k;
-      block = rw (k, e) (take-at b r 12 h);
+      cdb = rw (k, e) (take-at b r 12 h);
       next = rw k;
       rest = sym (drop-drop 14 at t) ∙ rw e (drop-at b r 12 h);
     }
 
 read-from :
     (bs : List (List ℕ)) (n : ℕ) (t : List ℕ) (at : ℕ) → allTwelve bs ≡ true → drop at t ≡ traceOf bs → length bs ≤ n
-    → (blocks n t at ≡ bs) × (behind n t at ≡ at + length (traceOf bs))
-unfolding blocks behind traceOf allTwelve
+    → (cdbs n t at ≡ bs) × (behind n t at ≡ at + length (traceOf bs))
+unfolding cdbs behind traceOf allTwelve
 read-from [] zero t at a e h = (refl, omega arith)
 read-from [] (suc n) t at a e h = (rw (step-none t at e), rw (step-none t at e) (omega arith))
 read-from (b ∷ bs) zero t at a e h = absurd (not-suc-le-zero h)
@@ -139,7 +139,7 @@ read-from (b ∷ bs) (suc n) t at a e h =
     let twelve : length b ≡ 12 = eqb-true (length b) 12 (w .0) in
     let m = made t at b (traceOf bs) twelve e in
     let r = read-from bs n t (at + 14) (w .1) (m .rest) (le-of-suc-le-suc h) in (
-      rw (m .is, m .block, m .next) (ap (λ (x : List (List ℕ)). b ∷ x) (r .0)),
+      rw (m .is, m .cdb, m .next) (ap (λ (x : List (List ℕ)). b ∷ x) (r .0)),
       rw (m .is, m .next) (r .1 ∙ omega (arith, length-append b (traceOf bs))),
     )
 
@@ -150,7 +150,7 @@ fewer [] = omega arith
 fewer (b ∷ bs) = omega (arith, fewer bs, length-append b (traceOf bs))
 
 -- a trace made of blocks is read as exactly those, and then it is at its end
-pub read-back : (bs : List (List ℕ)) → allTwelve bs ≡ true → wholeBlocks (traceOf bs) ≡ bs
+pub read-back : (bs : List (List ℕ)) → allTwelve bs ≡ true → wholeCdbs (traceOf bs) ≡ bs
 read-back bs a = read-from bs (length (traceOf bs)) (traceOf bs) 0 a refl (fewer bs) .0
 
 pub read-back-end : (bs : List (List ℕ)) → allTwelve bs ≡ true → wholeEnd (traceOf bs) ≡ length (traceOf bs)
@@ -158,30 +158,30 @@ read-back-end bs a = read-from bs (length (traceOf bs)) (traceOf bs) 0 a refl (f
 
 -- room for one record more changes nothing where there are no more bytes than records to come
 enough :
-    (n : ℕ) (t : List ℕ) (at : ℕ) → length t ≤ at + n → (blocks (suc n) t at ≡ blocks n t at) × (behind (suc n) t at ≡ behind n t at)
-unfolding blocks behind
+    (n : ℕ) (t : List ℕ) (at : ℕ) → length t ≤ at + n → (cdbs (suc n) t at ≡ cdbs n t at) × (behind (suc n) t at ≡ behind n t at)
+unfolding cdbs behind
 enough zero t at h = (rw (step-end t at (omega arith)), rw (step-end t at (omega arith)))
 enough (suc n) t at h =
     by-cases (isRecord (stepAt t at .reading))
     (λ r.
     let f = record-found t at r in
     let i = enough n t (at + 14) (omega arith) in (
-      rw (r, f .next) (ap (λ (x : List (List ℕ)). stepAt t at .block ∷ x) (i .0)),
+      rw (r, f .next) (ap (λ (x : List (List ℕ)). stepAt t at .cdb ∷ x) (i .0)),
       rw (r, f .next) (i .1),
     ))
     (λ r. (rw r, rw r))
 
 -- one record more: the first of those from its position on, and then those after it
 pub record Next (t : List ℕ) (at : ℕ) : Type 0 where
-  pub more : allFrom t at ≡ stepAt t at .block ∷ allFrom t (stepAt t at .next)
+  pub more : allFrom t at ≡ stepAt t at .cdb ∷ allFrom t (stepAt t at .next)
   pub onward : endFrom t at ≡ endFrom t (stepAt t at .next)
 
 next-of : (t : List ℕ) (at m : ℕ) → isRecord (stepAt t at .reading) ≡ true → length t ≡ suc m → Next t at
-unfolding blocks behind
+unfolding cdbs behind
 next-of t at m h q =
     let i = enough m t (stepAt t at .next) (omega (arith, record-found t at h .next)) in
     record {
-      more = rw (q, h) (ap (λ (x : List (List ℕ)). stepAt t at .block ∷ x) (sym (i .0)));
+      more = rw (q, h) (ap (λ (x : List (List ℕ)). stepAt t at .cdb ∷ x) (sym (i .0)));
       onward = rw (q, h) (sym (i .1));
     }
 
@@ -190,8 +190,8 @@ whole-next t at h =
     next-of t at (length t - 1) h (omega (arith, record-found t at h .marked .long, length-drop at t))
 
 -- no record, so none from there on
-none-of : (n : ℕ) (t : List ℕ) (at : ℕ) → isRecord (stepAt t at .reading) ≡ false → (blocks n t at ≡ []) × (behind n t at ≡ at)
-unfolding blocks behind
+none-of : (n : ℕ) (t : List ℕ) (at : ℕ) → isRecord (stepAt t at .reading) ≡ false → (cdbs n t at ≡ []) × (behind n t at ≡ at)
+unfolding cdbs behind
 none-of zero t at h = (refl, refl)
 none-of (suc n) t at h = (rw h, rw h)
 

@@ -24,7 +24,7 @@ returns : tie.Need-returns
 returns c =
     let start = c .before .before .before .before .before .before .before in
     let s = drive (start .args .disc) (start .args .medium .now) (start .args .pending .now) in
-    let q = request (start .args .block .now) (start .args .«data» .now) (start .args .reply .now) in
+    let q = request (start .args .cdb .now) (start .args .«data» .now) (start .args .reply .now) in
     refused-answered s q CommandBlockLength (c .refused .result) (verdict-block s q (c .before .if1 .taken)) (c .refused .ensures)
 
 -- src/entry.rt:83:9
@@ -40,7 +40,7 @@ returns-2 : tie.Need-returns-2
 returns-2 c =
     let start = c .before .before .before .before .before .before .before .before .before in
     let s = drive (start .args .disc) (start .args .medium .now) (start .args .pending .now) in
-    let q = request (start .args .block .now) (start .args .«data» .now) (start .args .reply .now) in
+    let q = request (start .args .cdb .now) (start .args .«data» .now) (start .args .reply .now) in
     let l : lent (s .disc) (length (s .medium)) (length (s .pending)) ≡ false = sym (c .before .before .is-lent .ensures) ∙ not-true _ (c .before .if2 .taken) in
     refused-answered s q MediumSize (c .refused2 .result) (verdict-lent s q (c .before .before .before .if1 .left) l) (c .refused2 .ensures)
 
@@ -53,7 +53,7 @@ carry-out-requires : tie.Need-carry-out-requires
 carry-out-requires c κs =
     let start = c .before .before .before .before .before .before .before .before .before .before .before .before in
     let s = drive (start .args .disc) (start .args .medium .now) (start .args .pending .now) in
-    let q = request (start .args .block .now) (start .args .«data» .now) (start .args .reply .now) in
+    let q = request (start .args .cdb .now) (start .args .«data» .now) (start .args .reply .now) in
     rw (c .before .before .before .judge .ensures .verdict) (judge-feasible s q (c .before .before .before .before .before .before .if1 .left) (sym (c .before .before .before .before .before .is-lent .ensures) ∙ not-false _ (c .before .before .before .before .if2 .left)))
 
 -- src/entry.rt:70:1
@@ -73,7 +73,7 @@ returns-3 : tie.Need-returns-3
 returns-3 c =
     let start = c .before .before .before .before .before .before .before .before .before .before .before .before .before .before .before .before .before .before .before in
     let s = drive (start .args .disc) (start .args .medium .now) (start .args .pending .now) in
-    let q = request (start .args .block .now) (start .args .«data» .now) (start .args .reply .now) in
+    let q = request (start .args .cdb .now) (start .args .«data» .now) (start .args .reply .now) in
     let l : lent (s .disc) (length (s .medium)) (length (s .pending)) ≡ true = sym (c .before .before .before .before .before .before .before .before .before .before .before .before .is-lent .ensures) ∙ not-false _ (c .before .before .before .before .before .before .before .before .before .before .before .if2 .left) in
     let same = c .before .before .before .before .before .before .before .before .before .before .judge .ensures .verdict ∙ verdict-judge s q (c .before .before .before .before .before .before .before .before .before .before .before .before .before .if1 .left) l in
     verdict-answered s q (c .before .before .before .before .before .before .before .before .before .before .judge .result) (c .before .before .before .before .before .before .carry-out .result) (c .before .before .before .before .before .before .carry-out .last .1 .1 .1 .1 .0) (c .before .before .before .before .before .before .carry-out .last .1 .1 .1 .1 .1 .0) (c .before .before .before .before .before .before .carry-out .last .1 .1 .1 .1 .1 .1 .0) same (c .before .before .before .before .before .before .carry-out .ensures)

@@ -27,12 +27,12 @@ same-length c = search needs
 returns : tie.Need-returns
 returns c =
     let s = c .before .before .before .before .before .before .before .before .before .args in
-    let all : take (2048 * s .left) (s .sectors .now) ≡ s .sectors .now = take-all (2048 * s .left) (s .sectors .now) (omega arith) in
+    let all : take (2048 * s .left) (s .payload .now) ≡ s .payload .now = take-all (2048 * s .left) (s .payload .now) (omega arith) in
     let few = c .before .before .before .before .before .missing .ensures in (
       (omega arith, omega arith),
       (
-        few-medium (s .block .0) (s .held) (s .left) (s .medium .now) (s .pending .now) (take (2048 * s .left) (s .sectors .now)) (omega (arith, few)),
-        rw all (few-pending (s .held) (s .left) (s .pending .now) (s .sectors .now) (c .before .before .put .last .0) (omega (arith, few)) (omega arith) (omega arith) (c .before .before .put .ensures)),
+        few-medium (s .block .0) (s .held) (s .left) (s .medium .now) (s .pending .now) (take (2048 * s .left) (s .payload .now)) (omega (arith, few)),
+        rw all (few-pending (s .held) (s .left) (s .pending .now) (s .payload .now) (c .before .before .put .last .0) (omega (arith, few)) (omega arith) (omega arith) (c .before .before .put .ensures)),
       ),
     )
 
@@ -71,10 +71,10 @@ returns-2 c =
     let s = c .before .before .before .before .before .before .before .before .before .before .before .before .args in
     let k = c .before .before .before .before .before .before .before .before .missing .result in
     let few = c .before .before .before .before .before .before .before .before .missing .ensures in
-    let x = take (2048 * k) (s .sectors .now) in
+    let x = take (2048 * k) (s .payload .now) in
     let f : 2048 * s .held - 0 ≡ 2048 * s .held = omega arith in
     let g : 2048 * k - 0 ≡ 2048 * k = omega arith in
-    let l : length x ≡ 2048 * k = length-take-le (2048 * k) (s .sectors .now) (omega arith) in (
+    let l : length x ≡ 2048 * k = length-take-le (2048 * k) (s .payload .now) (omega arith) in (
       (omega (arith, few), omega arith),
       (
         (rw (f, g) at (c .before .before .record-parts .ensures)) ∙ full-medium (s .block .0) (s .held) k (s .medium .now) (s .pending .now) x (omega (arith, few)) l (omega arith),

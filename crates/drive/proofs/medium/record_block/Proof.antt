@@ -23,7 +23,7 @@ same-length c = search needs
 
 -- src/medium.rt:37:1
 returns : tie.Need-returns
-returns c = c .before .before .record-parts .ensures ∙ ap (λ (x : List ℕ). splice (c .before .before .before .before .before .before .before .args .medium .now) (32768 * c .before .before .before .before .before .before .before .args .block .0) (padded x)) (append-nil (c .before .before .before .before .before .before .before .args .sectors .now))
+returns c = c .before .before .record-parts .ensures ∙ ap (λ (x : List ℕ). splice (c .before .before .before .before .before .before .before .args .medium .now) (32768 * c .before .before .before .before .before .before .before .args .block .0) (padded x)) (append-nil (c .before .before .before .before .before .before .before .args .payload .now))
 
 pub record-block-spec : {M : Type 1} → statement M
 record-block-spec =

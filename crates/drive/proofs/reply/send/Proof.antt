@@ -19,7 +19,7 @@ enum-told c = search needs
 send-run-requires : tie.Need-send-run-requires
 send-run-requires c κs =
     let start = c .before .before .before .before .before .before in
-    let e = run-sent (start .args .disc) (start .args .block .now) (start .args .medium .now) (start .args .transfer) (start .args .report) (length (start .args .reply .now)) (start .pre) _ _ (c .before .enum-told .given .1) in
+    let e = run-sent (start .args .disc) (start .args .cdb .now) (start .args .medium .now) (start .args .transfer) (start .args .report) (length (start .args .reply .now)) (start .pre) _ _ (c .before .enum-told .given .1) in
     omega (arith, ap length e, start .pre .room)
 
 -- src/reply.rt:51:14
@@ -34,7 +34,7 @@ same-length c = search needs
 returns : tie.Need-returns
 returns c =
     let start = c .before .before .before .before .before .before .before .before .before in
-    let e = run-sent (start .args .disc) (start .args .block .now) (start .args .medium .now) (start .args .transfer) (start .args .report) (length (start .args .reply .now)) (start .pre) _ _ (c .before .before .before .before .enum-told .given .1) in
+    let e = run-sent (start .args .disc) (start .args .cdb .now) (start .args .medium .now) (start .args .transfer) (start .args .report) (length (start .args .reply .now)) (start .pre) _ _ (c .before .before .before .before .enum-told .given .1) in
     (c .before .before .send-run .ensures .0 ∙ ap length e, c .before .before .send-run .ensures .1 ∙ ap (splice (start .args .reply .now) 0) e)
 
 -- src/reply.rt:37:1

@@ -19,7 +19,7 @@ recorded-run-requires c κs = search needs
 put-requires : tie.Need-put-requires
 put-requires c κs =
     let start = c .before .before .before .before .before in
-    let e : length (c .before .recorded-run .result .now) ≡ length (recordedRun (start .args .disc) (start .args .block .now) (start .args .medium .now)) = ap length (c .before .recorded-run .ensures .stretch) in
+    let e : length (c .before .recorded-run .result .now) ≡ length (recordedRun (start .args .disc) (start .args .cdb .now) (start .args .medium .now)) = ap length (c .before .recorded-run .ensures .stretch) in
     omega (arith, e, start .pre)
 
 -- src/reply.rt:26:1

@@ -30,8 +30,8 @@ classify-requires c κs = search needs
 enum-told : tie.Need-enum-told
 enum-told c = search needs
 
-block-of-requires : tie.Need-block-of-requires
-block-of-requires c κs = record-marked _ (sym (c .before .before .classify .ensures) ∙ c .enum-told .given .1) .long
+cdb-of-requires : tie.Need-cdb-of-requires
+cdb-of-requires c κs = record-marked _ (sym (c .before .before .classify .ensures) ∙ c .enum-told .given .1) .long
 
 add-t13 : tie.Need-add-t13
 add-t13 c = search needs
@@ -46,7 +46,7 @@ returns-2 c =
     let q = rest-part (s .trace .now) (s .at) in
     let r : readingOf (drop (s .at) (s .trace .now)) ≡ Record =
     ap readingOf (sym q) ∙ sym (c .before .before .before .classify .ensures) ∙ c .before .enum-told .given .1 in
-    rw (c .block-of .ensures, q, r)
+    rw (c .cdb-of .ensures, q, r)
 
 returns-3 : tie.Need-returns-3
 unfolding stepAt
@@ -67,7 +67,7 @@ find-record-spec =
     part-left-end
     classify-requires
     enum-told
-    block-of-requires
+    cdb-of-requires
     add-t13
     stopped-requires-2
     returns-2

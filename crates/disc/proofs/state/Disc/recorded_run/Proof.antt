@@ -19,7 +19,7 @@ enum-known-command c = search needs
 run-requires : tie.Need-run-requires
 run-requires c κs =
     let start = c .before .before .before .before .before .before .before .before .args in
-    let b = length (start .block .now) in
+    let b = length (start .cdb .now) in
     let m = length (start .medium .now) in
     let e : served (start .self) b m ≡ true = sym (c .before .before .before .before .before .serves .ensures) ∙ c .before .before .before .before .if1 .taken in
     (served-ready (start .self) b m e, served-medium (start .self) b m e)

@@ -5,26 +5,26 @@ use Prim.Native.Nat.{_-_, _≤_}
 use native.Mathlib.Numerals.{add-one}
 use lib.ListN.{length, take, drop, length-drop, length-set}
 use lib.Seq.{take-suc, take-suc-set, getD-drop, take-all}
-use Rattle.trace.proofs.record.block_of.Statement.{statement}
-use Rattle.trace.proofs.record.block_of.Tie as tie
+use Rattle.trace.proofs.record.cdb_of.Statement.{statement}
+use Rattle.trace.proofs.record.cdb_of.Tie as tie
 
 abbrev Inv-loop : tie.InvT-loop
-Inv-loop left block₀ i₀ block i = (i ≤ 12) × (length block ≡ 12) × (take i block ≡ take i (drop 2 left))
+Inv-loop left block₀ i₀ cdb i = (i ≤ 12) × (length cdb ≡ 12) × (take i cdb ≡ take i (drop 2 left))
 
 abbrev μ-loop : tie.MeasureT-loop
-μ-loop left block₀ i₀ block i = 12 - i
+μ-loop left block₀ i₀ cdb i = 12 - i
 
 loop-holds : tie.Need-loop-holds Inv-loop μ-loop
 loop-holds c = (search needs, refl, refl)
 
-add-block : tie.Need-add-block Inv-loop μ-loop
-add-block c = search needs
+add-cdb : tie.Need-add-cdb Inv-loop μ-loop
+add-cdb c = search needs
 
-shared-slice-read-block : tie.Need-shared-slice-read-block Inv-loop μ-loop
-shared-slice-read-block c = search needs
+shared-slice-read-cdb : tie.Need-shared-slice-read-cdb Inv-loop μ-loop
+shared-slice-read-cdb c = search needs
 
-array-write-block : tie.Need-array-write-block Inv-loop μ-loop
-array-write-block c = search needs
+array-write-cdb : tie.Need-array-write-cdb Inv-loop μ-loop
+array-write-cdb c = search needs
 
 add-i : tie.Need-add-i Inv-loop μ-loop
 add-i c = search needs
@@ -41,7 +41,7 @@ loop-again c =
       simp length-set (l .loop .inv .1),
       rw (
         add-one,
-        take-suc-set (l .loop .block) (l .loop .i) _ (omega arith),
+        take-suc-set (l .loop .cdb) (l .loop .i) _ (omega arith),
         take-suc (drop 2 t) (l .loop .i) 0 (omega arith),
         getD-drop,
         l .loop .inv .2,
@@ -52,18 +52,18 @@ returns : tie.Need-returns Inv-loop μ-loop
 returns c =
     let l = c .before in
     let q : l .loop .i ≡ 12 = omega arith in
-    sym (take-all 12 (l .loop .block) (omega arith)) ∙ (rw q at (l .loop .inv .2))
+    sym (take-all 12 (l .loop .cdb) (omega arith)) ∙ (rw q at (l .loop .inv .2))
 
-pub block-of-spec : {M : Type 1} → statement M
-block-of-spec =
+pub cdb-of-spec : {M : Type 1} → statement M
+cdb-of-spec =
     tie.close
     (tie.spec
     Inv-loop
     μ-loop
     loop-holds
-    add-block
-    shared-slice-read-block
-    array-write-block
+    add-cdb
+    shared-slice-read-cdb
+    array-write-cdb
     add-i
     loop-less
     loop-again

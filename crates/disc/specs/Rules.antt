@@ -1,5 +1,5 @@
--- The rules of a sound list at indices, from 0 along the records: the form that a reader checks against document 01 and that proofs
--- use. proofs/Laws/Rules has both directions between it and the test `sound`.
+-- The rules of a sound list at indices, from 0 along the records, as proofs use them. Sound.antt decides: proofs/Laws/Rules has both
+-- directions between it and this form, so that a reader need not believe this file.
 use Prim.Native.Nat.{ℕ, suc, _+_, _≤_, _<_}
 use mathlib.Core.Path.{_≡_}
 use mathlib.Core.Bool.{true, false}

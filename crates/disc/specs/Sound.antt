@@ -1,4 +1,4 @@
--- The rules of a "sound list", one definition a rule, and the states that L3 lets through.
+-- The rules of a "sound list", one definition a rule, and the states that L3 lets through. This file decides what is sound.
 use Prim.Native.Nat.{ℕ, _+_}
 use mathlib.Core.Bool.{Bool, true, false, not, cond, _&&_, _||_}
 use mathlib.Core.List.{List, [], _∷_}

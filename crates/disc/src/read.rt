@@ -1,4 +1,4 @@
-// 28h READ.
+// READ (28h): the run must end within the disc and be recorded.
 use crate::state::Disc;
 use crate::verdict::Flush;
 use crate::verdict::Plan;

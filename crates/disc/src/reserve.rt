@@ -1,4 +1,4 @@
-// 53h.
+// RESERVE TRACK (53h): the blank tail becomes a reserved fragment and a tail after it.
 use crate::change;
 use crate::state::Disc;
 use crate::verdict::Plan;
@@ -26,7 +26,7 @@ impl Disc {
         self.with_record(number, f).with_record(number + 1, rest)
     }
 
-    // 53h.
+    // RESERVE TRACK.
     pub(crate) fn reserve(self, size: u32) -> Verdict
         requires { ⌜ Ready self ⌝ }
         ensures { λ r. ⌜ r ≡ reserve self size ⌝ }

@@ -39,7 +39,8 @@ impl Disc {
         &medium[0..0]
     }
 
-    // The recorded run of an accepted 28h of length 1 up, in place; an empty part for every other input.
+    // The recorded run of an accepted 28h of length 1 up, in place; an empty part for every other input. It sees command block, state and
+    // medium: a 28h that is refused for the lengths of data, reply or pending buffer has its run here all the same.
     pub fn recorded_run<'a>(self, cdb: &[u8], medium: &'a [u8]) -> &'a [u8]
         ensures { λ r. ⌜ RunOf self (now (cdb .entry)) (now (medium .entry)) (now r) ⌝ }
     {

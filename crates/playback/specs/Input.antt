@@ -7,7 +7,7 @@ use lib.ListN.{length, take, drop}
 use Rattle.trace.specs.Record.{stepAt}
 use Rattle.trace.specs.Whole.{wholeCdbs, wholeEnd}
 use Rattle.playback.specs.Types.{Reading, Record, BadMark, CutShort, End, Replay, Stop, Input, Progress}
-use Rattle.playback.specs.Replay.{replayed}
+use Rattle.playback.specs.Replay.{start, replayed}
 
 -- exactly the records that the record reader finds in the bytes held are played, up to its stop
 pub record Stopped (before : Replay) (held : List ℕ) (r : Stop) : Type 0 where
@@ -49,3 +49,8 @@ pub record WentOn (before : Progress) (buffer after : List ℕ) (r : Progress) :
   pub behind : r .ended ≡ false → before .filled - wholeEnd (take (before .filled) buffer) ≤ r .filled
   pub within : r .filled ≤ length after
   pub same : length after ≡ length buffer
+
+-- where some records lead from the start: what holds of a replay whose input nobody knows
+pub record Reached (r : Replay) : Type 0 where
+  pub cdbs : List (List ℕ)
+  pub replay : r ≡ replayed start cdbs

@@ -8,7 +8,7 @@ use trace::Reading;
 ghost use mathlib.Core.Path.{_≡_};
 ghost use Prim.Native.Nat.{_≤_, _<_};
 ghost use lib.ListN.{length};
-ghost use Rattle.playback.specs.Input.{whole, over, Stopped, Carried, Brought, WentOn};
+ghost use Rattle.playback.specs.Input.{Reached, whole, over, Stopped, Carried, Brought, WentOn};
 
 // Where the records of the bytes held end: the replay after them, the position, and what stands there.
 struct Stop {
@@ -155,8 +155,17 @@ fn go_on(fd: i32, buffer: &mut [u8], progress: Progress) -> Progress
     }
 }
 
-// Replays the trace that an open file holds, on standard output. Answers whether it was whole and could be read.
-pub fn replay_from(fd: i32) -> bool {
+// Where a replay led, and whether its trace was whole and could be read.
+pub struct Ending {
+    pub replay: Replay,
+    pub whole: bool,
+}
+
+// Replays the trace that an open file holds, on standard output. What is read no contract can say; where it leads is where its records
+// lead, whatever they are.
+pub fn replay_from(fd: i32) -> Ending
+    ensures { λ r. ⌜ Reached (r .replay) ⌝ }
+{
     io::write_all(STDOUT_FILENO, b"n op key asc ascq next\n");
     let mut space = io::buffer();
     let buffer: &mut [u8] = &mut space;
@@ -171,9 +180,17 @@ pub fn replay_from(fd: i32) -> bool {
     while turns > 0 {
         progress = go_on(fd, buffer, progress);
         if progress.ended {
-            return progress.whole;
+            let replay = progress.replay;
+            return Ending {
+                replay,
+                whole: progress.whole,
+            };
         }
         turns -= 1;
     }
-    false
+    let replay = progress.replay;
+    Ending {
+        replay,
+        whole: false,
+    }
 }

@@ -4,6 +4,7 @@ mod input;
 mod line;
 mod replay;
 
+pub use input::Ending;
 pub use input::replay_from;
 pub use line::Line;
 pub use replay::Played;

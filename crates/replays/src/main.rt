@@ -13,7 +13,8 @@ fn replay_argument(index: usize) {
     }
     io::write_all(STDOUT_FILENO, &path[..length]);
     io::write_all(STDOUT_FILENO, b":\n");
-    if !playback::replay_from(fd) {
+    let ending = playback::replay_from(fd);
+    if !ending.whole {
         io::write_all(STDERR_FILENO, b"in ");
         io::write_all(STDERR_FILENO, &path[..length]);
         io::write_all(STDERR_FILENO, b"\n");

@@ -3,7 +3,7 @@ use mathlib.Core.Path.{_≡_, sym, ap, _∙_}
 use mathlib.Core.Bool.{Bool, true, false, true≢false}
 use Prim.Native.Nat.{ℕ, _-_, _≤_, _<_}
 use native.Mathlib.Omega.{arith}
-use mathlib.Core.List.{List, [], _∷_}
+use mathlib.Core.List.{List, [], _∷_, _++_}
 use types.Run.{OneOf, miss}
 use denote.Enum.Declared.{tagOf}
 use lib.ListN.{length, take, drop, length-take, length-drop}
@@ -14,7 +14,9 @@ use Rattle.trace.proofs.Laws.Record.{few-left}
 use Rattle.trace.proofs.Laws.Whole.{reading-step, whole-stops}
 use Rattle.trace.proofs.Laws.Parts.{whole-within}
 use Rattle.playback.specs.Types.{Reading, Record, BadMark, CutShort, End, Replay, Stop, Input, Progress}
-use Rattle.playback.specs.Input.{over, Stopped, Carried, Brought, WentOn}
+use Rattle.playback.specs.Input.{over, Stopped, Carried, Brought, WentOn, Reached}
+use Rattle.playback.specs.Replay.{start, replayed}
+use Rattle.playback.proofs.Laws.Replays.{replayed-append}
 
 -- where the records end: within the bytes held, and with less than a record left unless a mark is wrong
 pub stop-within : (before : Replay) (held : List ℕ) (s : Stop) → Stopped before held s → s .at ≤ length held
@@ -85,3 +87,13 @@ module _ (p : Progress) (b : List ℕ) (s : Stop) (fits : p .filled ≤ length b
         within = omega (arith, m .within, m .same);
         same = m .same ∙ c .same;
       }
+
+-- no record yet
+pub reached-start : (r : Replay) → r ≡ start → Reached r
+unfolding replayed
+reached-start r e = record { cdbs = []; replay = e }
+
+-- some records more
+pub reached-on : (r s : Replay) (cs : List (List ℕ)) → Reached r → s ≡ replayed r cs → Reached s
+reached-on r s cs h e =
+    record { cdbs = h .cdbs ++ cs; replay = e ∙ (ap (λ x. replayed x cs) (h .replay) ∙ sym (replayed-append start (h .cdbs) cs)) }

@@ -3,11 +3,13 @@ use mathlib.Core.Path.{_≡_, _∙_}
 use native.Mathlib.Omega.{arith}
 use Prim.Native.Nat.{_≤_}
 use lib.ListN.{length}
+use Rattle.playback.specs.Input.{Reached}
+use Rattle.playback.proofs.Laws.Inputs.{reached-start, reached-on}
 use Rattle.playback.proofs.input.replay_from.Statement.{statement}
 use Rattle.playback.proofs.input.replay_from.Tie as tie
 
 abbrev Inv-loop : tie.InvT-loop
-Inv-loop fd buffer₀ progress₀ turns₀ buffer progress turns = (length buffer ≡ 4096) × (progress .filled ≤ 4096)
+Inv-loop fd buffer₀ progress₀ turns₀ buffer progress turns = (length buffer ≡ 4096) × (progress .filled ≤ 4096) × Reached (progress .replay)
 
 abbrev μ-loop : tie.MeasureT-loop
 μ-loop fd buffer₀ progress₀ turns₀ buffer progress turns = turns
@@ -28,13 +30,14 @@ start-requires : tie.Need-start-requires Inv-loop μ-loop
 start-requires c κs = search needs
 
 loop-holds : tie.Need-loop-holds Inv-loop μ-loop
-loop-holds c = search needs
+loop-holds c =
+    (search needs, omega arith, reached-start _ (c .start .ensures))
 
 go-on-requires : tie.Need-go-on-requires Inv-loop μ-loop
 go-on-requires c κs = search needs
 
 returns : tie.Need-returns Inv-loop μ-loop
-returns c = tt
+returns c = reached-on _ _ _ (c .before .before .before .before .before .before .before .before .loop .inv .2) (c .before .before .before .before .before .go-on .ensures .replay)
 
 sub-turns : tie.Need-sub-turns Inv-loop μ-loop
 sub-turns c = search needs
@@ -46,10 +49,10 @@ loop-again : tie.Need-loop-again Inv-loop μ-loop
 loop-again c =
     let w = c .before .before .before .go-on .ensures in
     let l = c .before .before .before .before .before .before .loop .inv in
-    (w .same ∙ l .0, omega (arith, w .within, w .same, l .0))
+    (w .same ∙ l .0, omega (arith, w .within, w .same, l .0), reached-on _ _ _ (l .2) (w .replay))
 
 returns-2 : tie.Need-returns-2 Inv-loop μ-loop
-returns-2 c = tt
+returns-2 c = c .before .before .before .loop .inv .2
 
 pub replay-from-spec : {M : Type 1} → statement M
 replay-from-spec =

@@ -5,6 +5,7 @@ mod blank;
 mod change;
 mod check;
 mod close;
+mod decision;
 mod find;
 mod flush;
 mod judge;
@@ -17,6 +18,10 @@ mod verdict;
 mod write;
 
 pub use blank::Blank;
+pub use decision::Change;
+pub use decision::Decision;
+pub use decision::Effect;
+pub use decision::Entry;
 pub use state::Disc;
 pub use state::TailNext;
 pub use verdict::Flush;

@@ -1,0 +1,87 @@
+-- What a command is decided to, a value without a disc, and what that makes of a disc.
+use Prim.Native.Nat.{ℕ}
+use mathlib.Core.Bool.{Bool, cond}
+use lib.Dec.{eqb}
+use Rattle.disc.specs.Types.{Fragment, Disc, Sense, Reply, Plan, Verdict, DriveRefusal, LinkRefusal, Accepted, Link, Drive, Entry, Effect, Keep, Settle, Reserve, Close, Grow, Change, Decision}
+use Rattle.fragments.specs.Fragment.{unusedRecord}
+use Rattle.protocol.specs.Answer.{noSense, refusalSense}
+use Rattle.protocol.specs.Reply.{noReply}
+use Rattle.disc.specs.Records.{withRecord, withSense}
+use Rattle.disc.specs.Verdict.{noPlan}
+
+-- a record under a number, and none
+abbrev pub entry : ℕ → Fragment → Entry
+entry n f = record { number = n; fragment = f }
+
+abbrev pub noEntry : Entry
+noEntry = entry 0 unusedRecord
+
+-- the disc with a record put under its number; the number 0 puts none
+unfoldable pub withEntry : Disc → Entry → Disc
+withEntry d e = cond (eqb (e .number) 0) d (withRecord d (e .number) (e .fragment))
+
+-- the disc with so many sectors pending in the fragment with this number
+abbrev pub withPending : Disc → ℕ → ℕ → Disc
+withPending d pending owner =
+    record {
+      capacity = d .capacity;
+      finalized = d .finalized;
+      sense = d .sense;
+      pending = pending;
+      owner = owner;
+      fragments = d .fragments;
+    }
+
+-- the disc, finalized or not
+abbrev pub withFinalized : Disc → Bool → Disc
+withFinalized d finalized =
+    record {
+      capacity = d .capacity;
+      finalized = finalized;
+      sense = d .sense;
+      pending = d .pending;
+      owner = d .owner;
+      fragments = d .fragments;
+    }
+
+-- the disc after a flush that leaves this record: nothing is pending then
+abbrev pub settled : Disc → Entry → Disc
+settled d flushed = withPending (withEntry d flushed) 0 0
+
+-- the disc after an effect
+unfoldable pub affected : Disc → Effect → Disc
+affected d Keep = d
+affected d (Settle flushed) = settled d flushed
+affected d (Reserve reserved tail) = withEntry (withEntry d reserved) tail
+affected d (Close flushed closed tail finalized) = withFinalized (withEntry (withEntry (settled d flushed) closed) tail) finalized
+affected d (Grow flushed grown pending owner) = withPending (withEntry (withEntry d flushed) grown) pending owner
+
+-- a change applied to a disc
+unfoldable pub changed : Disc → Change → Disc
+changed d c = withSense (affected d (c .effect)) (c .sense)
+
+-- a decision applied to a disc: the verdict that it comes to
+unfoldable pub decided : Disc → Decision → Verdict
+decided d r =
+    record { answer = r .answer; disc = changed d (r .change); reply = r .reply; recorded = r .recorded; plan = r .plan }
+
+-- accepted, with so many blocks recorded: the sense is cleared
+unfoldable pub acceptance : Effect → ℕ → Reply → Plan → Decision
+acceptance e n r p =
+    record { answer = Accepted; change = record { sense = noSense; effect = e }; reply = r; recorded = n; plan = p }
+
+-- refused by the drive: only the sense changes
+unfoldable pub refusal : DriveRefusal → Decision
+refusal r =
+    record {
+      answer = Drive r;
+      change = record { sense = refusalSense r; effect = Keep };
+      reply = noReply;
+      recorded = 0;
+      plan = noPlan;
+    }
+
+-- refused on the link: nothing changes, the sense included
+unfoldable pub linkRefusal : Sense → LinkRefusal → Decision
+linkRefusal s r =
+    record { answer = Link r; change = record { sense = s; effect = Keep }; reply = noReply; recorded = 0; plan = noPlan }

@@ -271,10 +271,19 @@ fn arguments_are_looked_at_first() {
         (&["missing.txt"], "missing.txt: there is no such script"),
         (&["--image", "missing/a.svg"], "the image cannot be written: there is no folder missing"),
         (&["--image", "src"], "the image's name src is no file's"),
+        (&["/dev/null"], "/dev/null: a script is an ordinary file"),
+        (
+            &["scripts/cold-store.txt", "--image", "./scripts/cold-store.txt"],
+            "the image would overwrite the script scripts/cold-store.txt",
+        ),
     ] {
         let refused = (Some(2), String::new(), format!("demo: {message}\n"));
         assert_eq!(asked(arguments), refused, "{arguments:?}");
     }
+    // a folder that takes no file; the reason is in the system's words
+    let (status, _, errors) = asked(&["--image", "/proc/disc.svg"]);
+    assert_eq!(status, Some(2));
+    assert!(errors.starts_with("demo: the image cannot be written: /proc/disc.svg: "), "{errors}");
 }
 
 fn demo(arguments: &[&str]) -> Output {

@@ -15,22 +15,28 @@ const GAP: usize = 2;
 const STEP: usize = CELL + GAP;
 
 /// A row: the labels above the squares, the squares, the bars under them.
-const LABELS: usize = 20;
+const LABELS: usize = 24;
 const BAR: usize = 3;
 const ROW: usize = LABELS + CELL + BAR + 1;
 
 /// Sectors to a row of a square.
 const ACROSS: usize = 4;
 
+/// In front of a row, and after it, where a label of the last square has room.
 const LEFT: usize = 70;
-const WIDTH: usize = LEFT + COLUMNS * STEP + 20;
+const RIGHT: usize = 50;
+const WIDTH: usize = LEFT + COLUMNS * STEP + RIGHT;
 const TITLE: usize = 34;
 const AXIS: usize = 40;
 const LEGEND: usize = 72;
 
-/// A line of text, and a letter's width in the labels.
+/// Entries of the legend to a row, and their distance.
+const ENTRIES: usize = 3;
+const ENTRY: usize = 300;
+
+/// A line of text, and a letter's width in the labels, a bold one's.
 const LINE: usize = 15;
-const LETTER: usize = 6;
+const LETTER: usize = 7;
 
 const KINDS: [Sector; 9] = [
     Sector::Recorded,
@@ -49,7 +55,7 @@ fn name(sector: Sector) -> &'static str {
         Sector::Recorded => "recorded",
         Sector::ZeroFilled => "zero-filled",
         Sector::Pending => "pending",
-        Sector::Reserved => "reserved",
+        Sector::Reserved => "reserved and unrecorded",
         Sector::Blank => "blank",
         Sector::Dividing => "dividing",
         Sector::Closure => "Closure",
@@ -183,7 +189,7 @@ fn title(map: &Map, cell: &Range<usize>) -> String {
         .into_iter()
         .map(|kind| (kind, found.iter().flatten().filter(|&&sector| sector == kind).count()))
         .filter(|&(_, count)| count > 0)
-        .map(|(kind, count)| format!("{count} sectors {}", name(kind)))
+        .map(|(kind, count)| format!("{} {}", list::count(count, "sector"), name(kind)))
         .collect();
     let blocks = match cell.len() {
         1 => format!("block {}", cell.start),
@@ -252,9 +258,10 @@ fn legend(svg: &mut String, y: usize, map: &Map) {
         .filter(|&(_, count)| count > 0)
         .collect();
     for (place, (kind, count)) in present.into_iter().enumerate() {
-        let (x, y) = (LEFT + place % 4 * 225, y + place / 4 * 20);
+        let (x, y) = (LEFT + place % ENTRIES * ENTRY, y + place / ENTRIES * 20);
         rectangle(svg, x as f64, y, 14.0, 14, colour(kind));
-        text(svg, x + 20, y + 12, "", &format!("{} ({count} sectors)", name(kind)));
+        let entry = format!("{} ({})", name(kind), list::count(count, "sector"));
+        text(svg, x + 20, y + 12, "", &entry);
     }
 }
 

@@ -22,6 +22,10 @@ const ROW: usize = LABELS + CELL + BAR + 1;
 /// Sectors to a row of a square.
 const ACROSS: usize = 4;
 
+/// The least width of the pending block, of which a disc has one at most: it is on no medium yet, and
+/// must not be lost in a square of many.
+const SEEN: f64 = 2.0;
+
 /// In front of a row, and after it, where a label of the last square has room.
 const LEFT: usize = 70;
 const RIGHT: usize = 50;
@@ -214,15 +218,23 @@ fn block_square(svg: &mut String, x: usize, y: usize, block: &Block) {
 fn runs_square(svg: &mut String, x: usize, y: usize, blocks: &[Block], cell_blocks: usize) {
     let width = CELL as f64 / cell_blocks as f64;
     let mut at = x as f64;
+    let mut pending = None;
     for run in blocks.chunk_by(|one, next| map::character(one) == map::character(next)) {
         let run_width = width * run.len() as f64;
-        let last = run[0][run[0].len() - 1];
-        rectangle(svg, at, y, run_width, CELL, colour(run[0][0]));
-        if last != run[0][0] {
+        let (first, last) = (run[0][0], run[0][run[0].len() - 1]);
+        rectangle(svg, at, y, run_width, CELL, colour(first));
+        if last != first {
             // blocks in part zero-filled or pending: the lower half is the rest
             rectangle(svg, at, y + CELL / 2, run_width, CELL / 2, colour(last));
         }
+        if first == Sector::Pending {
+            pending = Some(at);
+        }
         at += run_width;
+    }
+    if let Some(at) = pending.filter(|_| width < SEEN) {
+        let left = at.min((x + CELL) as f64 - SEEN);
+        rectangle(svg, left, y, SEEN, CELL, colour(Sector::Pending));
     }
 }
 

@@ -276,6 +276,12 @@ fn pending_sectors_are_shown() {
     assert_line(&printed(&map), &format!("      0  #p{}", ".".repeat(48)));
     assert_eq!(map.blocks[1][..3], [Sector::Pending; 3]);
     assert_eq!(map.blocks[1][3..], [Sector::Blank; 13]);
+    // in the image of a large disc a block is less than a dot, this one is not
+    let mut state = State::blank(143_444).expect("a capacity");
+    state.words_mut()[5..7].copy_from_slice(&[3, 1]);
+    let large = Map::of_state("a disc", &state, &vec![false; 16 * 143_444]);
+    let seen = "width=\"2\" height=\"16\" fill=\"#f2a51f\"";
+    assert_eq!(image(&[large]).matches(seen).count(), 1);
 }
 
 #[test]

@@ -3,7 +3,7 @@
 
 use blocks::{Block, BLOCK_LENGTH};
 use script::{parse, Data, Part};
-use std::fs::File;
+use std::fs::{self, File};
 use std::io::Write;
 use std::path::{Path, PathBuf};
 use std::process::{Command, Output, Stdio};
@@ -104,6 +104,7 @@ fn files_have_the_sectors_that_the_command_takes() {
     let parts = parsed("2A 00 00000000 00 0003 data file readings.csv").expect("it fits");
     let Data::Bytes(bytes) = &parts[0].commands[0].data else { panic!("a file's bytes") };
     assert_eq!(bytes.len(), 3 * blocks::SECTOR_BYTES);
+    fs::remove_file(endless).expect("it was there");
 }
 
 #[test]
@@ -113,6 +114,7 @@ fn scripts_are_ordinary_files_of_some_length() {
     assert_eq!(refused(&endless), format!("{} has more bytes than any script", endless.display()));
     assert_eq!(refused(Path::new("/dev/zero")), "/dev/zero is no ordinary file");
     assert_eq!(refused(Path::new(".")), ". is no ordinary file");
+    fs::remove_file(endless).expect("it was there");
 }
 
 /// What tools/trace makes of a script.

@@ -9,11 +9,11 @@ pub mod Verdict
 pub mod Decision
 pub mod Flush
 pub mod Read
-pub mod Run
 pub mod Write
 pub mod Reserve
 pub mod Close
 pub mod Reports
 pub mod Judge
+pub mod Run
 pub mod Recorded
 pub mod Lent

@@ -1,6 +1,6 @@
 -- 28h READ: the decision, and which run of sectors is sent.
 use Prim.Native.Nat.{ℕ, zero, suc, _+_}
-use mathlib.Core.Bool.{Bool, true, cond, not, _&&_}
+use mathlib.Core.Bool.{Bool, true, cond, _&&_}
 use lib.Dec.{eqb, ltb}
 use Rattle.disc.specs.Types.{Lba, Disc, Skip, Send, Verdict, AddressOutOfRange, BlankCheck}
 use Rattle.fragments.specs.Address.{lba, sectorsIn}
@@ -12,10 +12,6 @@ use Rattle.protocol.specs.Reply.{noReply}
 unfoldable pub allReadable : Disc → Lba → ℕ → Bool
 allReadable d a zero = true
 allReadable d a (suc n) = readable d a && allReadable d (lba (a .0 + 1)) n
-
--- whether a READ sends a run of sectors: it has some, ends within the disc, and every one is readable
-abbrev pub sends : Disc → Lba → ℕ → Bool
-sends d a n = not (eqb n 0) && not (ltb (sectorsIn (d .capacity)) (a .0 + n)) && allReadable d a n
 
 -- a length of 0 is accepted wherever it points; then the run must end within the disc, then every sector of it must be readable
 unfoldable pub read : Disc → Lba → ℕ → Verdict

@@ -3,9 +3,6 @@ use crate::state::Disc;
 ghost use mathlib.Core.Path.{_≡_};
 ghost use Rattle.disc.specs.Sound.{sound, ownerIncomplete, allowedState};
 
-// The most sectors that can be pending: with sixteen a block is recorded.
-const MOST_PENDING: u8 = 15;
-
 impl Disc {
     // The pending sectors name an incomplete record, or there are none and the number is 0.
     pub(crate) fn owner_is_incomplete(self) -> bool
@@ -15,7 +12,7 @@ impl Disc {
         if self.pending == 0 {
             return owner == 0;
         }
-        if self.pending > MOST_PENDING {
+        if fragments::whole_blocks(self.pending as usize) != 0 {
             return false;
         }
         if owner == 0 {

@@ -7,7 +7,6 @@ use crate::flush::Flushing;
 use crate::state::Disc;
 use crate::verdict::Plan;
 use crate::verdict::Transfer;
-use fragments::Block;
 use fragments::Fragment;
 use fragments::Kind;
 use fragments::Last;
@@ -34,7 +33,7 @@ fn tail_after(capacity: u32, number: usize, f: Fragment) -> Entry
     if number >= Disc::LIMIT {
         return Entry::none();
     }
-    let tail = change::tail_from(capacity, f.session, Block(start.0 as u32));
+    let tail = change::tail_from(capacity, f.session, start);
     Entry::new(number + 1, tail)
 }
 
@@ -218,7 +217,7 @@ impl Disc {
         if (self.capacity as u64) < start.0 + 1 {
             return Decision::refused(DriveRefusal::EndOfUserArea);
         }
-        let opened = change::tail_from(self.capacity, f.session + 1, Block(start.0 as u32));
+        let opened = change::tail_from(self.capacity, f.session + 1, start);
         let tail = Entry::new(kept.number + 1, opened);
         close_last(first, last, tail, self.finalized)
     }

@@ -149,7 +149,7 @@ impl Decision {
 
 impl Disc {
     // The disc with a record put under its number.
-    pub(crate) fn with_entry(self, entry: Entry) -> Disc
+    pub(crate) fn with_entry(mut self, entry: Entry) -> Disc
         ensures { λ r. ⌜ r ≡ withEntry self entry ⌝ }
     {
         let number = entry.number;
@@ -160,7 +160,10 @@ impl Disc {
             return self;
         }
         let f = entry.fragment;
-        self.with_record(number, f)
+        let mut fragments = self.fragments;
+        fragments[number - 1] = f;
+        self.fragments = fragments;
+        self
     }
 
     // The disc after a flush that leaves this record: nothing is pending then.

@@ -5,6 +5,7 @@ use crate::state::Disc;
 use crate::verdict::Flush;
 use crate::verdict::Plan;
 use crate::verdict::Transfer;
+use fragments::Block;
 use fragments::Lba;
 use protocol::DriveRefusal;
 use protocol::Reply;
@@ -13,8 +14,7 @@ ghost use Rattle.fragments.specs.List.{some};
 ghost use Rattle.disc.specs.Records.{records};
 ghost use Rattle.disc.specs.Ready.{Ready};
 ghost use Rattle.disc.specs.Decision.{decided};
-ghost use Rattle.disc.specs.Read.{sends, read};
-ghost use Rattle.fragments.specs.Address.{passes};
+ghost use Rattle.disc.specs.Read.{read};
 ghost use Rattle.fragments.specs.Fragment.{holdsRun};
 
 impl Disc {
@@ -26,17 +26,7 @@ impl Disc {
         fragments::holds_run(records, address, sectors)
     }
 
-    // Whether a READ sends the run: it has sectors, ends within the disc and is recorded.
-    pub(crate) fn sends(self, address: Lba, sectors: u32) -> bool
-        requires { ⌜ Ready self ⌝ }
-        ensures { λ r. ⌜ r ≡ sends self address sectors ⌝ }
-    {
-        (sectors != 0)
-            & !address.passes(sectors, Lba(fragments::sectors_in(self.capacity)))
-            & self.holds_run(address, sectors)
-    }
-
-    // The run must end within the disc and be recorded.
+    // READ.
     pub(crate) fn read(self, address: Lba, sectors: u32) -> Decision
         requires { ⌜ Ready self ⌝ }
         ensures { λ r. ⌜ decided self r ≡ read self address sectors ⌝ }
@@ -44,7 +34,7 @@ impl Disc {
         if sectors == 0 {
             return Decision::unchanged(Reply::none());
         }
-        if address.passes(sectors, Lba(fragments::sectors_in(self.capacity))) {
+        if address.passes(sectors, Block(self.capacity).first_sector()) {
             return Decision::refused(DriveRefusal::AddressOutOfRange);
         }
         if self.holds_run(address, sectors) {

@@ -5,7 +5,6 @@ use crate::decision::Effect;
 use crate::decision::Entry;
 use crate::state::Disc;
 use crate::verdict::Plan;
-use fragments::Block;
 use protocol::DriveRefusal;
 use protocol::Reply;
 ghost use mathlib.Core.Path.{_≡_};
@@ -21,8 +20,7 @@ impl Disc {
     {
         let last = self.last();
         let f = change::reserved(last.fragment, blocks);
-        let start = Block(f.next_start().0 as u32);
-        let rest = change::tail_from(self.capacity, f.session, start);
+        let rest = change::tail_from(self.capacity, f.session, f.next_start());
         let reserved = Entry::new(last.number, f);
         let tail = Entry::new(last.number + 1, rest);
         Effect::Reserve { reserved, tail }

@@ -6,10 +6,8 @@ use protocol::Command;
 ghost use mathlib.Core.Path.{_≡_};
 ghost use Prim.Native.Nat.{_+_, _*_, _≤_};
 ghost use lib.ListN.{length};
-ghost use Rattle.disc.specs.Ready.{Ready};
-ghost use Rattle.disc.specs.Read.{read};
 ghost use Rattle.disc.specs.Types.{Send};
-ghost use Rattle.disc.specs.Run.{stretch, sent, sentWithin, served, RunOf};
+ghost use Rattle.disc.specs.Run.{stretch, sentWithin, served, RunOf};
 
 // The sectors of a run.
 fn stretch<'a>(address: Lba, sectors: u32, medium: &'a [u8]) -> &'a [u8]
@@ -54,28 +52,16 @@ impl Disc {
         (cdb == protocol::CDB_LENGTH) & Disc::in_range(self.capacity) & whole & self.is_allowed()
     }
 
-    // What a READ sends: the run, or nothing.
-    fn run<'a>(self, address: Lba, sectors: u32, medium: &'a [u8]) -> &'a [u8]
-        requires { ⌜ Ready self × (length (now medium) ≡ 32768 * self .capacity) ⌝ }
-        ensures { λ r. ⌜ now r ≡ sent (read self address sectors .plan .transfer) (now (medium .entry)) ⌝ }
-    {
-        if self.sends(address, sectors) {
-            return stretch(address, sectors, medium);
-        }
-        &medium[0..0]
-    }
-
-    // The recorded run of an accepted 28h of length 1 up, in place; an empty part for every other input. It sees command block, state and
-    // medium: a 28h that is refused for the lengths of data, reply or pending buffer has its run here all the same.
+    // The recorded run of an accepted READ (28h) of length 1 up, in place; an empty part for every other input. It sees command block, state
+    // and medium: a READ that is refused for the lengths of data, reply or pending buffer has its run here all the same.
     pub fn recorded_run<'a>(self, cdb: &[u8], medium: &'a [u8]) -> &'a [u8]
         ensures { λ r. ⌜ RunOf self (now (cdb .entry)) (now (medium .entry)) (now r) ⌝ }
     {
         if self.serves(cdb.len(), medium.len()) {
-            let command = Command::decode(cdb);
-            return match command {
-                Command::Read { address, length } => self.run(address, length, medium),
-                _ => &medium[0..0],
-            };
+            let decision = self.perform(Command::decode(cdb));
+            let plan = decision.plan;
+            let transfer = plan.transfer;
+            return transfer.run(medium);
         }
         &medium[0..0]
     }

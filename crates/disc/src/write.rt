@@ -69,7 +69,7 @@ impl Disc {
         ensures { λ r. ⌜ decided self r ≡ writeTo self address sectors number ⌝ }
     {
         let f = self.numbered(number);
-        if f.end_address().0 < address.0 + sectors as u64 {
+        if address.passes(sectors, f.end_address()) {
             return Decision::refused(DriveRefusal::EndOfUserArea);
         }
         let pending = self.pending_in(number);

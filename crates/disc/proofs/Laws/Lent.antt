@@ -14,13 +14,12 @@ use Rattle.disc.specs.Blank.{inRange}
 use Rattle.disc.specs.Ready.{Ready}
 use Rattle.protocol.specs.Lengths.{dataLength, replyRoom, lengthsFit}
 use Rattle.disc.specs.Lent.{FlushFits, TransferFits, RunFits, Fits}
-use Rattle.disc.specs.Read.{read}
 use Rattle.disc.specs.Verdict.{refuseLink}
 use Rattle.disc.specs.Judge.{perform, judge}
-use Rattle.disc.specs.Run.{stretch, sent, sentBy, served, recordedRun}
+use Rattle.disc.specs.Run.{stretch, sent, served, recordedRun}
 use Rattle.fragments.proofs.Laws.Bool.{and-both, and-left, and-right}
 use Rattle.disc.proofs.Laws.Rules.{sound-rules}
-use Rattle.disc.proofs.Laws.Plan.{Flushed, skips, records, Moved, nothing, sends, gathers, fills, unrecorded-inside, moved-sends}
+use Rattle.disc.proofs.Laws.Plan.{Flushed, skips, records, Moved, nothing, sends, gathers, fills, unrecorded-inside}
 use Rattle.disc.proofs.Laws.Outcome.{outcome-placed, outcome-room}
 use Rattle.disc.proofs.Laws.Judge.{allowed-ready, allowed-outcome, Decided, onLink, byDrive, judge-decided}
 
@@ -82,15 +81,12 @@ judge-fits d b k n m e = decided-fits d k (judge d b n m) e (judge-decided d b n
 decided-run :
     {n m : ℕ} (d : Disc) (b medium : List ℕ) (a : Lba) (k : ℕ) (v : Verdict) → length b ≡ 12 → length medium ≡ 32768 * d .capacity
     → Decided d (decode b) n m v → v .plan .transfer ≡ Send a k → recordedRun d b medium ≡ stretch a k medium
-unfolding refuseLink perform recordedRun sentBy sent
+unfolding refuseLink recordedRun sent
 decided-run d b medium a k v lb lm (onLink x) e = absurd (let z : _≡_ {A = ℕ} 0 1 = cc in omega arith)
 decided-run d b medium a k v lb lm (byDrive r s l) e =
-    let c = decode b in
-    let q = moved-sends d c a k (rw e at (outcome-placed d c _ (allowed-outcome d c r s) .moved)) .command in
     let t : served d (length b) (length medium) ≡ true =
     and-both (and-both (and-both (eq-eqb _ _ lb) r) (eq-eqb _ _ lm)) s in
-    let w : read d a k .plan .transfer ≡ Send a k = rw q at e in
-    rw (t, q, w)
+    rw (t, e)
 
 pub judge-run :
     (d : Disc) (b medium : List ℕ) (n m : ℕ) (a : Lba) (k : ℕ) → length b ≡ 12 → length medium ≡ 32768 * d .capacity

@@ -74,7 +74,7 @@ carried-outside :
     → getD (carriedOut v s q .after .medium) i 0 ≡ getD (s .medium) i 0
 unfolding carriedOut
 carried-outside s q i v j none =
-    moved-kept (v .plan) (s .medium) (s .pending) (q .payload) (j .cdb) (j .fits .flush) (j .fits .transfer) i none
+    moved-kept (v .plan) (s .medium) (s .pending) (q .payload) (j .block) (j .fits .flush) (j .fits .transfer) i none
 
 -- a step records in the blocks of its plan and nowhere else
 pub step-outside :
@@ -108,8 +108,8 @@ carried-lengths :
     → (length (carriedOut v s q .after .medium) ≡ length (s .medium)) × (length (carriedOut v s q .after .pending) ≡ length (s .pending))
 unfolding carriedOut
 carried-lengths s q v j = (
-  length-moved-medium (v .plan) (s .medium) (s .pending) (q .payload) (j .cdb) (j .fits .flush) (j .fits .transfer),
-  length-moved-pending (v .plan) (s .medium) (s .pending) (q .payload) (j .cdb) (j .fits .flush) (j .fits .transfer) ∙ sym (j .cdb),
+  length-moved-medium (v .plan) (s .medium) (s .pending) (q .payload) (j .block) (j .fits .flush) (j .fits .transfer),
+  length-moved-pending (v .plan) (s .medium) (s .pending) (q .payload) (j .block) (j .fits .flush) (j .fits .transfer) ∙ sym (j .block),
 )
 
 pub step-lengths :
@@ -184,7 +184,7 @@ module _
     (held : take (2048 * d .pending) p ≡ take (2048 * d .pending) q)
   where
     other-block : length q ≡ 32768
-    other-block = sym hp ∙ j .cdb
+    other-block = sym hp ∙ j .block
 
     pending : Pending d (v .plan) (v .disc)
     pending = decided-pending d v (j .decided)
@@ -210,7 +210,7 @@ module _
         Agree (λ i. (recordedByte d i ≡ true) ⊎ (flushes (v .plan .flush) (i / 32768) ≡ true)) (flushedMedium (v .plan .flush) m p)
         (flushedMedium (v .plan .flush) n q)
     flushed-alike =
-        flushed-agree (λ i. recordedByte d i ≡ true) m n p q (j .cdb) other-block hm same (v .plan .flush) (j .fits .flush) flush-sectors
+        flushed-agree (λ i. recordedByte d i ≡ true) m n p q (j .block) other-block hm same (v .plan .flush) (j .fits .flush) flush-sectors
 
     flushed-held :
         take (2048 * flushedCount (v .plan .flush) (d .pending)) (flushedPending (v .plan .flush) p)
@@ -218,7 +218,7 @@ module _
     flushed-held = flushed-sectors (v .plan .flush) (d .pending) p q held
 
     flushed-length : length (flushedMedium (v .plan .flush) m p) ≡ length m
-    flushed-length = length-flushed-medium (v .plan .flush) m p (j .cdb) (j .fits .flush)
+    flushed-length = length-flushed-medium (v .plan .flush) m p (j .block) (j .fits .flush)
 
     other-flush : FlushFits (length n) (v .plan .flush)
     other-flush = subst (λ (l : ℕ). FlushFits l (v .plan .flush)) hm (j .fits .flush)
@@ -232,7 +232,7 @@ module _
         let f = v .plan .flush in
         let g = v .plan .transfer in
         transferred-agree (λ i. (recordedByte d i ≡ true) ⊎ (flushes f (i / 32768) ≡ true)) (flushedMedium f m p) (flushedMedium f n q)
-        (flushedPending f p) (flushedPending f q) (length-flushed-pending f p (j .cdb)) (length-flushed-pending f q other-block)
+        (flushedPending f p) (flushedPending f q) (length-flushed-pending f p (j .block)) (length-flushed-pending f q other-block)
         (flushed-length ∙ (hm ∙ sym (length-flushed-medium f n q other-block other-flush))) flushed-alike g x
         (subst (λ (l : ℕ). TransferFits l (length x) g) (sym flushed-length) (j .fits .transfer))
         (λ c h l e. rw (pending .gathered c h l e .0) flushed-held)
@@ -260,10 +260,10 @@ module _
               record {
                 disc = refl;
                 mediumLength =
-                    length-moved-medium (v .plan) m p x (j .cdb) (j .fits .flush) (j .fits .transfer)
+                    length-moved-medium (v .plan) m p x (j .block) (j .fits .flush) (j .fits .transfer)
                     ∙ (hm ∙ sym (length-moved-medium (v .plan) n q x other-block other-flush other-transfer));
                 pendingLength =
-                    length-moved-pending (v .plan) m p x (j .cdb) (j .fits .flush) (j .fits .transfer)
+                    length-moved-pending (v .plan) m p x (j .block) (j .fits .flush) (j .fits .transfer)
                     ∙ sym (length-moved-pending (v .plan) n q x other-block other-flush other-transfer);
                 recorded = medium-alike;
                 pending = sectors-alike;

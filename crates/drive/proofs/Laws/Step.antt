@@ -84,7 +84,7 @@ sent-room (Fill b k) r medium n m f g h = simp length-take (omega arith)
 -- what the disc has decided, with all that is known of it
 pub record Judgement (s : Drive) (q : Request) (v : Verdict) : Type 0 where
   pub fits : Fits (length (s .medium)) (length (q .payload)) (length (q .buffer)) v
-  pub cdb : length (s .pending) ≡ 32768
+  pub block : length (s .pending) ≡ 32768
   pub decided : Decided (s .disc) (decode (q .cdb)) (length (q .payload)) (length (q .buffer)) v
 
 pub judgement :
@@ -96,7 +96,7 @@ judgement s q l =
     let d = s .disc in
     record {
       fits = judge-fits d (q .cdb) (length (s .medium)) n m (lent-medium d (length (s .medium)) (length (s .pending)) l);
-      cdb = lent-pending d (length (s .medium)) (length (s .pending)) l;
+      block = lent-pending d (length (s .medium)) (length (s .pending)) l;
       decided = judge-decided d (q .cdb) n m;
     }
 
@@ -123,7 +123,7 @@ decided-feasible s q d h e =
             report = f .report;
             whole = f .whole;
           };
-      cdb = j .cdb;
+      block = j .block;
       flush = f .flush;
       transfer = f .transfer;
     }

@@ -61,7 +61,7 @@ module _ (s : Drive) (q : Request) (n : ℕ) (k : Account) (w : Served s) (one :
       let fits : Fits l (length (q .payload)) (length (q .buffer)) (perform d c) =
       subst (λ (v : Verdict). Fits l (length (q .payload)) (length (q .buffer)) v) (sym (verdict-judges s q (w .lends)) ∙ performed) (j .fits) in
       subst (λ (v : Verdict). HoldsOn (carriedOut v s q .after) n (credited n (extentOf d n) c (q .payload) k)) (sym performed)
-      (noted-performed d (s .medium) (s .pending) (q .payload) n k (allowed-ready d (w .range) (w .allowed)) one (j .cdb)
+      (noted-performed d (s .medium) (s .pending) (q .payload) n k (allowed-ready d (w .range) (w .allowed)) one (j .block)
       (lent-medium d l (length (s .pending)) (w .lends)) h c (sym (ap (λ (v : Verdict). v .answer) performed) ∙ e) (fits .flush) (fits .transfer))
 
   pub answer-holds : (a : Answer) → step s q .answer ≡ a → HoldsOn (step s q .after) n (noted n (extentOf (s .disc) n) q a k)

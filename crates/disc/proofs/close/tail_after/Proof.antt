@@ -1,9 +1,9 @@
 use borrow.Author.Tests.{eq-eqb, ne-eqb, lt-ltb, le-ltb, not-true, not-false}
 use Rattle.disc.specs.Close.{tailAfter}
 use Rattle.fragments.proofs.Laws.Address.{wide-number}
-use borrow.Author.Needs.{needs}
 use mathlib.Core.Path.{_≡_, refl, sym, _∙_, ap}
 use native.Mathlib.Omega.{arith}
+use borrow.Author.Needs.{needs}
 use Rattle.disc.proofs.close.tail_after.Statement.{statement}
 use Rattle.disc.proofs.close.tail_after.Tie as tie
 use Rattle.disc.proofs.close.tail_after.Reads as reads
@@ -30,9 +30,6 @@ returns-2 : tie.Need-returns-2
 unfolding tailAfter
 returns-2 c = rw (c .none2 .ensures, ← wide-number (c .before .before .before .before .next-start .ensures), lt-ltb _ _ (c .before .before .if1 .left), le-ltb _ _ (c .before .if2 .taken))
 
-cast-t8 : tie.Need-cast-t8
-cast-t8 c = search needs
-
 tail-from-requires : tie.Need-tail-from-requires
 tail-from-requires c κs = search needs
 
@@ -44,7 +41,7 @@ new-requires c κs = search needs
 
 returns-3 : tie.Need-returns-3
 unfolding tailAfter
-returns-3 c = rw (c .new .ensures, c .before .tail-from .ensures, ← wide-number (c .before .before .before .before .before .before .next-start .ensures), lt-ltb _ _ (c .before .before .before .before .if1 .left), lt-ltb _ _ (c .before .before .before .if2 .left))
+returns-3 c = rw (c .new .ensures, c .before .tail-from .ensures, ← wide-number (c .before .before .before .before .before .next-start .ensures), lt-ltb _ _ (c .before .before .before .if1 .left), lt-ltb _ _ (c .before .before .if2 .left))
 
 pub tail-after-spec : {M : Type 1} → statement M
 tail-after-spec =
@@ -55,7 +52,6 @@ tail-after-spec =
     returns
     none-requires-2
     returns-2
-    cast-t8
     tail-from-requires
     add-new
     new-requires

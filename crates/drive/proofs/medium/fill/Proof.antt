@@ -12,47 +12,38 @@ use Rattle.drive.proofs.medium.fill.Lts as lts
 use Rattle.drive.proofs.medium.record_block.Reads as record-block-reads
 
 abbrev Inv-loop : tie.InvT-loop
-Inv-loop medium₀ blocks no-sectors first i₀ medium i =
+Inv-loop medium₀ blocks no-bytes first i₀ medium i =
     (i ≤ blocks) × (length medium ≡ length medium₀) × (medium ≡ splice medium₀ (32768 * first) (zeros (32768 * i)))
 
 abbrev μ-loop : tie.MeasureT-loop
-μ-loop medium₀ blocks no-sectors first i₀ medium i = blocks - i
+μ-loop medium₀ blocks no-bytes first i₀ medium i = blocks - i
 
--- src/medium.rt:57:5
 loop-holds : tie.Need-loop-holds Inv-loop μ-loop
 loop-holds c = (search needs, refl, fill-none (c .before .args .medium .now) (32768 * c .before .args .block .0))
 
--- src/medium.rt:58:36
 add-t11 : tie.Need-add-t11 Inv-loop μ-loop
 add-t11 c = search needs
 
--- src/medium.rt:58:48
 slice-aggregate-record-block : tie.Need-slice-aggregate-record-block Inv-loop μ-loop
 slice-aggregate-record-block c = search needs
 
--- src/medium.rt:58:9
 record-block-requires : tie.Need-record-block-requires Inv-loop μ-loop
 record-block-requires c κs = search needs
 
--- src/medium.rt:59:9
 add-i : tie.Need-add-i Inv-loop μ-loop
 add-i c = search needs
 
--- src/medium.rt:57:5
 loop-less : tie.Need-loop-less Inv-loop μ-loop
 loop-less c = search needs
 
--- src/medium.rt:57:5
 loop-again : tie.Need-loop-again Inv-loop μ-loop
 loop-again c =
     let start = c .before .before .before .before .before .before .before .before in
     (omega arith, omega arith, fill-more (start .args .medium .now) (c .before .before .before .before .before .before .loop .medium) (c .before .before .record-block .last .0) (start .args .block .0) (c .before .before .before .before .before .before .loop .i) (omega arith) (c .before .before .before .before .before .before .loop .inv .2) (c .before .before .record-block .ensures))
 
--- src/medium.rt:50:1
 same-length : tie.Need-same-length Inv-loop μ-loop
 same-length c = search needs
 
--- src/medium.rt:50:1
 returns : tie.Need-returns Inv-loop μ-loop
 returns c =
     let all : c .before .loop .i ≡ c .before .before .before .args .blocks = omega arith in

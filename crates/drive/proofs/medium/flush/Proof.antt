@@ -15,57 +15,45 @@ use Rattle.drive.proofs.medium.record_block.Reads as record-block-reads
 enum-told : tie.Need-enum-told
 enum-told c = search needs
 
--- src/medium.rt:41:25
 enum-known-flush : tie.Need-enum-known-flush
 enum-known-flush c = search needs
 
--- src/medium.rt:42:40
 cast-end : tie.Need-cast-end
 cast-end c = search needs
 
--- src/medium.rt:42:23
 mul-end : tie.Need-mul-end
 mul-end c = search needs
 
--- src/medium.rt:43:41
 sub-record-block : tie.Need-sub-record-block
 sub-record-block c = search needs
 
--- src/medium.rt:43:41
 part-record-block-start : tie.Need-part-record-block-start
 part-record-block-start c = search needs
 
--- src/medium.rt:43:41
 part-record-block-end : tie.Need-part-record-block-end
 part-record-block-end c =
     let start = c .before .before .before .before .before .before .before in
     let f = subst (FlushFits (length (start .args .medium .now))) (c .before .before .before .flush .given .1) (start .pre .1) in omega (arith, f)
 
--- src/medium.rt:43:13
 record-block-requires : tie.Need-record-block-requires
 record-block-requires c κs =
     let start = c .before .before .before .before .before .before .before .before in
     let f = subst (FlushFits (length (start .args .medium .now))) (c .before .before .before .before .flush .given .1) (start .pre .1) in
     (simp length-take (omega arith), omega (arith, f .2))
 
--- src/medium.rt:44:13
 clear-requires : tie.Need-clear-requires
 clear-requires c κs = search needs
 
--- src/medium.rt:34:1
 returns : tie.Need-returns
 unfolding flushedMedium flushedPending
 returns c = rw (c .enum-told .given .1) (refl, refl)
 
--- src/medium.rt:34:1
 same-length : tie.Need-same-length
 same-length c = search needs
 
--- src/medium.rt:34:1
 same-length-2 : tie.Need-same-length-2
 same-length-2 c = search needs
 
--- src/medium.rt:34:1
 returns-2 : tie.Need-returns-2
 returns-2 c =
     let start = c .before .before .before .before .before .before .before .before .before .before .before .before .before .before .before in

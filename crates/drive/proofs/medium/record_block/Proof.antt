@@ -9,21 +9,17 @@ use Rattle.drive.proofs.medium.record_block.Reads as reads
 use Rattle.drive.proofs.medium.record_block.Lts as lts
 use Rattle.drive.proofs.medium.record_parts.Reads as record-parts-reads
 
--- src/medium.rt:42:42
 slice-aggregate-record-parts : tie.Need-slice-aggregate-record-parts
 slice-aggregate-record-parts c = search needs
 
--- src/medium.rt:42:5
 record-parts-requires : tie.Need-record-parts-requires
 record-parts-requires c κs = search needs
 
--- src/medium.rt:37:1
 same-length : tie.Need-same-length
 same-length c = search needs
 
--- src/medium.rt:37:1
 returns : tie.Need-returns
-returns c = c .before .before .record-parts .ensures ∙ ap (λ (x : List ℕ). splice (c .before .before .before .before .before .before .before .args .medium .now) (32768 * c .before .before .before .before .before .before .before .args .block .0) (padded x)) (append-nil (c .before .before .before .before .before .before .before .args .payload .now))
+returns c = c .before .before .record-parts .ensures ∙ ap (λ (x : List ℕ). splice (c .before .before .before .before .before .before .before .args .medium .now) (32768 * c .before .before .before .before .before .before .before .args .block .0) (padded x)) (append-nil (c .before .before .before .before .before .before .before .args .content .now))
 
 pub record-block-spec : {M : Type 1} → statement M
 record-block-spec =

@@ -10,39 +10,30 @@ use Rattle.drive.proofs.medium.record_parts.Reads as reads
 use Rattle.drive.proofs.medium.record_parts.Lts as lts
 use Rattle.drive.proofs.medium.write_block.Reads as write-block-reads
 
--- src/medium.rt:31:32
 cast-from : tie.Need-cast-from
 cast-from c = search needs
 
--- src/medium.rt:31:16
 mul-from : tie.Need-mul-from
 mul-from c = search needs
 
--- src/medium.rt:32:14
 add-to : tie.Need-add-to
 add-to c = search needs
 
--- src/medium.rt:33:17
 sub-write-block : tie.Need-sub-write-block
 sub-write-block c = search needs
 
--- src/medium.rt:33:17
 part-write-block-start : tie.Need-part-write-block-start
 part-write-block-start c = search needs
 
--- src/medium.rt:33:17
 part-write-block-end : tie.Need-part-write-block-end
 part-write-block-end c = search needs
 
--- src/medium.rt:33:5
 write-block-requires : tie.Need-write-block-requires
 write-block-requires c κs = search needs
 
--- src/medium.rt:27:1
 same-length : tie.Need-same-length
 same-length c = search needs
 
--- src/medium.rt:27:1
 returns : tie.Need-returns
 returns c =
     let s = c .before .before .before .before .before .before .before .before .args in

@@ -8,27 +8,21 @@ use Rattle.drive.proofs.medium.write_block.Lts as lts
 use Rattle.drive.proofs.bytes.clear_from.Reads as clear-from-reads
 use Rattle.drive.proofs.bytes.put.Reads as put-reads
 
--- src/medium.rt:21:5
 put-requires : tie.Need-put-requires
 put-requires c κs = search needs
 
--- src/medium.rt:22:5
 put-requires-2 : tie.Need-put-requires-2
 put-requires-2 c κs = search needs
 
--- src/medium.rt:23:32
 add-clear-from : tie.Need-add-clear-from
 add-clear-from c = search needs
 
--- src/medium.rt:23:5
 clear-from-requires : tie.Need-clear-from-requires
 clear-from-requires c κs = search needs
 
--- src/medium.rt:17:1
 same-length : tie.Need-same-length
 same-length c = search needs
 
--- src/medium.rt:17:1
 returns : tie.Need-returns
 returns c =
     padded-parts (c .before .before .before .before .before .before .before .before .before .before .before .before .before .before .before .args .stretch .now) (c .before .before .before .before .before .before .before .before .before .before .before .before .before .before .before .args .front .now) (c .before .before .before .before .before .before .before .before .before .before .before .before .before .before .before .args .rest .now) (c .before .before .before .before .before .before .before .before .before .before .put .last .0) (c .before .before .before .before .before .before .put2 .last .0) (c .before .before .clear-from .last .0) (omega arith) (omega arith) (c .before .before .before .before .before .before .before .before .before .before .put .ensures) (c .before .before .before .before .before .before .put2 .ensures) (c .before .before .clear-from .ensures)

@@ -6,27 +6,21 @@ use Rattle.drive.proofs.reply.send_report.Reads as reads
 use Rattle.drive.proofs.reply.send_report.Lts as lts
 use Rattle.drive.proofs.bytes.put.Reads as put-reads
 
--- src/reply.rt:21:26
 sub-put : tie.Need-sub-put
 sub-put c = search needs
 
--- src/reply.rt:21:26
 part-put-start : tie.Need-part-put-start
 part-put-start c = search needs
 
--- src/reply.rt:21:26
 part-put-end : tie.Need-part-put-end
 part-put-end c = search needs
 
--- src/reply.rt:21:5
 put-requires : tie.Need-put-requires
 put-requires c κs = search needs
 
--- src/reply.rt:14:1
 same-length : tie.Need-same-length
 same-length c = search needs
 
--- src/reply.rt:14:1
 returns : tie.Need-returns
 returns c =
     let start = c .before .before .before .before .before .before .before .before in

@@ -12,26 +12,21 @@ use Rattle.drive.proofs.transfer.carry_out.Lts as lts
 use Rattle.drive.proofs.medium.flush.Reads as flush-reads
 use Rattle.drive.proofs.transfer.transfer.Reads as transfer-reads
 
--- src/transfer.rt:36:5
 flush-requires : tie.Need-flush-requires
 flush-requires c κs = search needs
 
--- src/transfer.rt:37:5
 transfer-requires : tie.Need-transfer-requires
 transfer-requires c κs =
     let start = c .before .before .before .before .before .before .before .before .before .before .before .before in
     let l : length (start .args .medium .now) ≡ length (c .before .before .before .before .before .before .flush .last .1 .0) = omega arith in
     (omega arith, subst (λ (n : ℕ). TransferFits n (length (start .args .«data» .now)) (start .args .plan .transfer)) l (start .pre .2))
 
--- src/transfer.rt:29:1
 same-length : tie.Need-same-length
 same-length c = search needs
 
--- src/transfer.rt:29:1
 same-length-2 : tie.Need-same-length-2
 same-length-2 c = search needs
 
--- src/transfer.rt:29:1
 returns : tie.Need-returns
 returns c =
     let start = c .before .before .before .before .before .before .before .before .before .before .before .before .before .before .before .before .before in

@@ -12,49 +12,39 @@ use Rattle.drive.proofs.transfer.transfer.Lts as lts
 use Rattle.drive.proofs.gather.gather.Reads as gather-reads
 use Rattle.drive.proofs.medium.fill.Reads as fill-reads
 
--- src/transfer.rt:19:13
 enum-known-transfer : tie.Need-enum-known-transfer
 enum-known-transfer c = search needs
 
--- src/transfer.rt:22:14
 gather-requires : tie.Need-gather-requires
 gather-requires c κs =
     let start = c .before .before .before .before .before .before .before .before in
     let f = subst (TransferFits (length (start .args .medium .now)) (length (start .args .«data» .now))) (c .before .before .before .transfer .given .1) (start .pre .1) in (omega arith, f .0, f .1, f .2, f .3)
 
--- src/transfer.rt:23:26
 enum-known-transfer-2 : tie.Need-enum-known-transfer-2
 enum-known-transfer-2 c = search needs
 
--- src/transfer.rt:23:45
 fill-requires : tie.Need-fill-requires
 fill-requires c κs =
     let start = c .before .before .before .before .before .before .before in
     subst (TransferFits (length (start .args .medium .now)) (length (start .args .«data» .now))) (c .before .before .transfer2 .given .1) (start .pre .1)
 
--- src/transfer.rt:12:1
 same-length : tie.Need-same-length
 same-length c = search needs
 
--- src/transfer.rt:12:1
 same-length-2 : tie.Need-same-length-2
 same-length-2 c = search needs
 
--- src/transfer.rt:12:1
 returns : tie.Need-returns
 unfolding transferredMedium transferredPending
 returns c = rw (c .before .before .before .before .before .before .before .before .transfer .given .1) (c .before .before .before .before .gather .ensures)
 
--- src/transfer.rt:12:1
 same-length-3 : tie.Need-same-length-3
 same-length-3 c = search needs
 
--- src/transfer.rt:12:1
 returns-2 : tie.Need-returns-2
 unfolding transferredMedium transferredPending
 returns-2 c = rw (c .before .before .before .before .before .transfer2 .given .1) (c .before .before .fill .ensures, refl)
 
--- src/transfer.rt:12:1
 returns-3 : tie.Need-returns-3
 returns-3 c =
     let start = c .before .before .before .before in

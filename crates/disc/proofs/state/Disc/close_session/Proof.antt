@@ -1,11 +1,11 @@
-use Rattle.fragments.specs.List.{limit}
-use Rattle.disc.specs.Records.{used}
 use Rattle.fragments.proofs.Laws.Address.{wide-number}
 use Rattle.disc.specs.Verdict.{accepted, plan}
 use Rattle.disc.specs.Types.{Nothing}
 use Rattle.protocol.specs.Reply.{noReply}
 use Rattle.disc.specs.Flush.{flush, flushPlan, flushCount}
 use Rattle.disc.specs.Close.{closeTail, closingLast}
+use Rattle.fragments.specs.List.{limit}
+use Rattle.disc.specs.Records.{used}
 use Rattle.disc.proofs.Laws.Flush.{flush-sound, flush-pending}
 use Rattle.disc.proofs.Laws.Session.{kept, kept-few, session-idle, session-incomplete, session-full, session-past, session-done}
 use Rattle.disc.proofs.Laws.Decision.{decided-refused, decided-accepted, decided-unchanged, affected-session}
@@ -113,17 +113,14 @@ add-tail-from c =
     let m = kept (flush d) (flush-sound d (c .before .before .before .before .before .before .before .before .before .before .before .before .before .before .before .before .before .pre)) (flush-pending d) in
     omega (arith, ap (λ x. x .fragment .session) (c .before .before .before .before .before .before .before .before .last-kept .ensures), m .sessions)
 
-cast-t20 : tie.Need-cast-t20
-cast-t20 c = search needs
-
 tail-from-requires : tie.Need-tail-from-requires
 tail-from-requires c κs = search needs
 
 add-new : tie.Need-add-new
 add-new c =
-    let d = c .before .before .before .before .before .before .before .before .before .before .before .before .before .before .before .before .before .before .before .before .args .self in
-    let l = c .before .before .before .before .before .before .before .before .before .before .before .last-kept .ensures in
-    omega (arith, ap (λ x. x .number) l, kept-few (flush d) (flush-sound d (c .before .before .before .before .before .before .before .before .before .before .before .before .before .before .before .before .before .before .before .before .pre)) (flush-pending d) (λ e. c .before .before .before .before .before .before .before .before .before .if3 .left (ap (λ x. x .number) l ∙ e)))
+    let d = c .before .before .before .before .before .before .before .before .before .before .before .before .before .before .before .before .before .before .before .args .self in
+    let l = c .before .before .before .before .before .before .before .before .before .before .last-kept .ensures in
+    omega (arith, ap (λ x. x .number) l, kept-few (flush d) (flush-sound d (c .before .before .before .before .before .before .before .before .before .before .before .before .before .before .before .before .before .before .before .pre)) (flush-pending d) (λ e. c .before .before .before .before .before .before .before .before .if3 .left (ap (λ x. x .number) l ∙ e)))
 
 new-requires : tie.Need-new-requires
 new-requires c κs = search needs
@@ -134,16 +131,16 @@ close-last-requires c κs = search needs
 returns-5 : tie.Need-returns-5
 unfolding closingLast
 returns-5 c =
-    let d = c .before .before .before .before .before .before .before .before .before .before .before .before .before .before .before .before .before .before .before .before .before .before .args .self in
-    let fe = ap (λ x. x .entry) (c .before .before .before .before .before .before .before .before .before .before .before .before .before .before .before .before .before .before .flushing .ensures) in
-    let h = rw (c .before .before .before .before .before .before .before .before .before .before .before .before .before .before .before .before .before .before .before .before .before .blank-tail-only .ensures) at (c .before .before .before .before .before .before .before .before .before .before .before .before .before .before .before .before .before .before .before .if1 .left) in
-    let i = sym (c .before .before .before .before .before .before .before .before .before .before .before .before .before .before .before .before .stays-incomplete .ensures) ∙ c .before .before .before .before .before .before .before .before .before .before .before .before .before .before .before .if2 .left in
-    let l = c .before .before .before .before .before .before .before .before .before .before .before .before .before .last-kept .ensures in
-    let u : used (closeTail (flush d)) ≡ limit → ⊥ = λ e. c .before .before .before .before .before .before .before .before .before .before .before .if3 .left (ap (λ x. x .number) l ∙ e) in
-    let n = wide-number (rw l at (c .before .before .before .before .before .before .before .before .before .next-session-start .ensures)) in
-    rw (c .close-last .ensures, decided-accepted, c .before .new .ensures, c .before .before .before .before .before .before .before .before .before .before .before .before .before .before .last-flushed .ensures, c .before .before .before .before .before .before .before .before .before .before .before .before .before .before .before .before .before .before .flushing .ensures)
-    (ap (λ x. accepted x (flushCount d) noReply (plan (flushPlan d) Nothing)) (affected-session d (c .before .before .before .before .before .before .before .before .before .before .before .before .before .before .before .before .before .before .before .before .before .before .pre) _ _ (ap (λ x. x .number) l) (rw (c .before .before .before .before .before .before .before .before .before .next-session-start .ensures, l) at (c .before .before .before .tail-from .ensures)))
-    ∙ sym (session-done d h i u (c .before .before .before .before .before .before .before .before .before .before .before .before .before .before .before .before .before .before .before .before .before .before .pre) (rw n at (c .before .before .before .before .before .before .if4 .left))))
+    let d = c .before .before .before .before .before .before .before .before .before .before .before .before .before .before .before .before .before .before .before .before .before .args .self in
+    let fe = ap (λ x. x .entry) (c .before .before .before .before .before .before .before .before .before .before .before .before .before .before .before .before .before .flushing .ensures) in
+    let h = rw (c .before .before .before .before .before .before .before .before .before .before .before .before .before .before .before .before .before .before .before .before .blank-tail-only .ensures) at (c .before .before .before .before .before .before .before .before .before .before .before .before .before .before .before .before .before .before .if1 .left) in
+    let i = sym (c .before .before .before .before .before .before .before .before .before .before .before .before .before .before .before .stays-incomplete .ensures) ∙ c .before .before .before .before .before .before .before .before .before .before .before .before .before .before .if2 .left in
+    let l = c .before .before .before .before .before .before .before .before .before .before .before .before .last-kept .ensures in
+    let u : used (closeTail (flush d)) ≡ limit → ⊥ = λ e. c .before .before .before .before .before .before .before .before .before .before .if3 .left (ap (λ x. x .number) l ∙ e) in
+    let n = wide-number (rw l at (c .before .before .before .before .before .before .before .before .next-session-start .ensures)) in
+    rw (c .close-last .ensures, decided-accepted, c .before .new .ensures, c .before .before .before .before .before .before .before .before .before .before .before .before .before .last-flushed .ensures, c .before .before .before .before .before .before .before .before .before .before .before .before .before .before .before .before .before .flushing .ensures)
+    (ap (λ x. accepted x (flushCount d) noReply (plan (flushPlan d) Nothing)) (affected-session d (c .before .before .before .before .before .before .before .before .before .before .before .before .before .before .before .before .before .before .before .before .before .pre) _ _ (ap (λ x. x .number) l) (rw (c .before .before .before .before .before .before .before .before .next-session-start .ensures, l) at (c .before .before .before .tail-from .ensures)))
+    ∙ sym (session-done d h i u (c .before .before .before .before .before .before .before .before .before .before .before .before .before .before .before .before .before .before .before .before .before .pre) (rw n at (c .before .before .before .before .before .if4 .left))))
 
 pub close-session-spec : {M : Type 1} → statement M
 close-session-spec =
@@ -167,7 +164,6 @@ close-session-spec =
     refused-requires-3
     returns-4
     add-tail-from
-    cast-t20
     tail-from-requires
     add-new
     new-requires

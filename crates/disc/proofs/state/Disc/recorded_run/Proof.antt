@@ -1,11 +1,23 @@
 use lib.ListN.{length}
 use mathlib.Core.Bool.{true}
-use mathlib.Core.Path.{_≡_, sym, _∙_}
-use Rattle.disc.specs.Run.{sentBy, served, recordedRun}
-use Rattle.disc.proofs.Laws.Run.{served-ready, served-medium, no-run, run-of}
+use Rattle.disc.specs.Decision.{decided}
+use Rattle.disc.specs.Run.{served, sentWithin, recordedRun}
+use Rattle.disc.specs.Judge.{perform}
+use Rattle.protocol.specs.Command.{decode}
+use Rattle.disc.proofs.Laws.Run.{served-ready, served-medium, moved-within, run-of}
+use Rattle.disc.proofs.Laws.Outcome.{outcome-placed}
+use Rattle.disc.proofs.Laws.Judge.{perform-outcome}
+use mathlib.Core.Path.{_≡_, refl, sym, _∙_, ap}
+use native.Mathlib.Omega.{arith}
 use borrow.Author.Needs.{needs}
 use Rattle.disc.proofs.state.Disc.recorded_run.Statement.{statement}
 use Rattle.disc.proofs.state.Disc.recorded_run.Tie as tie
+use Rattle.disc.proofs.state.Disc.recorded_run.Reads as reads
+use Rattle.disc.proofs.state.Disc.recorded_run.Lts as lts
+use Rattle.disc.proofs.state.Disc.perform.Reads as perform-reads
+use Rattle.disc.proofs.state.Disc.serves.Reads as serves-reads
+use Rattle.disc.proofs.verdict.Transfer.run.Reads as run-reads
+use Rattle.protocol.proofs.command.Command.decode.Reads as decode-reads
 
 serves-requires : tie.Need-serves-requires
 serves-requires c κs = search needs
@@ -13,16 +25,25 @@ serves-requires c κs = search needs
 decode-requires : tie.Need-decode-requires
 decode-requires c κs = search needs
 
-enum-known-command : tie.Need-enum-known-command
-enum-known-command c = search needs
+perform-requires : tie.Need-perform-requires
+perform-requires c κs =
+    served-ready (c .before .before .before .before .before .args .self) (length (c .before .before .before .before .before .args .cdb .now)) (length (c .before .before .before .before .before .args .medium .now)) (sym (c .before .before .serves .ensures) ∙ c .before .if1 .taken)
 
 run-requires : tie.Need-run-requires
-run-requires c κs =
-    let start = c .before .before .before .before .before .before .before .before .args in
-    let b = length (start .cdb .now) in
-    let m = length (start .medium .now) in
-    let e : served (start .self) b m ≡ true = sym (c .before .before .before .before .before .serves .ensures) ∙ c .before .before .before .before .if1 .taken in
-    (served-ready (start .self) b m e, served-medium (start .self) b m e)
+run-requires c κs = search needs
+
+returns : tie.Need-returns
+unfolding recordedRun decided
+returns c =
+    let d = c .before .before .before .before .before .before .before .before .args .self in
+    let b = c .before .before .before .before .before .before .before .before .args .cdb .now in
+    let m = c .before .before .before .before .before .before .before .before .args .medium .now in
+    let e : served d (length b) (length m) ≡ true = sym (c .before .before .before .before .before .serves .ensures) ∙ c .before .before .before .before .if1 .taken in
+    let r = served-ready d (length b) (length m) e in
+    let k = decode b in
+    let t = ap (λ v. v .plan .transfer) (rw (c .before .before .before .decode .ensures) at (c .before .before .perform .ensures)) in
+    let w = moved-within d k (perform d k .plan .transfer) m (served-medium d (length b) (length m) e) (outcome-placed d k (perform d k) (perform-outcome d k r) .moved) in
+    run-of d b m _ (rw e (c .run .ensures ∙ (ap (λ x. sentWithin x m) t ∙ w)))
 
 sub-result : tie.Need-sub-result
 sub-result c = search needs
@@ -33,30 +54,9 @@ part-result-start c = search needs
 part-result-end : tie.Need-part-result-end
 part-result-end c = search needs
 
-returns : tie.Need-returns
-unfolding recordedRun sentBy
-returns c =
-    run-of (c .before .before .before .before .before .before .before .before .before .args .self) _ _ _
-    (simp (c .run .ensures, c .before .before .before .before .before .if1 .taken, ← c .before .before .before .before .before .before .serves .ensures, ← c .before .before .before .before .decode .ensures, c .before .before .command .given .1))
-
 returns-2 : tie.Need-returns-2
 unfolding recordedRun
-returns-2 c =
-    run-of (c .before .before .before .before .before .before .before .args .self) _ _ _
-    (simp (c .before .before .before .if1 .taken, ← c .before .before .before .before .serves .ensures, ← c .before .before .decode .ensures) (sym (no-run _ _ _ (c .before .match .keys2))))
-
-sub-result-2 : tie.Need-sub-result-2
-sub-result-2 c = search needs
-
-part-result-start-2 : tie.Need-part-result-start-2
-part-result-start-2 c = search needs
-
-part-result-end-2 : tie.Need-part-result-end-2
-part-result-end-2 c = search needs
-
-returns-3 : tie.Need-returns-3
-unfolding recordedRun
-returns-3 c = run-of (c .before .before .before .before .before .args .self) _ _ _ (simp (c .before .if1 .left, ← c .before .before .serves .ensures))
+returns-2 c = run-of (c .before .before .before .before .before .args .self) _ _ _ (simp (c .before .if1 .left, ← c .before .before .serves .ensures))
 
 pub recorded-run-spec : {M : Type 1} → statement M
 recorded-run-spec =
@@ -64,14 +64,10 @@ recorded-run-spec =
     (tie.spec
     serves-requires
     decode-requires
-    enum-known-command
+    perform-requires
     run-requires
+    returns
     sub-result
     part-result-start
     part-result-end
-    returns
-    returns-2
-    sub-result-2
-    part-result-start-2
-    part-result-end-2
-    returns-3)
+    returns-2)

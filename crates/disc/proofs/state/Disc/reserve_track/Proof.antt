@@ -1,9 +1,9 @@
-use Rattle.fragments.specs.List.{limit}
-use Rattle.disc.specs.Records.{used}
 use borrow.Author.Tests.{eq-eqb, ne-eqb, lt-ltb, le-ltb, not-true, not-false}
 use Rattle.fragments.proofs.Laws.Address.{wide-number}
 use Rattle.fragments.proofs.Laws.Numbers.{below-limit}
 use Rattle.disc.specs.Reserve.{reserve}
+use Rattle.fragments.specs.List.{limit}
+use Rattle.disc.specs.Records.{used}
 use Rattle.disc.proofs.Laws.Rules.{sound-rules}
 use Rattle.disc.proofs.Laws.Flush.{used-limit}
 use Rattle.disc.proofs.Laws.Reserve.{reserve-full, reserve-past, reserve-done}

@@ -1,10 +1,13 @@
-use borrow.Author.Tests.{eq-eqb, ne-eqb, lt-ltb, le-ltb, not-true, not-false}
+use borrow.Author.Tests.{ltb-false, le-ltb}
+use Prim.Native.Nat.{_+_}
+use lib.Dec.{ltb}
+use Rattle.disc.specs.Records.{numbered}
 use Rattle.disc.specs.Write.{writeTo}
-use Rattle.disc.specs.Verdict.{accept, accepted}
+use Rattle.disc.specs.Verdict.{accept}
 use Rattle.fragments.specs.Address.{firstSector}
 use Rattle.fragments.specs.Fragment.{end}
-use Rattle.disc.proofs.Laws.Write.{place, fit, gathering, write-count, end-from, end-past, others-count-most}
-use Rattle.disc.proofs.Laws.Decision.{decided-refused, decided-link, decided-accepted, decided-unchanged}
+use Rattle.disc.proofs.Laws.Write.{place, fit, gathering, write-count, others-count-most}
+use Rattle.disc.proofs.Laws.Decision.{decided-refused, decided-accepted}
 use mathlib.Core.Path.{_≡_, refl, sym, _∙_, ap}
 use native.Mathlib.Omega.{arith}
 use borrow.Author.Needs.{needs}
@@ -20,6 +23,7 @@ use Rattle.disc.proofs.state.Disc.gather.Reads as gather-reads
 use Rattle.disc.proofs.state.Disc.numbered.Reads as numbered-reads
 use Rattle.disc.proofs.state.Disc.pending_in.Reads as pending-in-reads
 use Rattle.disc.proofs.verdict.Plan.new.Reads as new-reads
+use Rattle.fragments.proofs.address.Lba.passes.Reads as passes-reads
 use Rattle.fragments.proofs.whole_blocks.Reads as whole-blocks-reads
 use Rattle.fragments.proofs.fragment.Fragment.end_address.Reads as end-address-reads
 use Rattle.protocol.proofs.reply.Reply.none.Reads as none-reads
@@ -36,33 +40,27 @@ numbered-requires c κs =
 end-address-requires : tie.Need-end-address-requires
 end-address-requires c κs = search needs
 
-add-if1 : tie.Need-add-if1
-add-if1 c =
-    let d = c .before .before .before .args .self in
-    let a = c .before .before .before .args .address in
-    let n = c .before .before .before .args .number in
-    let k = c .before .before .before .args .sectors in
-    let p = place d a n (c .before .before .before .pre .0) (c .before .before .before .pre .1) in
-    omega (arith, p .near, c .before .before .before .fits .sectors)
+passes-requires : tie.Need-passes-requires
+passes-requires c κs = search needs
 
 refused-requires : tie.Need-refused-requires
 refused-requires c κs = search needs
 
 returns : tie.Need-returns
 unfolding writeTo
-returns c = rw (c .refused .ensures, decided-refused, end-past (c .before .before .before .before .before .before .args .self) (c .before .before .before .before .before .before .args .address) (c .before .before .before .before .before .before .args .number) (c .before .before .before .before .before .before .args .sectors) (c .before .before .before .before .end-address .result) (c .before .before .before .before .end-address .ensures ∙ ap (λ f. firstSector (end f)) (c .before .before .before .before .before .numbered .ensures)) (c .before .if1 .taken))
+returns c = rw (c .refused .ensures, decided-refused, (sym (c .before .before .passes .ensures ∙ ap (λ e. ltb (e .0) (c .before .before .before .before .before .args .address .0 + c .before .before .before .before .before .args .sectors)) (c .before .before .before .end-address .ensures ∙ ap (λ f. firstSector (end f)) (c .before .before .before .before .numbered .ensures))) ∙ c .before .if1 .taken))
 
 pending-in-requires : tie.Need-pending-in-requires
 pending-in-requires c κs = search needs
 
 first-unrecorded-requires : tie.Need-first-unrecorded-requires
 first-unrecorded-requires c κs =
-    let d = c .before .before .before .before .before .before .args .self in
-    let a = c .before .before .before .before .before .before .args .address in
-    let n = c .before .before .before .before .before .before .args .number in
-    let k = c .before .before .before .before .before .before .args .sectors in
-    let p = place d a n (c .before .before .before .before .before .before .pre .0) (c .before .before .before .before .before .before .pre .1) in
-    rw (c .before .before .before .before .before .numbered .ensures) (omega (arith, p .ends, p .room))
+    let d = c .before .before .before .before .before .args .self in
+    let a = c .before .before .before .before .before .args .address in
+    let n = c .before .before .before .before .before .args .number in
+    let k = c .before .before .before .before .before .args .sectors in
+    let p = place d a n (c .before .before .before .before .before .pre .0) (c .before .before .before .before .before .pre .1) in
+    rw (c .before .before .before .before .numbered .ensures) (omega (arith, p .ends, p .room))
 
 cast-whole-blocks : tie.Need-cast-whole-blocks
 cast-whole-blocks c = search needs
@@ -84,23 +82,23 @@ new-requires c κs = search needs
 
 gather-requires : tie.Need-gather-requires
 gather-requires c κs =
-    let d = c .before .before .before .before .before .before .before .before .before .before .before .args .self in
-    let a = c .before .before .before .before .before .before .before .before .before .before .before .args .address in
-    let n = c .before .before .before .before .before .before .before .before .before .before .before .args .number in
-    let k = c .before .before .before .before .before .before .before .before .before .before .before .args .sectors in
-    let p = place d a n (c .before .before .before .before .before .before .before .before .before .before .before .pre .0) (c .before .before .before .before .before .before .before .before .before .before .before .pre .1) in
-    let h = end-from d a n k (c .before .before .before .before .before .before .before .before .before .end-address .result) (c .before .before .before .before .before .before .before .before .before .end-address .ensures ∙ ap (λ f. firstSector (end f)) (c .before .before .before .before .before .before .before .before .before .before .numbered .ensures)) (c .before .before .before .before .before .before .if1 .left) in
-    (c .before .before .before .before .before .before .before .before .before .before .before .pre .0, (ap (λ x. x .entry) (c .before .before .flushing-others .ensures), gathering d a n k (c .before .before .before .before .before .before .before .before .before .before .before .pre .0) (c .before .before .before .before .before .before .before .before .before .before .before .pre .1) h))
+    let d = c .before .before .before .before .before .before .before .before .before .before .args .self in
+    let a = c .before .before .before .before .before .before .before .before .before .before .args .address in
+    let n = c .before .before .before .before .before .before .before .before .before .before .args .number in
+    let k = c .before .before .before .before .before .before .before .before .before .before .args .sectors in
+    let p = place d a n (c .before .before .before .before .before .before .before .before .before .before .pre .0) (c .before .before .before .before .before .before .before .before .before .before .pre .1) in
+    let h = ltb-false (firstSector (end (numbered d n)) .0) (a .0 + k) (sym (c .before .before .before .before .before .before .before .passes .ensures ∙ ap (λ e. ltb (e .0) (c .before .before .before .before .before .before .before .before .before .before .args .address .0 + c .before .before .before .before .before .before .before .before .before .before .args .sectors)) (c .before .before .before .before .before .before .before .before .end-address .ensures ∙ ap (λ f. firstSector (end f)) (c .before .before .before .before .before .before .before .before .before .numbered .ensures))) ∙ c .before .before .before .before .before .before .if1 .left) in
+    (c .before .before .before .before .before .before .before .before .before .before .pre .0, (ap (λ x. x .entry) (c .before .before .flushing-others .ensures), gathering d a n k (c .before .before .before .before .before .before .before .before .before .before .pre .0) (c .before .before .before .before .before .before .before .before .before .before .pre .1) h))
 
 add-accepted : tie.Need-add-accepted
 add-accepted c =
-    let d = c .before .before .before .before .before .before .before .before .before .before .before .before .before .args .self in
-    let a = c .before .before .before .before .before .before .before .before .before .before .before .before .before .args .address in
-    let n = c .before .before .before .before .before .before .before .before .before .before .before .before .before .args .number in
-    let k = c .before .before .before .before .before .before .before .before .before .before .before .before .before .args .sectors in
-    let p = place d a n (c .before .before .before .before .before .before .before .before .before .before .before .before .before .pre .0) (c .before .before .before .before .before .before .before .before .before .before .before .before .before .pre .1) in
-    let h = end-from d a n k (c .before .before .before .before .before .before .before .before .before .before .before .end-address .result) (c .before .before .before .before .before .before .before .before .before .before .before .end-address .ensures ∙ ap (λ f. firstSector (end f)) (c .before .before .before .before .before .before .before .before .before .before .before .before .numbered .ensures)) (c .before .before .before .before .before .before .before .before .if1 .left) in
-    let f = fit d a n k p (c .before .before .before .before .before .before .before .before .before .before .before .before .before .pre .1) h in
+    let d = c .before .before .before .before .before .before .before .before .before .before .before .before .args .self in
+    let a = c .before .before .before .before .before .before .before .before .before .before .before .before .args .address in
+    let n = c .before .before .before .before .before .before .before .before .before .before .before .before .args .number in
+    let k = c .before .before .before .before .before .before .before .before .before .before .before .before .args .sectors in
+    let p = place d a n (c .before .before .before .before .before .before .before .before .before .before .before .before .pre .0) (c .before .before .before .before .before .before .before .before .before .before .before .before .pre .1) in
+    let h = ltb-false (firstSector (end (numbered d n)) .0) (a .0 + k) (sym (c .before .before .before .before .before .before .before .before .before .passes .ensures ∙ ap (λ e. ltb (e .0) (c .before .before .before .before .before .before .before .before .before .before .before .before .args .address .0 + c .before .before .before .before .before .before .before .before .before .before .before .before .args .sectors)) (c .before .before .before .before .before .before .before .before .before .before .end-address .ensures ∙ ap (λ f. firstSector (end f)) (c .before .before .before .before .before .before .before .before .before .before .before .numbered .ensures))) ∙ c .before .before .before .before .before .before .before .before .if1 .left) in
+    let f = fit d a n k p (c .before .before .before .before .before .before .before .before .before .before .before .before .pre .1) h in
     rw (c .before .before .before .before .flushing-others .ensures, c .before .before .before .before .before .whole-blocks .ensures)
     (omega (arith, f .sectors, c .before .before .before .before .before .before .before .pending-in .ensures, p .few, others-count-most d n))
 
@@ -113,13 +111,13 @@ accepted-requires c κs = search needs
 returns-2 : tie.Need-returns-2
 unfolding writeTo accept
 returns-2 c =
-    let d = c .before .before .before .before .before .before .before .before .before .before .before .before .before .before .before .args .self in
-    let a = c .before .before .before .before .before .before .before .before .before .before .before .before .before .before .before .args .address in
-    let n = c .before .before .before .before .before .before .before .before .before .before .before .before .before .before .before .args .number in
-    let k = c .before .before .before .before .before .before .before .before .before .before .before .before .before .before .before .args .sectors in
-    let p = place d a n (c .before .before .before .before .before .before .before .before .before .before .before .before .before .before .before .pre .0) (c .before .before .before .before .before .before .before .before .before .before .before .before .before .before .before .pre .1) in
-    let h = end-from d a n k (c .before .before .before .before .before .before .before .before .before .before .before .before .before .end-address .result) (c .before .before .before .before .before .before .before .before .before .before .before .before .before .end-address .ensures ∙ ap (λ f. firstSector (end f)) (c .before .before .before .before .before .before .before .before .before .before .before .before .before .before .numbered .ensures)) (c .before .before .before .before .before .before .before .before .before .before .if1 .left) in
-    rw (c .accepted .ensures, decided-accepted, c .before .before .before .gather .ensures, c .before .none .ensures, c .before .before .before .before .before .new .ensures, c .before .before .before .before .before .before .flushing-others .ensures, c .before .before .before .before .before .before .before .whole-blocks .ensures, c .before .before .before .before .before .before .before .before .first-unrecorded .ensures, c .before .before .before .before .before .before .before .before .before .pending-in .ensures, c .before .before .before .before .before .before .before .before .before .before .before .before .before .before .numbered .ensures, le-ltb _ _ h, write-count d n k (c .before .before .before .before .before .before .before .before .before .before .before .before .before .before .before .pre .0) (c .before .before .before .before .before .before .before .before .before .before .before .before .before .before .before .pre .1 .from) (p .slot))
+    let d = c .before .before .before .before .before .before .before .before .before .before .before .before .before .before .args .self in
+    let a = c .before .before .before .before .before .before .before .before .before .before .before .before .before .before .args .address in
+    let n = c .before .before .before .before .before .before .before .before .before .before .before .before .before .before .args .number in
+    let k = c .before .before .before .before .before .before .before .before .before .before .before .before .before .before .args .sectors in
+    let p = place d a n (c .before .before .before .before .before .before .before .before .before .before .before .before .before .before .pre .0) (c .before .before .before .before .before .before .before .before .before .before .before .before .before .before .pre .1) in
+    let h = ltb-false (firstSector (end (numbered d n)) .0) (a .0 + k) (sym (c .before .before .before .before .before .before .before .before .before .before .before .passes .ensures ∙ ap (λ e. ltb (e .0) (c .before .before .before .before .before .before .before .before .before .before .before .before .before .before .args .address .0 + c .before .before .before .before .before .before .before .before .before .before .before .before .before .before .args .sectors)) (c .before .before .before .before .before .before .before .before .before .before .before .before .end-address .ensures ∙ ap (λ f. firstSector (end f)) (c .before .before .before .before .before .before .before .before .before .before .before .before .before .numbered .ensures))) ∙ c .before .before .before .before .before .before .before .before .before .before .if1 .left) in
+    rw (c .accepted .ensures, decided-accepted, c .before .before .before .gather .ensures, c .before .none .ensures, c .before .before .before .before .before .new .ensures, c .before .before .before .before .before .before .flushing-others .ensures, c .before .before .before .before .before .before .before .whole-blocks .ensures, c .before .before .before .before .before .before .before .before .first-unrecorded .ensures, c .before .before .before .before .before .before .before .before .before .pending-in .ensures, c .before .before .before .before .before .before .before .before .before .before .before .before .before .numbered .ensures, le-ltb _ _ h, write-count d n k (c .before .before .before .before .before .before .before .before .before .before .before .before .before .before .pre .0) (c .before .before .before .before .before .before .before .before .before .before .before .before .before .before .pre .1 .from) (p .slot))
 
 pub write-to-spec : {M : Type 1} → statement M
 write-to-spec =
@@ -127,7 +125,7 @@ write-to-spec =
     (tie.spec
     numbered-requires
     end-address-requires
-    add-if1
+    passes-requires
     refused-requires
     returns
     pending-in-requires

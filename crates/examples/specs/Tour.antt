@@ -318,28 +318,36 @@ fillingRun =
 
 abbrev fieldsRun : List Line
 fieldsRun =
+    -- one block each of 51h, 52h, WRITE, READ, 5B/001 and RESERVE has FFh in every byte that is not named
     -- 51h with F8h in byte 1, whose low three bits are zero, cut to 256 bytes and not to the 0 of byte 8: the blank disc, whole
-    line (block (0x51 ∷ 0xF8 ∷ 0 ∷ 0 ∷ 0 ∷ 0 ∷ 0 ∷ 1 ∷ 0 ∷ [])) 0 34 0 0
+    line (0x51 ∷ 0xF8 ∷ 0xFF ∷ 0xFF ∷ 0xFF ∷ 0xFF ∷ 0xFF ∷ 1 ∷ 0 ∷ 0xFF ∷ 0xFF ∷ 0xFF ∷ []) 0 34 0 0
     (0 ∷ 0x20 ∷ 0 ∷ 1 ∷ 1 ∷ 1 ∷ 1 ∷ replicate 27 0)
     (sense 0 0 0) 0 0 threeHundred
     -- 52h with FDh in byte 1: its low two bits are 1, a number
-    ∷ line (block (0x52 ∷ 0xFD ∷ 0 ∷ 0 ∷ 0 ∷ 1 ∷ 0 ∷ 1 ∷ 0 ∷ [])) 0 36 0 0
+    ∷ line (0x52 ∷ 0xFD ∷ 0 ∷ 0 ∷ 0 ∷ 1 ∷ 0xFF ∷ 1 ∷ 0 ∷ 0xFF ∷ 0xFF ∷ 0xFF ∷ []) 0 36 0 0
     (0 ∷ 0x22 ∷ 1 ∷ 1 ∷ 0 ∷ 4 ∷ 0x41 ∷ 1 ∷ 0 ∷ 0 ∷ 0 ∷ 0 ∷ 0 ∷ 0 ∷ 0 ∷ 0 ∷ 0 ∷ 0 ∷ 0x12 ∷ 0xC0
     ∷ 0 ∷ 0 ∷ 0 ∷ 0x10 ∷ 0 ∷ 0 ∷ 0x12 ∷ 0xC0 ∷ replicate 8 0)
     (sense 0 0 0) 0 0 threeHundred
     -- 52h number 257 and 5B/001 number 257: unlisted, though byte 5 is 1
     ∷ line (block (0x52 ∷ 1 ∷ 0 ∷ 0 ∷ 1 ∷ 1 ∷ 0 ∷ 0 ∷ 36 ∷ [])) 0 36 0x052400 0 [] (sense 0x5 0x24 0x00) 0 0 threeHundred
     ∷ line (block (0x5B ∷ 0 ∷ 1 ∷ 0 ∷ 1 ∷ 1 ∷ [])) 0 0 0x052400 0 [] (sense 0x5 0x24 0x00) 0 0 threeHundred
-    -- WRITE 0 of 256: sixteen blocks; READ 0 of 256
-    ∷ line (block (0x2A ∷ 0 ∷ 0 ∷ 0 ∷ 0 ∷ 0 ∷ 0 ∷ 1 ∷ 0 ∷ [])) 524288 0 0 16 [] (sense 0 0 0) 256 0 sixteenBlocks
-    ∷ line (block (0x28 ∷ 0 ∷ 0 ∷ 0 ∷ 0 ∷ 0 ∷ 0 ∷ 1 ∷ 0 ∷ [])) 0 524288 0 0 [] (sense 0 0 0) 256 0 sixteenBlocks
+    -- with 1 in the highest byte: READ 16777216 of 1 passes the disc, 52h of that address finds no fragment, RESERVE 16777232 does not fit
+    ∷ line (block (0x28 ∷ 0 ∷ 1 ∷ 0 ∷ 0 ∷ 0 ∷ 0 ∷ 0 ∷ 1 ∷ [])) 0 2048 0x052100 0 [] (sense 0x5 0x21 0x00) 0 0 threeHundred
+    ∷ line (block (0x52 ∷ 0 ∷ 1 ∷ 0 ∷ 0 ∷ 0 ∷ 0 ∷ 0 ∷ 36 ∷ [])) 0 36 0x052100 0 [] (sense 0x5 0x21 0x00) 0 0 threeHundred
+    ∷ line (block (0x53 ∷ 0 ∷ 0 ∷ 0 ∷ 0 ∷ 1 ∷ 0 ∷ 0 ∷ 0x10 ∷ [])) 0 0 0x056300 0 [] (sense 0x5 0x63 0x00) 0 0 threeHundred
+    -- WRITE 0 of 256: sixteen blocks; READ 0 of 256, and of 257, one sector too many
+    ∷ line (0x2A ∷ 0xFF ∷ 0 ∷ 0 ∷ 0 ∷ 0 ∷ 0xFF ∷ 1 ∷ 0 ∷ 0xFF ∷ 0xFF ∷ 0xFF ∷ []) 524288 0 0 16 [] (sense 0 0 0) 256 0 sixteenBlocks
+    ∷ line (0x28 ∷ 0xFF ∷ 0 ∷ 0 ∷ 0 ∷ 0 ∷ 0xFF ∷ 1 ∷ 0 ∷ 0xFF ∷ 0xFF ∷ 0xFF ∷ []) 0 524288 0 0 [] (sense 0 0 0) 256 0 sixteenBlocks
+    ∷ line (block (0x28 ∷ 0 ∷ 0 ∷ 0 ∷ 0 ∷ 0 ∷ 0 ∷ 1 ∷ 1 ∷ [])) 0 526336 0x080000 0 [] (sense 0x8 0x00 0x00) 256 0 sixteenBlocks
+    -- WRITE 16777472 of 1: 256 in the three low bytes is not the whole address
+    ∷ line (block (0x2A ∷ 0 ∷ 1 ∷ 0 ∷ 1 ∷ 0 ∷ 0 ∷ 0 ∷ 1 ∷ [])) 2048 0 0x052102 0 [] (sense 0x5 0x21 0x02) 256 0 sixteenBlocks
     -- WRITE 256 of 1, then 5Bh with F9h in byte 2, 001: the flush records block 16, F = 15; L = 17, a tail at 0 + 17 + 1
     ∷ line (block (0x2A ∷ 0 ∷ 0 ∷ 0 ∷ 1 ∷ 0 ∷ 0 ∷ 0 ∷ 1 ∷ [])) 2048 0 0 0 [] (sense 0 0 0) 257 1 sixteenBlocks
-    ∷ line (block (0x5B ∷ 0 ∷ 0xF9 ∷ 0 ∷ 0 ∷ 1 ∷ [])) 0 0 0 1 [] (sense 0 0 0) 288 0 closedAt17
+    ∷ line (0x5B ∷ 0xFF ∷ 0xF9 ∷ 0xFF ∷ 0 ∷ 1 ∷ 0xFF ∷ 0xFF ∷ 0xFF ∷ 0xFF ∷ 0xFF ∷ 0xFF ∷ []) 0 0 0 1 [] (sense 0 0 0) 288 0 closedAt17
     -- WRITE 288 of 1: one sector pending in the tail
     ∷ line (block (0x2A ∷ 0 ∷ 0 ∷ 0 ∷ 1 ∷ 0x20 ∷ 0 ∷ 0 ∷ 1 ∷ [])) 2048 0 0 0 [] (sense 0 0 0) 289 1 closedAt17
     -- RESERVE 0 where the tail is not blank: its size comes first
-    ∷ line (block (0x53 ∷ [])) 0 0 0x052400 0 [] (sense 0x5 0x24 0x00) 289 1 closedAt17
+    ∷ line (0x53 ∷ 0xFF ∷ 0xFF ∷ 0xFF ∷ 0xFF ∷ 0 ∷ 0 ∷ 0 ∷ 0 ∷ 0xFF ∷ 0xFF ∷ 0xFF ∷ []) 0 0 0x052400 0 [] (sense 0x5 0x24 0x00) 289 1 closedAt17
     -- 5B/001 number 2: with a sector pending it is not blank; the flush makes W = 1, F = 15; a tail at 18 + 1 + 1
     ∷ line (block (0x5B ∷ 0 ∷ 1 ∷ 0 ∷ 0 ∷ 2 ∷ [])) 0 0 0 1 [] (sense 0 0 0) 320 0 closedTwice
     -- 5B/010: the blank tail goes, e = 19, session 2 at 19 + 128

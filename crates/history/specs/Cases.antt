@@ -3,7 +3,7 @@
 use Prim.Native.Nat.{ℕ, _+_, _*_, _≤_, _<_}
 use mathlib.Core.Bool.{true, false}
 use mathlib.Core.Path.{_≡_}
-use mathlib.Core.List.{List, [], _∷_, _++_}
+use mathlib.Core.List.{List, [], _∷_, _++_, map}
 use lib.ListN.{length, getD, replicate}
 use Rattle.fragments.specs.Address.{lba}
 use Rattle.disc.specs.Blank.{blank}
@@ -11,13 +11,15 @@ use Rattle.disc.specs.Records.{readable}
 use Rattle.drive.specs.Bytes.{zeros}
 use Rattle.drive.specs.Step.{Drive, drive, Request, request, Result}
 use Rattle.drive.specs.Alike.{recordedByte, pendingSectors, Alike}
+use Rattle.drive.specs.Requests.{WriteOf}
 use Rattle.history.specs.Types.{Answer, Accepted, Link, Drive as byDrive, BlankCheck, LinkRefusal, MediumSize, UnsoundState}
-use Rattle.history.specs.Sequence.{Turn, result, final, Admissible}
+use Rattle.history.specs.Sequence.{Start, Turn, result, final, Admissible, AllAccepted, blocksOf}
 use Rattle.history.specs.Account.{extentOf, sectorAt, account}
 use Rattle.history.specs.Brought.{writes, broughtTo, broughtInto}
 use Rattle.history.specs.Past.{beginning, past, StaleApart, StaleChanges}
 use Rattle.history.specs.Stale.{Change, unchanged, Given, after, given, turn}
 use Rattle.history.specs.Examples.{writeBlock}
+use Rattle.history.specs.Wide.{partsOf, total, nameable}
 
 -- the answers of a sequence, its replies and its counts of blocks recorded
 unfoldable pub answers : List Turn → Drive → List Answer
@@ -209,7 +211,19 @@ pub record CasesOn (c : ℕ) : Type 0 where
       (f : Flash c) (l : Log) (x : ℕ) (j : ℕ → Change)
       → Requested l x (given (early l x j) (blankOver c f)) (given (newer l x j) (blankOver c f)) (blankOver c f) (j 7)
 
--- on the smallest disc and on the largest
+-- the first WRITE of a disc, g, and its parts hs, from the drive s on and from another one: each part is accepted, and together they record as
+-- many blocks as the whole and leave the same disc
+pub record FirstWrite (g : Given) (hs : List Given) (s e : Drive) : Type 0 where
+  pub here : AllAccepted (given hs s) s
+  pub there : AllAccepted (given hs e) e
+  pub blocks : blocksOf (given hs e) e ≡ result (turn g s) s .recorded
+  pub disc : final (given hs e) e .disc ≡ result (turn g s) s .after .disc
+
+-- on the smallest disc and on the largest; and on every disc the first WRITE, of any length that fits, in parts of any lengths
 pub record Cases : Type 0 where
   pub smallest : CasesOn 256
   pub largest : CasesOn 143444
+  pub everywhere :
+      (c : ℕ) (s e : Drive) → Start c s → Start c e → (g : Given) (n : ℕ) → WriteOf (g .request) (lba 0) n → n ≤ 16 * c → (ks : List ℕ) → 2 ≤ length ks
+      → total ks ≡ n → nameable ks ≡ true → (hs : List Given) → map (λ (h : Given). h .request) hs ≡ partsOf 0 ks (g .request .payload)
+      → FirstWrite g hs s e

@@ -3,7 +3,7 @@ use Prim.Native.Nat.{ℕ, _+_, _*_, _/_, _≤_, _<_}
 use mathlib.Core.Path.{_≡_, refl, sym, ap, _∙_, subst}
 use mathlib.Core.Bool.{true, false}
 use mathlib.Core.Logic.{_⊎_, inl, inr}
-use mathlib.Core.List.{List, [], _∷_, _++_}
+use mathlib.Core.List.{List, [], _∷_, _++_, map, append-nil}
 use native.Mathlib.Omega.{arith}
 use borrow.Author.Tests.{le-leb, lt-ltb}
 use lib.Dec.{ltb}
@@ -11,6 +11,7 @@ use lib.ListN.{length, getD, replicate, length-replicate, length-append}
 use Rattle.fragments.specs.Address.{lba}
 use Rattle.protocol.specs.Answer.{isRefusalSense, allowedSense}
 use Rattle.disc.specs.Blank.{inRange, blank}
+use Rattle.disc.proofs.Laws.Blank.{range-most}
 use Rattle.protocol.specs.Command.{decode}
 use Rattle.fragments.specs.Fragment.{fragment, holdsRecorded}
 use Rattle.disc.specs.Records.{pendingIn, records, numbered, readable, atAddress}
@@ -30,7 +31,7 @@ use Rattle.drive.specs.Step.{Drive, Request, request}
 use Rattle.drive.specs.Requests.{WriteOf, ReadOf}
 use Rattle.drive.specs.Alike.{recordedByte, pendingSectors, Alike}
 use Rattle.history.specs.Types.{Disc, Appended, Answer, Accepted, Drive as byDrive, DriveRefusal, BlankCheck, EndOfUserArea, LinkRefusal, CommandBlockLength, MediumSize, UnsoundState, TransferLength, Number}
-use Rattle.history.specs.Sequence.{Start, Turn, Told, result, final, Admissible, Undisturbed, AllAccepted, blocksOf}
+use Rattle.history.specs.Sequence.{Start, Turn, Told, found, requests, result, final, Admissible, Undisturbed, AllAccepted, blocksOf}
 use Rattle.history.specs.Cut.{Parts, none, part, CutOf, SameCommand, Again, ends, same, cut, Agreeing}
 use Rattle.history.specs.Demand.{Demand3}
 use Rattle.history.specs.Account.{Account, opened, extentOf, sectorAt, written, flushed, credited, noted, account, contentAt, recordedAt}
@@ -40,13 +41,15 @@ use Rattle.history.specs.Past.{RecordedByHistory}
 use Rattle.history.specs.Stale.{Change, unchanged, Given, after, turn, given}
 use Rattle.history.specs.Examples.{writeBlock}
 use Rattle.history.specs.Witness.{Shape, shape, discAfter}
-use Rattle.history.specs.Cases.{answers, replies, counts, Flash, blankOver, Log, firstFive, nextThirteen, writing, asking, reading, flushing, newer, older, earliest, early, TwoControllers, ByteForByte, BlockStays, reserving, inTwo, Fitting, behindAll, Reader, Requested, CasesOn, Cases}
+use Rattle.history.specs.Cases.{answers, replies, counts, Flash, blankOver, Log, firstFive, nextThirteen, writing, asking, reading, flushing, newer, older, earliest, early, TwoControllers, ByteForByte, BlockStays, reserving, inTwo, Fitting, behindAll, Reader, Requested, CasesOn, FirstWrite, Cases}
+use Rattle.history.specs.Wide.{partsOf, total, nameable}
 use Rattle.history.proofs.Laws.Parts.{write-request}
 use Rattle.history.proofs.Laws.Demand.{demand-3}
 use Rattle.history.proofs.Laws.Kept.{kept-account}
 use Rattle.history.proofs.Laws.ReadBack.{read-back, kept-as-listed}
 use Rattle.history.proofs.Laws.Recalled.{recorded-by-history}
-use Rattle.history.proofs.Laws.Stale.{turn-alike, given-admissible, given-undisturbed}
+use Rattle.history.proofs.Laws.Stale.{turn-alike, given-admissible, given-requests, given-undisturbed}
+use Rattle.history.proofs.Laws.Wide.{parts-cut, wide}
 use Rattle.history.proofs.Laws.Decided.{decisions, accountBy, shapes, known-answers, known-disc, known-content, known-recorded}
 
 -- there is flash, and there is a log, of any byte
@@ -714,6 +717,43 @@ module _ (c : ℕ) (m : Computed c) (back : ReadBack) (count : KeptAsListed) (hi
         alike = history .alike c disc₁ start₁ turns₁ admissible₁;
       }
 
+-- the first WRITE of any disc, in any parts
+module _
+    (demand : Demand3) (c : ℕ) (s e : Drive) (start : Start c s) (other : Start c e) (g : Given) (n : ℕ) (w : WriteOf (g .request) (lba 0) n)
+    (fit : n ≤ 16 * c) (ks : List ℕ) (several : 2 ≤ length ks) (sum : total ks ≡ n) (named : nameable ks ≡ true) (hs : List Given)
+    (asked : map (λ (h : Given). h .request) hs ≡ partsOf 0 ks (g .request .payload))
+  where
+    taken : result (turn g s) s .answer ≡ Accepted
+    taken =
+        let a = turn-alike g s in
+        let found-start : Start c (found (turn g s) s) =
+        record {
+          range = start .range;
+          disc = start .disc;
+          medium = sym (a .mediumLength) ∙ start .medium;
+          pending = sym (a .pendingLength) ∙ start .pending;
+        } in
+        wide .accepted c (found (turn g s) s) found-start (g .request) n w fit
+
+    in-parts : (x : Drive) → CutOf (g .request) (requests (given hs x))
+    in-parts x =
+        subst (λ (qs : List Request). CutOf (g .request) qs) (sym (given-requests hs x ∙ asked))
+        (parts-cut (g .request) (lba 0) n ks w several sum named (omega (arith, fit, range-most c (start .range))))
+
+    abbrev cut-again : Again s (turn g s ∷ []) (given hs e)
+    cut-again = cut s (turn g s) [] (given hs e) [] (given hs e) taken (in-parts e) (ends _) (sym (append-nil (given hs e)))
+
+    first-write : FirstWrite g hs s e
+    unfolding final given Agreeing Admissible
+    first-write =
+        let r = demand .again c s e start other (turn g s ∷ []) (given hs e) (given-admissible (g ∷ []) s) (given-admissible hs e) cut-again in
+        record {
+          here = demand .whole c s start [] tt (turn g s) (given hs s) (turn-alike g s) (given-admissible hs s) (in-parts s) .0 taken;
+          there = r .0 .0;
+          blocks = r .0 .1;
+          disc = sym (r .1 .disc);
+        }
+
 -- all of them
 drawn : (c : ℕ) → Computed c → Demand3 → KeptAccount → ReadBack → KeptAsListed → RecordedByHistory → CasesOn c
 drawn c m demand kept back count history =
@@ -731,4 +771,5 @@ cases =
     record {
       smallest = drawn 256 (computed .0) demand-3 kept-account read-back kept-as-listed recorded-by-history;
       largest = drawn 143444 (computed .1) demand-3 kept-account read-back kept-as-listed recorded-by-history;
+      everywhere = first-write demand-3;
     }

@@ -102,6 +102,38 @@ bothFilled = fragment 1 0 4 4 45 Reserved ∷ fragment 1 5 595 1 15 Appended ∷
 abbrev allComplete : List Fragment
 allComplete = fragment 1 0 4 4 45 Reserved ∷ fragment 1 5 1 1 15 Appended ∷ []
 
+abbrev sixteenBlocks : List Fragment
+sixteenBlocks = fragment 1 0 300 16 0 Appended ∷ []
+
+abbrev closedAt17 : List Fragment
+closedAt17 = fragment 1 0 17 17 15 Appended ∷ fragment 1 18 282 0 0 Appended ∷ []
+
+abbrev closedTwice : List Fragment
+closedTwice = fragment 1 0 17 17 15 Appended ∷ fragment 1 18 1 1 15 Appended ∷ fragment 1 20 280 0 0 Appended ∷ []
+
+-- with session 2 open, w blocks of it recorded; and with session 3
+abbrev secondOf : ℕ → List Fragment
+secondOf w = fragment 1 0 17 17 15 Appended ∷ fragment 1 18 1 1 15 Appended ∷ fragment 2 147 153 w 0 Appended ∷ []
+
+abbrev thirdOpen : List Fragment
+thirdOpen =
+    fragment 1 0 17 17 15 Appended ∷ fragment 1 18 1 1 15 Appended ∷ fragment 2 147 1 1 0 Appended ∷ fragment 3 276 24 0 0 Appended ∷ []
+
+abbrev fivePending : List Fragment
+fivePending = fragment 1 0 2 1 0 Reserved ∷ fragment 1 3 597 0 0 Appended ∷ []
+
+abbrev elevenFilled : List Fragment
+elevenFilled = fragment 1 0 2 2 11 Reserved ∷ []
+
+abbrev upTo : ℕ → List Fragment
+upTo w = fragment 1 0 300 w 0 Appended ∷ []
+
+abbrev lastBlock : ℕ → List Fragment
+lastBlock w = fragment 1 0 298 298 0 Appended ∷ fragment 1 299 1 w 0 Appended ∷ []
+
+abbrev ends299 : List Fragment
+ends299 = fragment 1 0 299 299 0 Appended ∷ []
+
 abbrev ends171 : List Fragment
 ends171 = fragment 1 0 300 170 0 Appended ∷ []
 
@@ -140,6 +172,16 @@ droppedList = singles 63 0 ++ (fragment 1 126 130 0 0 Appended ∷ [])
 
 abbrev openedList : List Fragment
 openedList = singles 63 0 ++ (fragment 2 253 3 0 0 Appended ∷ [])
+
+-- 63 records, the last one a written tail; that one closed; and the tail in the last record, with w blocks recorded and closed
+abbrev oneFree : List Fragment
+oneFree = singles 62 0 ++ (fragment 1 124 132 1 0 Appended ∷ [])
+
+abbrev lastRecordTaken : ℕ → List Fragment
+lastRecordTaken w = singles 62 0 ++ (fragment 1 124 1 1 0 Appended ∷ fragment 1 126 130 w 0 Appended ∷ [])
+
+abbrev noneFree : List Fragment
+noneFree = singles 62 0 ++ (fragment 1 124 1 1 0 Appended ∷ fragment 1 126 1 1 0 Appended ∷ [])
 
 -- the runs
 abbrev firstRun : List Line
@@ -274,6 +316,79 @@ fillingRun =
     ∷ line (block (0x5B ∷ 0 ∷ 6 ∷ [])) 0 0 0 0 [] (sense 0 0 0) 0 0 allComplete
     ∷ []
 
+abbrev fieldsRun : List Line
+fieldsRun =
+    -- one block each of 51h, 52h, WRITE, READ, 5B/001 and RESERVE has FFh in every byte that is not named
+    -- 51h with F8h in byte 1, whose low three bits are zero, cut to 256 bytes and not to the 0 of byte 8: the blank disc, whole
+    line (0x51 ∷ 0xF8 ∷ 0xFF ∷ 0xFF ∷ 0xFF ∷ 0xFF ∷ 0xFF ∷ 1 ∷ 0 ∷ 0xFF ∷ 0xFF ∷ 0xFF ∷ []) 0 34 0 0
+    (0 ∷ 0x20 ∷ 0 ∷ 1 ∷ 1 ∷ 1 ∷ 1 ∷ replicate 27 0)
+    (sense 0 0 0) 0 0 threeHundred
+    -- 52h with FDh in byte 1: its low two bits are 1, a number
+    ∷ line (0x52 ∷ 0xFD ∷ 0 ∷ 0 ∷ 0 ∷ 1 ∷ 0xFF ∷ 1 ∷ 0 ∷ 0xFF ∷ 0xFF ∷ 0xFF ∷ []) 0 36 0 0
+    (0 ∷ 0x22 ∷ 1 ∷ 1 ∷ 0 ∷ 4 ∷ 0x41 ∷ 1 ∷ 0 ∷ 0 ∷ 0 ∷ 0 ∷ 0 ∷ 0 ∷ 0 ∷ 0 ∷ 0 ∷ 0 ∷ 0x12 ∷ 0xC0
+    ∷ 0 ∷ 0 ∷ 0 ∷ 0x10 ∷ 0 ∷ 0 ∷ 0x12 ∷ 0xC0 ∷ replicate 8 0)
+    (sense 0 0 0) 0 0 threeHundred
+    -- 52h number 257 and 5B/001 number 257: unlisted, though byte 5 is 1
+    ∷ line (block (0x52 ∷ 1 ∷ 0 ∷ 0 ∷ 1 ∷ 1 ∷ 0 ∷ 0 ∷ 36 ∷ [])) 0 36 0x052400 0 [] (sense 0x5 0x24 0x00) 0 0 threeHundred
+    ∷ line (block (0x5B ∷ 0 ∷ 1 ∷ 0 ∷ 1 ∷ 1 ∷ [])) 0 0 0x052400 0 [] (sense 0x5 0x24 0x00) 0 0 threeHundred
+    -- with 1 in the highest byte: READ 16777216 of 1 passes the disc, 52h of that address finds no fragment, RESERVE 16777232 does not fit
+    ∷ line (block (0x28 ∷ 0 ∷ 1 ∷ 0 ∷ 0 ∷ 0 ∷ 0 ∷ 0 ∷ 1 ∷ [])) 0 2048 0x052100 0 [] (sense 0x5 0x21 0x00) 0 0 threeHundred
+    ∷ line (block (0x52 ∷ 0 ∷ 1 ∷ 0 ∷ 0 ∷ 0 ∷ 0 ∷ 0 ∷ 36 ∷ [])) 0 36 0x052100 0 [] (sense 0x5 0x21 0x00) 0 0 threeHundred
+    ∷ line (block (0x53 ∷ 0 ∷ 0 ∷ 0 ∷ 0 ∷ 1 ∷ 0 ∷ 0 ∷ 0x10 ∷ [])) 0 0 0x056300 0 [] (sense 0x5 0x63 0x00) 0 0 threeHundred
+    -- WRITE 0 of 256: sixteen blocks; READ 0 of 256, and of 257, one sector too many
+    ∷ line (0x2A ∷ 0xFF ∷ 0 ∷ 0 ∷ 0 ∷ 0 ∷ 0xFF ∷ 1 ∷ 0 ∷ 0xFF ∷ 0xFF ∷ 0xFF ∷ []) 524288 0 0 16 [] (sense 0 0 0) 256 0 sixteenBlocks
+    ∷ line (0x28 ∷ 0xFF ∷ 0 ∷ 0 ∷ 0 ∷ 0 ∷ 0xFF ∷ 1 ∷ 0 ∷ 0xFF ∷ 0xFF ∷ 0xFF ∷ []) 0 524288 0 0 [] (sense 0 0 0) 256 0 sixteenBlocks
+    ∷ line (block (0x28 ∷ 0 ∷ 0 ∷ 0 ∷ 0 ∷ 0 ∷ 0 ∷ 1 ∷ 1 ∷ [])) 0 526336 0x080000 0 [] (sense 0x8 0x00 0x00) 256 0 sixteenBlocks
+    -- WRITE 16777472 of 1: 256 in the three low bytes is not the whole address
+    ∷ line (block (0x2A ∷ 0 ∷ 1 ∷ 0 ∷ 1 ∷ 0 ∷ 0 ∷ 0 ∷ 1 ∷ [])) 2048 0 0x052102 0 [] (sense 0x5 0x21 0x02) 256 0 sixteenBlocks
+    -- WRITE 256 of 1, then 5Bh with F9h in byte 2, 001: the flush records block 16, F = 15; L = 17, a tail at 0 + 17 + 1
+    ∷ line (block (0x2A ∷ 0 ∷ 0 ∷ 0 ∷ 1 ∷ 0 ∷ 0 ∷ 0 ∷ 1 ∷ [])) 2048 0 0 0 [] (sense 0 0 0) 257 1 sixteenBlocks
+    ∷ line (0x5B ∷ 0xFF ∷ 0xF9 ∷ 0xFF ∷ 0 ∷ 1 ∷ 0xFF ∷ 0xFF ∷ 0xFF ∷ 0xFF ∷ 0xFF ∷ 0xFF ∷ []) 0 0 0 1 [] (sense 0 0 0) 288 0 closedAt17
+    -- WRITE 288 of 1: one sector pending in the tail
+    ∷ line (block (0x2A ∷ 0 ∷ 0 ∷ 0 ∷ 1 ∷ 0x20 ∷ 0 ∷ 0 ∷ 1 ∷ [])) 2048 0 0 0 [] (sense 0 0 0) 289 1 closedAt17
+    -- RESERVE 0 where the tail is not blank: its size comes first
+    ∷ line (0x53 ∷ 0xFF ∷ 0xFF ∷ 0xFF ∷ 0xFF ∷ 0 ∷ 0 ∷ 0 ∷ 0 ∷ 0xFF ∷ 0xFF ∷ 0xFF ∷ []) 0 0 0x052400 0 [] (sense 0x5 0x24 0x00) 289 1 closedAt17
+    -- 5B/001 number 2: with a sector pending it is not blank; the flush makes W = 1, F = 15; a tail at 18 + 1 + 1
+    ∷ line (block (0x5B ∷ 0 ∷ 1 ∷ 0 ∷ 0 ∷ 2 ∷ [])) 0 0 0 1 [] (sense 0 0 0) 320 0 closedTwice
+    -- 5B/010: the blank tail goes, e = 19, session 2 at 19 + 128
+    ∷ line (block (0x5B ∷ 0 ∷ 2 ∷ [])) 0 0 0 0 [] (sense 0 0 0) 2352 0 (secondOf 0)
+    -- WRITE 2352 of 16, and 5B/010: e = 147 + 1, session 3 at 148 + 128
+    ∷ line (block (0x2A ∷ 0 ∷ 0 ∷ 0 ∷ 9 ∷ 0x30 ∷ 0 ∷ 0 ∷ 16 ∷ [])) 32768 0 0 1 [] (sense 0 0 0) 2368 0 (secondOf 1)
+    ∷ line (block (0x5B ∷ 0 ∷ 2 ∷ [])) 0 0 0 0 [] (sense 0 0 0) 4416 0 thirdOpen
+    -- 51h: session 3, its first and last fragment is number 4
+    ∷ line (block (0x51 ∷ 0 ∷ 0 ∷ 0 ∷ 0 ∷ 0 ∷ 0 ∷ 0 ∷ 34 ∷ [])) 0 34 0 0
+    (0 ∷ 0x20 ∷ 1 ∷ 1 ∷ 3 ∷ 4 ∷ 4 ∷ replicate 27 0)
+    (sense 0 0 0) 4416 0 thirdOpen
+    ∷ []
+
+abbrev completedRun : List Line
+completedRun =
+    -- 5B/110: as after the flush the reserved fragment is complete, F = 16 - 5; the blank tail goes
+    line (block (0x5B ∷ 0 ∷ 6 ∷ [])) 0 0 0 1 [] (sense 0 0 0) 0 0 elevenFilled
+    ∷ []
+
+abbrev upTo298 : List Line
+upTo298 =
+    -- 5B/001: a tail at 298 + 1, the last block; WRITE 4784 of 16 completes it, and then there is no tail
+    line (block (0x5B ∷ 0 ∷ 1 ∷ 0 ∷ 0 ∷ 1 ∷ [])) 0 0 0 0 [] (sense 0 0 0) 4784 0 (lastBlock 0)
+    ∷ line (block (0x2A ∷ 0 ∷ 0 ∷ 0 ∷ 0x12 ∷ 0xB0 ∷ 0 ∷ 0 ∷ 16 ∷ [])) 32768 0 0 1 [] (sense 0 0 0) 0 0 (lastBlock 1)
+    ∷ []
+
+abbrev upTo299 : List Line
+upTo299 =
+    -- 5B/001: 299 + 1 is not below 300, so no tail follows
+    line (block (0x5B ∷ 0 ∷ 1 ∷ 0 ∷ 0 ∷ 1 ∷ [])) 0 0 0 0 [] (sense 0 0 0) 0 0 ends299
+    ∷ []
+
+abbrev lastFreeRun : List Line
+lastFreeRun =
+    -- 5B/001 number 63: one record is free, and the tail at 124 + 1 + 1 takes it
+    line (block (0x5B ∷ 0 ∷ 1 ∷ 0 ∷ 0 ∷ 63 ∷ [])) 0 0 0 0 [] (sense 0 0 0) 2016 0 (lastRecordTaken 0)
+    -- WRITE 2016 of 16, and 5B/001 number 64: no record is free, so no tail follows
+    ∷ line (block (0x2A ∷ 0 ∷ 0 ∷ 0 ∷ 7 ∷ 0xE0 ∷ 0 ∷ 0 ∷ 16 ∷ [])) 32768 0 0 1 [] (sense 0 0 0) 2032 0 (lastRecordTaken 1)
+    ∷ line (block (0x5B ∷ 0 ∷ 1 ∷ 0 ∷ 0 ∷ 64 ∷ [])) 0 0 0 0 [] (sense 0 0 0) 0 0 noneFree
+    ∷ []
+
 abbrev emptySession : List Line
 emptySession =
     -- 5B/110 where the last session is only a blank tail: it vanishes
@@ -307,8 +422,10 @@ fullRun =
 
 abbrev droppedRun : List Line
 droppedRun =
-    -- RESERVE 16 with 64 records; then 5B/010, which drops the blank tail and keeps 63: e = 125, session 2 at 253
-    line (block (0x53 ∷ 0 ∷ 0 ∷ 0 ∷ 0 ∷ 0 ∷ 0 ∷ 0 ∷ 16 ∷ [])) 0 0 0x057205 0 [] (sense 0x5 0x72 0x05) 2016 0 droppedList
+    -- with 64 records RESERVE 2064, for which 126 + 129 + 1 is not below 256 either, and RESERVE 16; then 5B/010, which drops the blank tail
+    -- and keeps 63: e = 125, session 2 at 253
+    line (block (0x53 ∷ 0 ∷ 0 ∷ 0 ∷ 0 ∷ 0 ∷ 0 ∷ 8 ∷ 0x10 ∷ [])) 0 0 0x057205 0 [] (sense 0x5 0x72 0x05) 2016 0 droppedList
+    ∷ line (block (0x53 ∷ 0 ∷ 0 ∷ 0 ∷ 0 ∷ 0 ∷ 0 ∷ 0 ∷ 16 ∷ [])) 0 0 0x057205 0 [] (sense 0x5 0x72 0x05) 2016 0 droppedList
     ∷ line (block (0x5B ∷ 0 ∷ 2 ∷ [])) 0 0 0 0 [] (sense 0 0 0) 4048 0 openedList
     ∷ []
 
@@ -386,6 +503,9 @@ tooLargeRun =
 abbrev pub runs : List Run
 runs =
     from (blank 600) firstRun ∷ from (state 600 false (sense 0 0 0) 3 1 threePending) fillingRun
+    ∷ from (blank 300) fieldsRun ∷ from (state 600 false (sense 0 0 0) 5 1 fivePending) completedRun
+    ∷ from (state 300 false (sense 0 0 0) 0 0 (upTo 298)) upTo298 ∷ from (state 300 false (sense 0 0 0) 0 0 (upTo 299)) upTo299
+    ∷ from (state 256 false (sense 0 0 0) 0 0 oneFree) lastFreeRun
     ∷ from (state 600 false (sense 0 0 0) 0 0 nextSession) emptySession ∷ from (blank 600) onBlank
     ∷ from (state 256 false (sense 0 0 0) 0 0 (fullList 1)) fullRun ∷ from (state 256 false (sense 0 0 0) 0 0 droppedList) droppedRun
     ∷ from (state 300 false (sense 0 0 0) 15 1 ends171) upTo171 ∷ from (state 300 false (sense 0 0 0) 1 1 ends172) upTo172

@@ -12,7 +12,7 @@ use Rattle.fragments.specs.List.{listed, lastOf, holderOf, takerOf, pendingOf, 
 use Rattle.protocol.specs.Answer.{sense, noSense, senseNumber, refusalSense, driveRefusals, allowedSense, isRefusalSense, number}
 use Rattle.protocol.specs.Lengths.{dataLength, replyRoom, lengthsFit}
 use Rattle.protocol.specs.Reply.{report, noReply}
-use Rattle.protocol.specs.Reports.{senseBytes, capacityBytes}
+use Rattle.protocol.specs.Reports.{senseBytes, capacityBytes, discBytes, trackBytes}
 
 -- sixteen sectors a block: 2 blocks and 1 sector are 33 sectors; a block of 4 lacks 12, one of 17 nothing
 pub conversions :
@@ -112,3 +112,26 @@ pub sent :
     × (capacityBytes (lba 0x01020304) ≡ (1 ∷ 2 ∷ 3 ∷ 4 ∷ 0 ∷ 0 ∷ 8 ∷ 0 ∷ [])) × (noReply .length ≡ 0)
 unfolding senseBytes
 sent = (refl, refl, refl, refl)
+
+-- of the reports: the low bytes of a number and its high bytes in their places, and each address in its own
+pub reported :
+    (discBytes (record { states = 5; sessions = 0x0102; first = 0x0304; last = 0x0506 })
+    ≡ (0 ∷ 0x20 ∷ 5 ∷ 1 ∷ 2 ∷ 4 ∷ 6 ∷ 0 ∷ 0 ∷ 1 ∷ 3 ∷ 5 ∷ replicate 22 0))
+    × (trackBytes
+    (record {
+      number = 0x0102;
+      session = 0x0304;
+      reserved = true;
+      blank = false;
+      written = false;
+      incomplete = true;
+      start = lba 0x11;
+      next = lba 0x22;
+      free = 0x33;
+      size = 0x44;
+      last = lba 0x55;
+    })
+    ≡ (0 ∷ 0x22 ∷ 2 ∷ 4 ∷ 0 ∷ 4 ∷ 0x81 ∷ 1 ∷ 0 ∷ 0 ∷ 0 ∷ 0x11 ∷ 0 ∷ 0 ∷ 0 ∷ 0x22 ∷ 0 ∷ 0 ∷ 0 ∷ 0x33 ∷ 0 ∷ 0 ∷ 0 ∷ 16 ∷ 0 ∷ 0 ∷ 0 ∷ 0x44
+    ∷ 0 ∷ 0 ∷ 0 ∷ 0x55 ∷ 1 ∷ 3 ∷ 0 ∷ 0 ∷ []))
+unfolding discBytes trackBytes
+reported = (refl, refl)

@@ -1,23 +1,25 @@
 -- Cases of the theorems: two controllers that send the same log, and what they and a reader see. Each is drawn from a statement
 -- alone and not from its proof (proofs/Laws/Cases), so a statement that is weaker no longer gives it.
-use Prim.Native.Nat.{ℕ, _+_, _≤_, _<_}
+use Prim.Native.Nat.{ℕ, _+_, _*_, _≤_, _<_}
 use mathlib.Core.Bool.{true, false}
 use mathlib.Core.Path.{_≡_}
-use mathlib.Core.List.{List, [], _∷_, _++_}
+use mathlib.Core.List.{List, [], _∷_, _++_, map}
 use lib.ListN.{length, getD, replicate}
 use Rattle.fragments.specs.Address.{lba}
 use Rattle.disc.specs.Blank.{blank}
 use Rattle.disc.specs.Records.{readable}
 use Rattle.drive.specs.Bytes.{zeros}
 use Rattle.drive.specs.Step.{Drive, drive, Request, request, Result}
-use Rattle.drive.specs.Alike.{pendingSectors, Alike}
-use Rattle.history.specs.Types.{Answer, Accepted, Link, LinkRefusal, MediumSize, UnsoundState}
-use Rattle.history.specs.Sequence.{Turn, result, final, Admissible}
+use Rattle.drive.specs.Alike.{recordedByte, pendingSectors, Alike}
+use Rattle.drive.specs.Requests.{WriteOf}
+use Rattle.history.specs.Types.{Answer, Accepted, Link, Drive as byDrive, BlankCheck, LinkRefusal, MediumSize, UnsoundState}
+use Rattle.history.specs.Sequence.{Start, Turn, result, final, Admissible, AllAccepted, blocksOf}
 use Rattle.history.specs.Account.{extentOf, sectorAt, account}
 use Rattle.history.specs.Brought.{writes, broughtTo, broughtInto}
 use Rattle.history.specs.Past.{beginning, past, StaleApart, StaleChanges}
 use Rattle.history.specs.Stale.{Change, unchanged, Given, after, given, turn}
 use Rattle.history.specs.Examples.{writeBlock}
+use Rattle.history.specs.Wide.{partsOf, total, nameable}
 
 -- the answers of a sequence, its replies and its counts of blocks recorded
 unfoldable pub answers : List Turn → Drive → List Answer
@@ -32,28 +34,30 @@ unfoldable pub counts : List Turn → Drive → List ℕ
 counts [] s = []
 counts (t ∷ ts) s = result t s .recorded ∷ counts ts (result t s .after)
 
--- a piece of flash for 256 blocks with its pending buffer, whatever bytes they hold, and the blank disc over it
-pub record Flash : Type 0 where
+-- a piece of flash for c blocks with its pending buffer, whatever bytes they hold, and the blank disc over it
+pub record Flash (c : ℕ) : Type 0 where
   pub medium : List ℕ
   pub pending : List ℕ
-  pub mediumLength : length medium ≡ 8388608
+  pub mediumLength : length medium ≡ 32768 * c
   pub pendingLength : length pending ≡ 32768
 
-abbrev pub blankOver : Flash → Drive
-blankOver f = drive (blank 256) (f .medium) (f .pending)
+abbrev pub blankOver : (c : ℕ) → Flash c → Drive
+blankOver c f = drive (blank c) (f .medium) (f .pending)
 
--- a log in five pieces, of 2, 1, 2, 3 and 10 sectors
+-- a log in six pieces, of 2, 1, 2, 3, 10 and 3 sectors
 pub record Log : Type 0 where
   pub one : List ℕ
   pub two : List ℕ
   pub three : List ℕ
   pub four : List ℕ
   pub five : List ℕ
+  pub six : List ℕ
   pub oneLength : length one ≡ 4096
   pub twoLength : length two ≡ 2048
   pub threeLength : length three ≡ 4096
   pub fourLength : length four ≡ 6144
   pub fiveLength : length five ≡ 20480
+  pub sixLength : length six ≡ 6144
 
 abbrev pub firstFive : Log → List ℕ
 firstFive l = l .one ++ (l .two ++ (l .three ++ []))
@@ -74,26 +78,31 @@ reading a x = request (0x28 ∷ 0 ∷ 0 ∷ 0 ∷ 0 ∷ a ∷ 0 ∷ 0 ∷ 16 ∷
 abbrev pub flushing : Request
 flushing = request (0x35 ∷ 0 ∷ 0 ∷ 0 ∷ 0 ∷ 0 ∷ 0 ∷ 0 ∷ 0 ∷ 0 ∷ 0 ∷ 0 ∷ []) [] []
 
--- the newer controller: WRITE 0 of 5, 52h, WRITE 5 of 13, READ 0 of 16, 35h. Before command i stale bytes change as j i says
+-- the newer controller: WRITE 0 of 5, 52h, WRITE 5 of 13, READ 0 of 16, 35h, READ 32 of 16, which is refused, and WRITE 32 of 3. Before
+-- command i stale bytes change as j i says
 abbrev pub newer : Log → ℕ → (ℕ → Change) → List Given
 newer l x j =
     after (j 0) (writing 0 5 (firstFive l)) ∷ after (j 1) (asking x) ∷ after (j 2) (writing 5 13 (nextThirteen l)) ∷ after (j 3) (reading 0 x)
-    ∷ after (j 4) flushing ∷ []
+    ∷ after (j 4) flushing ∷ after (j 5) (reading 32 x) ∷ after (j 6) (writing 32 3 (l .six)) ∷ []
 
 -- the older one sends the first WRITE in three, the second in two, and hands other reply buffers over
 abbrev pub older : Log → ℕ → (ℕ → Change) → List Given
 older l x j =
     after (j 0) (writing 0 2 (l .one)) ∷ after (j 1) (writing 2 1 (l .two)) ∷ after (j 2) (writing 3 2 (l .three)) ∷ after (j 3) (asking x)
-    ∷ after (j 4) (writing 5 3 (l .four)) ∷ after (j 5) (writing 8 10 (l .five)) ∷ after (j 6) (reading 0 x) ∷ after (j 7) flushing ∷ []
+    ∷ after (j 4) (writing 5 3 (l .four)) ∷ after (j 5) (writing 8 10 (l .five)) ∷ after (j 6) (reading 0 x) ∷ after (j 7) flushing
+    ∷ after (j 8) (reading 32 x) ∷ after (j 9) (writing 32 3 (l .six)) ∷ []
 
--- the newer controller's first three commands: five sectors, then thirteen, of which two are pending
+-- the newer controller's first command, which leaves five sectors pending, and its first three, which leave two
+abbrev pub earliest : Log → (ℕ → Change) → List Given
+earliest l j = after (j 0) (writing 0 5 (firstFive l)) ∷ []
+
 abbrev pub early : Log → ℕ → (ℕ → Change) → List Given
 early l x j = after (j 0) (writing 0 5 (firstFive l)) ∷ after (j 1) (asking x) ∷ after (j 2) (writing 5 13 (nextThirteen l)) ∷ []
 
 -- the newer controller's turns ts from the drive s on, and the older one's turns us from e on: two discs, each over bytes of its own
 pub record TwoControllers (ts : List Turn) (s : Drive) (us : List Turn) (e : Drive) : Type 0 where
-  -- every part of a WRITE is accepted, and so is every other command
-  pub answers : answers us e ≡ replicate 8 Accepted
+  -- every part of a WRITE is accepted, and so is every other command but the READ that is refused to the newer one too
+  pub answers : answers us e ≡ replicate 8 Accepted ++ (byDrive BlankCheck ∷ Accepted ∷ [])
   -- 52h and READ reply alike
   pub information : getD (replies us e) 3 [] ≡ getD (replies ts s) 1 []
   pub reading : getD (replies us e) 6 [] ≡ getD (replies ts s) 3 []
@@ -101,7 +110,7 @@ pub record TwoControllers (ts : List Turn) (s : Drive) (us : List Turn) (e : Dri
   pub firstParts : getD (counts us e) 0 0 + (getD (counts us e) 1 0 + getD (counts us e) 2 0) ≡ getD (counts ts s) 0 0
   pub secondParts : getD (counts us e) 4 0 + getD (counts us e) 5 0 ≡ getD (counts ts s) 2 0
   pub flushed : getD (counts us e) 7 0 ≡ getD (counts ts s) 4 0
-  -- at the end: the same disc, the same bytes in the two blocks recorded, the same pending sectors
+  -- at the end: the same disc, the same bytes in the two blocks recorded, the same three pending sectors
   pub disc : final us e .disc ≡ final ts s .disc
   pub recorded : (i : ℕ) → i < 65536 → getD (final us e .medium) i 0 ≡ getD (final ts s .medium) i 0
   pub pending : pendingSectors (final us e) ≡ pendingSectors (final ts s)
@@ -111,9 +120,10 @@ pub record ByteForByte (ts us : List Turn) (s : Drive) : Type 0 where
   pub medium : final us s .medium ≡ final ts s .medium
   pub pending : final us s .pending ≡ final ts s .pending
 
--- the block that the second WRITE completed, after it and at the end
+-- the block that the second WRITE completed: recorded at the end, with the bytes that it had then
 abbrev pub BlockStays : List Turn → List Turn → Drive → Type 0
-BlockStays before ts s = (i : ℕ) → i < 32768 → getD (final ts s .medium) i 0 ≡ getD (final before s .medium) i 0
+BlockStays before ts s =
+    (i : ℕ) → i < 32768 → (recordedByte (final ts s .disc) i ≡ true) × (getD (final ts s .medium) i 0 ≡ getD (final before s .medium) i 0)
 
 -- after RESERVE 33, so in a fragment of 48 sectors: WRITE 0 of 49 does not fit, WRITE 0 of 48 does; each in two parts
 abbrev pub reserving : Request
@@ -132,16 +142,16 @@ pub record Fitting (s : Drive) (x y z : List ℕ) (j : ℕ → Change) : Type 0 
 abbrev pub behindAll : List Turn → Drive → Given → Result
 behindAll ts s g = result (turn g (final ts s)) (final ts s)
 
--- what a reader finds of the log, in the newer controller's turns ts from the drive s on: READ 0 of 16 before the flush, and after it READs
--- after a change c
-pub record Reader (l : Log) (x : ℕ) (ts : List Turn) (s : Drive) (c : Change) : Type 0 where
+-- what a reader finds of the log, in the newer controller's turns ts from the drive s on: READ 0 of 16 before the flush, and at the end READs
+-- after a change c; `first` is its first turn
+pub record Reader (l : Log) (x : ℕ) (first ts : List Turn) (s : Drive) (c : Change) : Type 0 where
   -- sectors 3 and 7 are sector 3 of the first WRITE and sector 2 of the second
-  pub first : sectorAt 3 (getD (replies ts s) 3 []) ≡ sectorAt 3 (firstFive l)
+  pub early : sectorAt 3 (getD (replies ts s) 3 []) ≡ sectorAt 3 (firstFive l)
   pub second : sectorAt 7 (getD (replies ts s) 3 []) ≡ sectorAt 2 (nextThirteen l)
   -- after the flush sector 17 is the last one of the log, and sector 18 zeros that nobody wrote
   pub last : sectorAt 1 (behindAll ts s (after c (reading 16 x)) .reply) ≡ sectorAt 12 (nextThirteen l)
   pub zeroed : sectorAt 2 (behindAll ts s (after c (reading 16 x)) .reply) ≡ zeros 2048
-  -- sectors 17 and 31 can be read, 32 cannot
+  -- sectors 17 and 31 can be read, 32, which is pending, cannot
   pub log : readable (final ts s .disc) (lba 17) ≡ true
   pub padding : readable (final ts s .disc) (lba 31) ≡ true
   pub behind : readable (final ts s .disc) (lba 32) ≡ false
@@ -151,11 +161,13 @@ pub record Reader (l : Log) (x : ℕ) (ts : List Turn) (s : Drive) (c : Change) 
   -- no request is refused by L2 or L3
   pub served :
       (r : Request) (q : LinkRefusal) → behindAll ts s (after c r) .answer ≡ Link q → (q ≡ MediumSize → ⊥) × (q ≡ UnsoundState → ⊥)
-  -- 18 sectors accepted, 32 recorded, 14 of them zero-filled, none pending
-  pub acceptedSectors : account 1 ts s .accepted ≡ 18
+  -- 21 sectors accepted, 32 recorded, 14 of them zero-filled, three pending
+  pub acceptedSectors : account 1 ts s .accepted ≡ 21
   pub recordedSectors : account 1 ts s .recorded ≡ 32
   pub zeroSectors : account 1 ts s .zeroFilled ≡ 14
-  pub pendingSectors : account 1 ts s .pending ≡ 0
+  pub pendingSectors : account 1 ts s .pending ≡ 3
+  -- five accepted by the first WRITE, though none is recorded
+  pub firstSectors : account 1 first s .accepted ≡ 5
 
 -- the same log by its requests; `before` are the first three turns of ts
 pub record Requested (l : Log) (x : ℕ) (before ts : List Turn) (s : Drive) (c : Change) : Type 0 where
@@ -164,14 +176,14 @@ pub record Requested (l : Log) (x : ℕ) (before ts : List Turn) (s : Drive) (c 
   pub none : sectorAt 4 (behindAll ts s (after c (reading 16 x)) .reply) ≡ zeros 2048
   -- nobody brings a second sector to an address
   pub once : length (broughtTo 7 (writes ts s)) ≤ 1
-  -- 18 sectors lie in the fragment as it is listed; the account has as many
-  pub listed : broughtInto (extentOf (final ts s .disc) 1) (writes ts s) ≡ 18
+  -- 21 sectors lie in the fragment as it is listed; the account has as many
+  pub listed : broughtInto (extentOf (final ts s .disc) 1) (writes ts s) ≡ 21
   pub counted : broughtInto (extentOf (final ts s .disc) 1) (writes ts s) ≡ account 1 ts s .accepted
-  -- before the flush two sectors are held; after it block 1 is recorded, block 2 is not, and none is held
+  -- before the flush two sectors are held; after it block 1 is recorded, block 2 is not, and three are held
   pub held : past before s .held ≡ 2
   pub flushed : past ts s .recorded 1 ≡ true
   pub behind : past ts s .recorded 2 ≡ false
-  pub settled : past ts s .held ≡ 0
+  pub late : past ts s .held ≡ 3
   -- what came from outside was stale bytes alone, and every sequence of which that is so is covered
   pub outside : StaleChanges ts s beginning
   pub covered : (us : List Turn) → StaleChanges us s beginning → Admissible us s
@@ -179,19 +191,39 @@ pub record Requested (l : Log) (x : ℕ) (before ts : List Turn) (s : Drive) (c 
   pub apart : (e : Drive) → Alike (final ts s) e → StaleApart (past ts s) (final ts s) e
   pub alike : (e : Drive) → StaleApart (past ts s) (final ts s) e → Alike (final ts s) e
 
--- for every flash, log, reply buffers and changes
-pub record Cases : Type 0 where
+-- on a disc of c blocks, for every flash, log, reply buffers and changes
+pub record CasesOn (c : ℕ) : Type 0 where
   pub controllers :
-      (f g : Flash) (l : Log) (x y : ℕ) (j k : ℕ → Change)
-      → TwoControllers (given (newer l x j) (blankOver f)) (blankOver f) (given (older l y k) (blankOver g)) (blankOver g)
+      (f g : Flash c) (l : Log) (x y : ℕ) (j k : ℕ → Change)
+      → TwoControllers (given (newer l x j) (blankOver c f)) (blankOver c f) (given (older l y k) (blankOver c g)) (blankOver c g)
   pub exactly :
-      (f : Flash) (l : Log) (x y : ℕ)
-      → ByteForByte (given (newer l x (λ i. unchanged)) (blankOver f)) (given (older l y (λ i. unchanged)) (blankOver f)) (blankOver f)
+      (f : Flash c) (l : Log) (x y : ℕ)
+      → ByteForByte (given (newer l x (λ i. unchanged)) (blankOver c f)) (given (older l y (λ i. unchanged)) (blankOver c f)) (blankOver c f)
   pub stays :
-      (f : Flash) (l : Log) (x : ℕ) (j : ℕ → Change) → BlockStays (given (early l x j) (blankOver f)) (given (newer l x j) (blankOver f)) (blankOver f)
+      (f : Flash c) (l : Log) (x : ℕ) (j : ℕ → Change)
+      → BlockStays (given (early l x j) (blankOver c f)) (given (newer l x j) (blankOver c f)) (blankOver c f)
   pub fitting :
-      (f : Flash) (x y z : List ℕ) → length x ≡ 81920 → length y ≡ 18432 → length z ≡ 16384 → (j : ℕ → Change) → Fitting (blankOver f) x y z j
-  pub reader : (f : Flash) (l : Log) (x : ℕ) (j : ℕ → Change) → Reader l x (given (newer l x j) (blankOver f)) (blankOver f) (j 5)
+      (f : Flash c) (x y z : List ℕ) → length x ≡ 81920 → length y ≡ 18432 → length z ≡ 16384 → (j : ℕ → Change) → Fitting (blankOver c f) x y z j
+  pub reader :
+      (f : Flash c) (l : Log) (x : ℕ) (j : ℕ → Change)
+      → Reader l x (given (earliest l j) (blankOver c f)) (given (newer l x j) (blankOver c f)) (blankOver c f) (j 7)
   pub requested :
-      (f : Flash) (l : Log) (x : ℕ) (j : ℕ → Change)
-      → Requested l x (given (early l x j) (blankOver f)) (given (newer l x j) (blankOver f)) (blankOver f) (j 5)
+      (f : Flash c) (l : Log) (x : ℕ) (j : ℕ → Change)
+      → Requested l x (given (early l x j) (blankOver c f)) (given (newer l x j) (blankOver c f)) (blankOver c f) (j 7)
+
+-- the first WRITE of a disc, g, and its parts hs, from the drive s on and from another one: each part is accepted, and together they record as
+-- many blocks as the whole and leave the same disc
+pub record FirstWrite (g : Given) (hs : List Given) (s e : Drive) : Type 0 where
+  pub here : AllAccepted (given hs s) s
+  pub there : AllAccepted (given hs e) e
+  pub blocks : blocksOf (given hs e) e ≡ result (turn g s) s .recorded
+  pub disc : final (given hs e) e .disc ≡ result (turn g s) s .after .disc
+
+-- on the smallest disc and on the largest; and on every disc the first WRITE, of any length that fits, in parts of any lengths
+pub record Cases : Type 0 where
+  pub smallest : CasesOn 256
+  pub largest : CasesOn 143444
+  pub everywhere :
+      (c : ℕ) (s e : Drive) → Start c s → Start c e → (g : Given) (n : ℕ) → WriteOf (g .request) (lba 0) n → n ≤ 16 * c → (ks : List ℕ) → 2 ≤ length ks
+      → total ks ≡ n → nameable ks ≡ true → (hs : List Given) → map (λ (h : Given). h .request) hs ≡ partsOf 0 ks (g .request .payload)
+      → FirstWrite g hs s e

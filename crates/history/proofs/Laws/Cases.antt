@@ -3,14 +3,15 @@ use Prim.Native.Nat.{ℕ, _+_, _*_, _/_, _≤_, _<_}
 use mathlib.Core.Path.{_≡_, refl, sym, ap, _∙_, subst}
 use mathlib.Core.Bool.{true, false}
 use mathlib.Core.Logic.{_⊎_, inl, inr}
-use mathlib.Core.List.{List, [], _∷_, _++_}
+use mathlib.Core.List.{List, [], _∷_, _++_, map, append-nil}
 use native.Mathlib.Omega.{arith}
 use borrow.Author.Tests.{le-leb, lt-ltb}
 use lib.Dec.{ltb}
 use lib.ListN.{length, getD, replicate, length-replicate, length-append}
 use Rattle.fragments.specs.Address.{lba}
 use Rattle.protocol.specs.Answer.{isRefusalSense, allowedSense}
-use Rattle.disc.specs.Blank.{blank}
+use Rattle.disc.specs.Blank.{inRange, blank}
+use Rattle.disc.proofs.Laws.Blank.{range-most}
 use Rattle.protocol.specs.Command.{decode}
 use Rattle.fragments.specs.Fragment.{fragment, holdsRecorded}
 use Rattle.disc.specs.Records.{pendingIn, records, numbered, readable, atAddress}
@@ -29,8 +30,8 @@ use Rattle.drive.specs.Bytes.{zeros}
 use Rattle.drive.specs.Step.{Drive, Request, request}
 use Rattle.drive.specs.Requests.{WriteOf, ReadOf}
 use Rattle.drive.specs.Alike.{recordedByte, pendingSectors, Alike}
-use Rattle.history.specs.Types.{Disc, Appended, Answer, Accepted, Drive as byDrive, DriveRefusal, EndOfUserArea, LinkRefusal, CommandBlockLength, MediumSize, UnsoundState, TransferLength, Number}
-use Rattle.history.specs.Sequence.{Start, Turn, Told, result, final, Admissible, Undisturbed, AllAccepted, blocksOf}
+use Rattle.history.specs.Types.{Disc, Appended, Answer, Accepted, Drive as byDrive, DriveRefusal, BlankCheck, EndOfUserArea, LinkRefusal, CommandBlockLength, MediumSize, UnsoundState, TransferLength, Number}
+use Rattle.history.specs.Sequence.{Start, Turn, Told, found, requests, result, final, Admissible, Undisturbed, AllAccepted, blocksOf}
 use Rattle.history.specs.Cut.{Parts, none, part, CutOf, SameCommand, Again, ends, same, cut, Agreeing}
 use Rattle.history.specs.Demand.{Demand3}
 use Rattle.history.specs.Account.{Account, opened, extentOf, sectorAt, written, flushed, credited, noted, account, contentAt, recordedAt}
@@ -40,22 +41,24 @@ use Rattle.history.specs.Past.{RecordedByHistory}
 use Rattle.history.specs.Stale.{Change, unchanged, Given, after, turn, given}
 use Rattle.history.specs.Examples.{writeBlock}
 use Rattle.history.specs.Witness.{Shape, shape, discAfter}
-use Rattle.history.specs.Cases.{answers, replies, counts, Flash, blankOver, Log, firstFive, nextThirteen, writing, asking, reading, flushing, newer, older, early, TwoControllers, ByteForByte, BlockStays, reserving, inTwo, Fitting, behindAll, Reader, Requested, Cases}
+use Rattle.history.specs.Cases.{answers, replies, counts, Flash, blankOver, Log, firstFive, nextThirteen, writing, asking, reading, flushing, newer, older, earliest, early, TwoControllers, ByteForByte, BlockStays, reserving, inTwo, Fitting, behindAll, Reader, Requested, CasesOn, FirstWrite, Cases}
+use Rattle.history.specs.Wide.{partsOf, total, nameable}
 use Rattle.history.proofs.Laws.Parts.{write-request}
 use Rattle.history.proofs.Laws.Demand.{demand-3}
 use Rattle.history.proofs.Laws.Kept.{kept-account}
 use Rattle.history.proofs.Laws.ReadBack.{read-back, kept-as-listed}
 use Rattle.history.proofs.Laws.Recalled.{recorded-by-history}
-use Rattle.history.proofs.Laws.Stale.{turn-alike, given-admissible, given-undisturbed}
+use Rattle.history.proofs.Laws.Stale.{turn-alike, given-admissible, given-requests, given-undisturbed}
+use Rattle.history.proofs.Laws.Wide.{parts-cut, wide}
 use Rattle.history.proofs.Laws.Decided.{decisions, accountBy, shapes, known-answers, known-disc, known-content, known-recorded}
 
 -- there is flash, and there is a log, of any byte
-pub some-flash : ℕ → Flash
-some-flash x =
+pub some-flash : (c x : ℕ) → Flash c
+some-flash c x =
     record {
-      medium = replicate 8388608 x;
+      medium = replicate (32768 * c) x;
       pending = replicate 32768 x;
-      mediumLength = length-replicate {A = ℕ} 8388608 x;
+      mediumLength = length-replicate {A = ℕ} (32768 * c) x;
       pendingLength = length-replicate {A = ℕ} 32768 x;
     }
 
@@ -67,16 +70,18 @@ some-log x =
       three = replicate 4096 x;
       four = replicate 6144 x;
       five = replicate 20480 x;
+      six = replicate 6144 x;
       oneLength = length-replicate {A = ℕ} 4096 x;
       twoLength = length-replicate {A = ℕ} 2048 x;
       threeLength = length-replicate {A = ℕ} 4096 x;
       fourLength = length-replicate {A = ℕ} 6144 x;
       fiveLength = length-replicate {A = ℕ} 20480 x;
+      sixLength = length-replicate {A = ℕ} 6144 x;
     }
 
 -- any flash is a start
-flash-start : (f : Flash) → Start 256 (blankOver f)
-flash-start f = record { range = refl; disc = refl; medium = f .mediumLength; pending = f .pendingLength }
+flash-start : (c : ℕ) (f : Flash c) → inRange c ≡ true → Start c (blankOver c f)
+flash-start c f range = record { range = range; disc = refl; medium = f .mediumLength; pending = f .pendingLength }
 
 -- the log's WRITEs, and the cuts of them
 five-length : (l : Log) → length (firstFive l) ≡ 10240
@@ -129,7 +134,13 @@ same-again q u b x r = record { cdb = b; payload = x; room = r }
 abbrev newerShapes : List Shape
 newerShapes =
     shape (writeBlock 0 5) 10240 0 ∷ shape (asking 0 .cdb) 0 36 ∷ shape (writeBlock 5 13) 26624 0 ∷ shape (reading 0 0 .cdb) 0 32768
-    ∷ shape (flushing .cdb) 0 0 ∷ []
+    ∷ shape (flushing .cdb) 0 0 ∷ shape (reading 32 0 .cdb) 0 32768 ∷ shape (writeBlock 32 3) 6144 0 ∷ []
+
+abbrev newerAnswers : List Answer
+newerAnswers = replicate 5 Accepted ++ (byDrive BlankCheck ∷ Accepted ∷ [])
+
+abbrev earliestShapes : List Shape
+earliestShapes = shape (writeBlock 0 5) 10240 0 ∷ []
 
 abbrev earlyShapes : List Shape
 earlyShapes = shape (writeBlock 0 5) 10240 0 ∷ shape (asking 0 .cdb) 0 36 ∷ shape (writeBlock 5 13) 26624 0 ∷ []
@@ -140,7 +151,11 @@ newer-shapes s l x j =
     λ i.
     shape (writeBlock 0 5) (five-length l i) 0 ∷ shape (asking 0 .cdb) 0 (length-replicate {A = ℕ} 36 x i)
     ∷ shape (writeBlock 5 13) (thirteen-length l i) 0 ∷ shape (reading 0 0 .cdb) 0 (length-replicate {A = ℕ} 32768 x i)
-    ∷ shape (flushing .cdb) 0 0 ∷ []
+    ∷ shape (flushing .cdb) 0 0 ∷ shape (reading 32 0 .cdb) 0 (length-replicate {A = ℕ} 32768 x i) ∷ shape (writeBlock 32 3) (l .sixLength i) 0 ∷ []
+
+earliest-shapes : (s : Drive) (l : Log) (j : ℕ → Change) → shapes (given (earliest l j) s) ≡ earliestShapes
+unfolding given
+earliest-shapes s l j = λ i. shape (writeBlock 0 5) (five-length l i) 0 ∷ []
 
 early-shapes : (s : Drive) (l : Log) (x : ℕ) (j : ℕ → Change) → shapes (given (early l x j) s) ≡ earlyShapes
 unfolding given
@@ -149,31 +164,105 @@ early-shapes s l x j =
     shape (writeBlock 0 5) (five-length l i) 0 ∷ shape (asking 0 .cdb) 0 (length-replicate {A = ℕ} 36 x i)
     ∷ shape (writeBlock 5 13) (thirteen-length l i) 0 ∷ []
 
--- what the list decides, computed
-decided-newer : decisions newerShapes (blank 256) ≡ replicate 5 Accepted
-unfolding decisions decode listed some every find sumRecorded usedFirst firstAtZero followsFrom inOrder endsWithin recordedWithin zeroedWithin incompleteLast tailLast tailOrFull pendingNamed finalizedComplete sound allowedState isRefusalSense allowedSense blank dataLength replyRoom lengthsFit accepted accept refuse flush flushPlan synchronizeCache allReadable read flushOthers flushOthersPlan gather writeTo writeFound write nextWritableOrZero freeSectors trackBytes trackVerdict trackFound trackNumbered readTrackInformation perform judgeCommand judge
-decided-newer = refl
+-- a READ after them, and a WRITE after RESERVE 33
+abbrev lateShapes : ℕ → List Shape
+lateShapes a = newerShapes ++ (shape (reading a 0 .cdb) 0 32768 ∷ [])
 
--- the list at the end and before the READ: a tail with two blocks recorded, and with one
-newer-list : records (discAfter newerShapes (blank 256)) ≡ fragment 1 0 256 2 14 Appended ∷ []
-unfolding discAfter decode listed some every find sumRecorded usedFirst firstAtZero followsFrom inOrder endsWithin recordedWithin zeroedWithin incompleteLast tailLast tailOrFull pendingNamed finalizedComplete sound allowedState isRefusalSense allowedSense blank dataLength replyRoom lengthsFit accepted accept refuse flush flushPlan synchronizeCache allReadable read flushOthers flushOthersPlan gather writeTo writeFound write nextWritableOrZero freeSectors trackBytes trackVerdict trackFound trackNumbered readTrackInformation perform judgeCommand judge
-newer-list = refl
+abbrev wholeShapes : ℕ → ℕ → List Shape
+wholeShapes p n = shape (reserving .cdb) 0 0 ∷ shape (writeBlock 0 p) n 0 ∷ []
 
-early-list : records (discAfter earlyShapes (blank 256)) ≡ fragment 1 0 256 1 0 Appended ∷ []
-unfolding discAfter decode listed some every find sumRecorded usedFirst firstAtZero followsFrom inOrder endsWithin recordedWithin zeroedWithin incompleteLast tailLast tailOrFull pendingNamed finalizedComplete sound allowedState isRefusalSense allowedSense blank dataLength replyRoom lengthsFit accepted accept refuse flush flushPlan synchronizeCache allReadable read flushOthers flushOthersPlan gather writeTo writeFound write nextWritableOrZero freeSectors trackBytes trackVerdict trackFound trackNumbered readTrackInformation perform judgeCommand judge
-early-list = refl
+-- the disc and the account after shapes
+abbrev listOf : ℕ → List Shape → Disc
+listOf c hs = discAfter hs (blank c)
 
-tail-readable : (d : Disc) (w z a : ℕ) → records d ≡ fragment 1 0 256 w z Appended ∷ [] → a < 16 * w → readable d (lba a) ≡ true
+abbrev accountOf : ℕ → List Turn → List Shape → Account
+accountOf c ts hs = accountBy 1 ts hs (blank c) opened
+
+-- what is computed of them on a disc of c blocks: answers, the list with its figures, where an address lies and what stands there
+record Computed (c : ℕ) : Type 0 where
+  range : inRange c ≡ true
+  answered : decisions newerShapes (blank c) ≡ newerAnswers
+  lateAnswered : (decisions (lateShapes 0) (blank c) ≡ newerAnswers ++ (Accepted ∷ [])) × (decisions (lateShapes 16) (blank c) ≡ newerAnswers ++ (Accepted ∷ []))
+  partly : decisions (wholeShapes 49 100352) (blank c) ≡ Accepted ∷ byDrive EndOfUserArea ∷ []
+  wholly : decisions (wholeShapes 48 98304) (blank c) ≡ Accepted ∷ Accepted ∷ []
+  newerList : records (listOf c newerShapes) ≡ fragment 1 0 c 2 14 Appended ∷ []
+  earlyList : records (listOf c earlyShapes) ≡ fragment 1 0 c 1 0 Appended ∷ []
+  figures : (numbered (listOf c newerShapes) 1 .recorded ≡ 2) × (numbered (listOf c newerShapes) 1 .zeroed ≡ 14) × (pendingIn (listOf c newerShapes) 1 ≡ 3)
+  firstFigures :
+      (numbered (listOf c earliestShapes) 1 .recorded ≡ 0) × (numbered (listOf c earliestShapes) 1 .zeroed ≡ 0) × (pendingIn (listOf c earliestShapes) 1 ≡ 5)
+  held : (listOf c earlyShapes .pending ≡ 2) × (listOf c newerShapes .pending ≡ 3)
+  behind : readable (listOf c newerShapes) (lba 32) ≡ false
+  first : extentOf (listOf c newerShapes) 1 .first ≡ 0
+  earlyPlaces : (atAddress (listOf c earlyShapes) (lba 3) ≡ Number 1) × (atAddress (listOf c earlyShapes) (lba 7) ≡ Number 1)
+  newerPlaces :
+      (atAddress (listOf c newerShapes) (lba 17) ≡ Number 1) × (atAddress (listOf c newerShapes) (lba 18) ≡ Number 1)
+      × (atAddress (listOf c newerShapes) (lba 31) ≡ Number 1) × (atAddress (listOf c newerShapes) (lba 32) ≡ Number 1)
+      × (atAddress (listOf c newerShapes) (lba 16) ≡ Number 1)
+  earlyContent :
+      (s : Drive) (l : Log) (x : ℕ) (j : ℕ → Change)
+      → (accountOf c (given (early l x j) s) earlyShapes .content 3 ≡ sectorAt 3 (firstFive l))
+      × (accountOf c (given (early l x j) s) earlyShapes .content 7 ≡ sectorAt 2 (nextThirteen l))
+  newerContent :
+      (s : Drive) (l : Log) (x : ℕ) (j : ℕ → Change)
+      → (accountOf c (given (newer l x j) s) newerShapes .content 17 ≡ sectorAt 12 (nextThirteen l))
+      × (accountOf c (given (newer l x j) s) newerShapes .content 18 ≡ zeros 2048)
+  newerRecorded : (s : Drive) (l : Log) (x : ℕ) (j : ℕ → Change) → accountOf c (given (newer l x j) s) newerShapes .recorded ≡ 32
+
+-- on the smallest disc and on the largest
+computed : Computed 256 × Computed 143444
+unfolding decisions discAfter accountBy given noted credited written flushed splitTail reserve decode listed some every find sumRecorded usedFirst firstAtZero followsFrom inOrder endsWithin recordedWithin zeroedWithin incompleteLast tailLast tailOrFull pendingNamed finalizedComplete sound allowedState isRefusalSense allowedSense blank dataLength replyRoom lengthsFit accepted accept refuse flush flushPlan synchronizeCache allReadable read flushOthers flushOthersPlan gather writeTo writeFound write nextWritableOrZero freeSectors trackBytes trackVerdict trackFound trackNumbered readTrackInformation perform judgeCommand judge
+computed = (
+  record {
+    range = refl;
+    answered = refl;
+    lateAnswered = (refl, refl);
+    partly = refl;
+    wholly = refl;
+    newerList = refl;
+    earlyList = refl;
+    figures = (refl, refl, refl);
+    firstFigures = (refl, refl, refl);
+    held = (refl, refl);
+    behind = refl;
+    first = refl;
+    earlyPlaces = (refl, refl);
+    newerPlaces = (refl, refl, refl, refl, refl);
+    earlyContent = λ s l x j. (refl, refl);
+    newerContent = λ s l x j. (refl, refl);
+    newerRecorded = λ s l x j. refl;
+  },
+  record {
+    range = refl;
+    answered = refl;
+    lateAnswered = (refl, refl);
+    partly = refl;
+    wholly = refl;
+    newerList = refl;
+    earlyList = refl;
+    figures = (refl, refl, refl);
+    firstFigures = (refl, refl, refl);
+    held = (refl, refl);
+    behind = refl;
+    first = refl;
+    earlyPlaces = (refl, refl);
+    newerPlaces = (refl, refl, refl, refl, refl);
+    earlyContent = λ s l x j. (refl, refl);
+    newerContent = λ s l x j. (refl, refl);
+    newerRecorded = λ s l x j. refl;
+  },
+)
+
+tail-readable : (d : Disc) (c w z a : ℕ) → records d ≡ fragment 1 0 c w z Appended ∷ [] → a < 16 * w → readable d (lba a) ≡ true
 unfolding some
-tail-readable d w z a e h =
+tail-readable d c w z a e h =
     ap (some (holdsRecorded (lba a))) e ∙ rw (le-leb (16 * 0) a (omega arith), lt-ltb a (16 * (0 + w)) (omega (arith, h)))
 
-module _ (s : Drive) (start : Start 256 s) (l : Log) (x : ℕ) (j : ℕ → Change) where
-  newer-answers : answers (given (newer l x j) s) s ≡ replicate 5 Accepted
+module _ (c : ℕ) (m : Computed c) (s : Drive) (start : Start c s) (l : Log) (x : ℕ) (j : ℕ → Change) where
+  newer-answers : answers (given (newer l x j) s) s ≡ newerAnswers
   newer-answers =
-      known-answers 256 s start (given (newer l x j) s) (given-admissible (newer l x j) s) newerShapes (newer-shapes s l x j) ∙ decided-newer
+      known-answers c s start (given (newer l x j) s) (given-admissible (newer l x j) s) newerShapes (newer-shapes s l x j) ∙ m .answered
 
-  newer-answer : (i : ℕ) → getD (answers (given (newer l x j) s) s) i Accepted ≡ getD (replicate 5 Accepted) i Accepted
+  newer-answer : (i : ℕ) → getD (answers (given (newer l x j) s) s) i Accepted ≡ getD newerAnswers i Accepted
   newer-answer i = ap (λ (r : List Answer). getD r i Accepted) newer-answers
 
 -- the older controller's sequence is the newer one's again
@@ -184,13 +273,13 @@ module _ (s e : Drive) (l : Log) (x y : ℕ) (j k : ℕ → Change) where
   abbrev rest₁ : List Given
   rest₁ =
       after (k 3) (asking y) ∷ after (k 4) (writing 5 3 (l .four)) ∷ after (k 5) (writing 8 10 (l .five)) ∷ after (k 6) (reading 0 y)
-      ∷ after (k 7) flushing ∷ []
+      ∷ after (k 7) flushing ∷ after (k 8) (reading 32 y) ∷ after (k 9) (writing 32 3 (l .six)) ∷ []
 
   abbrev parts₂ : List Given
   parts₂ = after (k 4) (writing 5 3 (l .four)) ∷ after (k 5) (writing 8 10 (l .five)) ∷ []
 
   abbrev rest₂ : List Given
-  rest₂ = after (k 6) (reading 0 y) ∷ after (k 7) flushing ∷ []
+  rest₂ = after (k 6) (reading 0 y) ∷ after (k 7) flushing ∷ after (k 8) (reading 32 y) ∷ after (k 9) (writing 32 3 (l .six)) ∷ []
 
   abbrev after₁ : Drive
   after₁ = final (given parts₁ e) e
@@ -210,17 +299,19 @@ module _ (s e : Drive) (l : Log) (x y : ℕ) (j k : ℕ → Change) where
       (same _ _ _ _ _ (same-again (asking x) (asking y) refl refl (length-replicate {A = ℕ} 36 x ∙ sym (length-replicate {A = ℕ} 36 y)))
       (cut _ _ _ (given parts₂ told₁) (given rest₂ after₂) _ two (cut-in-two 5 3 10 13 (l .four) (l .five) (omega arith) (omega arith) refl (l .fourLength) (l .fiveLength))
       (same _ _ _ _ _ (same-again (reading 0 x) (reading 0 y) refl refl (length-replicate {A = ℕ} 32768 x ∙ sym (length-replicate {A = ℕ} 32768 y)))
-      (same _ _ _ _ _ (same-again flushing flushing refl refl refl) (ends _)))
+      (same _ _ _ _ _ (same-again flushing flushing refl refl refl)
+      (same _ _ _ _ _ (same-again (reading 32 x) (reading 32 y) refl refl (length-replicate {A = ℕ} 32768 x ∙ sym (length-replicate {A = ℕ} 32768 y)))
+      (same _ _ _ _ _ (same-again (writing 32 3 (l .six)) (writing 32 3 (l .six)) refl refl refl) (ends _)))))
       refl))
       refl
 
 -- demand 3 of the two of them
-module _ (demand : Demand3) (f g : Flash) (l : Log) (x y : ℕ) (j k : ℕ → Change) where
+module _ (c : ℕ) (m : Computed c) (demand : Demand3) (f g : Flash c) (l : Log) (x y : ℕ) (j k : ℕ → Change) where
   abbrev fresh : Drive
-  fresh = blankOver f
+  fresh = blankOver c f
 
   abbrev other : Drive
-  other = blankOver g
+  other = blankOver c g
 
   abbrev newTurns : List Turn
   newTurns = given (newer l x j) fresh
@@ -229,20 +320,21 @@ module _ (demand : Demand3) (f g : Flash) (l : Log) (x y : ℕ) (j k : ℕ → C
   oldTurns = given (older l y k) other
 
   abbrev again : Again fresh newTurns oldTurns
-  again = same-log fresh other l x y j k (newer-answer fresh (flash-start f) l x j 0) (newer-answer fresh (flash-start f) l x j 2)
+  again = same-log fresh other l x y j k (newer-answer c m fresh (flash-start c f (m .range)) l x j 0) (newer-answer c m fresh (flash-start c f (m .range)) l x j 2)
 
   abbrev both : Agreeing fresh newTurns oldTurns again other × Alike (final newTurns fresh) (final oldTurns other)
   both =
-      demand .again 256 fresh other (flash-start f) (flash-start g) newTurns oldTurns (given-admissible (newer l x j) fresh) (given-admissible (older l y k) other) again
+      demand .again c fresh other (flash-start c f (m .range)) (flash-start c g (m .range)) newTurns oldTurns (given-admissible (newer l x j) fresh) (given-admissible (older l y k) other) again
 
-  told-answers : answers oldTurns other ≡ replicate 8 Accepted
+  told-answers : answers oldTurns other ≡ replicate 8 Accepted ++ (byDrive BlankCheck ∷ Accepted ∷ [])
   unfolding given final answers Agreeing AllAccepted same-log
   told-answers =
       let w = both .0 in
-      let a : (i : ℕ) → getD (answers newTurns fresh) i Accepted ≡ getD (replicate 5 Accepted) i Accepted = newer-answer fresh (flash-start f) l x j in
+      let a : (i : ℕ) → getD (answers newTurns fresh) i Accepted ≡ getD newerAnswers i Accepted = newer-answer c m fresh (flash-start c f (m .range)) l x j in
       λ i.
       w .0 .0 i ∷ w .0 .1 .0 i ∷ w .0 .1 .1 .0 i ∷ (sym (ap (λ (t : Told). t .answer) (w .2 .0)) ∙ a 1) i ∷ w .2 .1 .0 .0 i ∷ w .2 .1 .0 .1 .0 i
-      ∷ (sym (ap (λ (t : Told). t .answer) (w .2 .1 .2 .0)) ∙ a 3) i ∷ (sym (ap (λ (t : Told). t .answer) (w .2 .1 .2 .1 .0)) ∙ a 4) i ∷ []
+      ∷ (sym (ap (λ (t : Told). t .answer) (w .2 .1 .2 .0)) ∙ a 3) i ∷ (sym (ap (λ (t : Told). t .answer) (w .2 .1 .2 .1 .0)) ∙ a 4) i
+      ∷ (sym (ap (λ (t : Told). t .answer) (w .2 .1 .2 .1 .1 .0)) ∙ a 5) i ∷ (sym (ap (λ (t : Told). t .answer) (w .2 .1 .2 .1 .1 .1 .0)) ∙ a 6) i ∷ []
 
   told-information : getD (replies oldTurns other) 3 [] ≡ getD (replies newTurns fresh) 1 []
   unfolding given final replies Agreeing same-log
@@ -264,8 +356,8 @@ module _ (demand : Demand3) (f g : Flash) (l : Log) (x y : ℕ) (j k : ℕ → C
   unfolding given final counts Agreeing same-log
   told-flushed = sym (ap (λ (t : Told). t .recorded) (both .0 .2 .1 .2 .1 .0))
 
-  newer-disc : final newTurns fresh .disc ≡ discAfter newerShapes (blank 256)
-  newer-disc = known-disc 256 fresh (flash-start f) newTurns (given-admissible (newer l x j) fresh) newerShapes (newer-shapes fresh l x j)
+  newer-disc : final newTurns fresh .disc ≡ listOf c newerShapes
+  newer-disc = known-disc c fresh (flash-start c f (m .range)) newTurns (given-admissible (newer l x j) fresh) newerShapes (newer-shapes fresh l x j)
 
   two-controllers : TwoControllers newTurns fresh oldTurns other
   two-controllers =
@@ -283,7 +375,7 @@ module _ (demand : Demand3) (f g : Flash) (l : Log) (x y : ℕ) (j k : ℕ → C
             sym
             (a .recorded i
             (ap (λ (d : Disc). recordedByte d i) newer-disc
-            ∙ tail-readable (discAfter newerShapes (blank 256)) 2 14 (i / 2048) newer-list (omega (arith, h))));
+            ∙ tail-readable (listOf c newerShapes) c 2 14 (i / 2048) (m .newerList) (omega (arith, h))));
         pending = sym (a .pending);
       }
 
@@ -291,46 +383,52 @@ module _ (demand : Demand3) (f g : Flash) (l : Log) (x y : ℕ) (j k : ℕ → C
 unchanged-newer : (s : Drive) (l : Log) (x : ℕ) → Undisturbed (given (newer l x (λ i. unchanged)) s) s
 unchanged-newer s l x =
     given-undisturbed
-    (writing 0 5 (firstFive l) ∷ asking x ∷ writing 5 13 (nextThirteen l) ∷ reading 0 x ∷ flushing ∷ []) s
+    (writing 0 5 (firstFive l) ∷ asking x ∷ writing 5 13 (nextThirteen l) ∷ reading 0 x ∷ flushing ∷ reading 32 x ∷ writing 32 3 (l .six) ∷ []) s
 
 unchanged-older : (s : Drive) (l : Log) (x : ℕ) → Undisturbed (given (older l x (λ i. unchanged)) s) s
 unchanged-older s l x =
     given-undisturbed
     (writing 0 2 (l .one) ∷ writing 2 1 (l .two) ∷ writing 3 2 (l .three) ∷ asking x ∷ writing 5 3 (l .four) ∷ writing 8 10 (l .five) ∷ reading 0 x
-    ∷ flushing ∷ []) s
+    ∷ flushing ∷ reading 32 x ∷ writing 32 3 (l .six) ∷ []) s
 
 byte-for-byte :
-    Demand3 → (f : Flash) (l : Log) (x y : ℕ)
-    → ByteForByte (given (newer l x (λ i. unchanged)) (blankOver f)) (given (older l y (λ i. unchanged)) (blankOver f)) (blankOver f)
-byte-for-byte demand f l x y =
-    let s = blankOver f in
+    (c : ℕ) → Computed c → Demand3 → (f : Flash c) (l : Log) (x y : ℕ)
+    → ByteForByte (given (newer l x (λ i. unchanged)) (blankOver c f)) (given (older l y (λ i. unchanged)) (blankOver c f)) (blankOver c f)
+byte-for-byte c m demand f l x y =
+    let s = blankOver c f in
     let none : ℕ → Change = λ i. unchanged in
     let e : final (given (newer l x none) s) s ≡ final (given (older l y none) s) s =
-    demand .exact 256 s (flash-start f) (given (newer l x none) s) (given (older l y none) s) (unchanged-newer s l x) (unchanged-older s l y)
-    (same-log s s l x y none none (newer-answer s (flash-start f) l x none 0) (newer-answer s (flash-start f) l x none 2)) in
+    demand .exact c s (flash-start c f (m .range)) (given (newer l x none) s) (given (older l y none) s) (unchanged-newer s l x) (unchanged-older s l y)
+    (same-log s s l x y none none (newer-answer c m s (flash-start c f (m .range)) l x none 0) (newer-answer c m s (flash-start c f (m .range)) l x none 2)) in
     record { medium = sym (ap (λ (d : Drive). d .medium) e); pending = sym (ap (λ (d : Drive). d .pending) e) }
 
 -- a recorded block stays
+abbrev later : Log → ℕ → (ℕ → Change) → List Given
+later l x j = after (j 3) (reading 0 x) ∷ after (j 4) flushing ∷ after (j 5) (reading 32 x) ∷ after (j 6) (writing 32 3 (l .six)) ∷ []
+
 newer-split :
     (s : Drive) (l : Log) (x : ℕ) (j : ℕ → Change)
-    → given (newer l x j) s ≡ given (early l x j) s ++ given (after (j 3) (reading 0 x) ∷ after (j 4) flushing ∷ []) (final (given (early l x j) s) s)
+    → given (newer l x j) s ≡ given (early l x j) s ++ given (later l x j) (final (given (early l x j) s) s)
 unfolding given final
 newer-split s l x j = refl
 
 block-stays :
-    Demand3 → (f : Flash) (l : Log) (x : ℕ) (j : ℕ → Change)
-    → BlockStays (given (early l x j) (blankOver f)) (given (newer l x j) (blankOver f)) (blankOver f)
-block-stays demand f l x j i h =
-    let s = blankOver f in
+    (c : ℕ) → Computed c → Demand3 → (f : Flash c) (l : Log) (x : ℕ) (j : ℕ → Change)
+    → BlockStays (given (early l x j) (blankOver c f)) (given (newer l x j) (blankOver c f)) (blankOver c f)
+block-stays c m demand f l x j i h =
+    let s = blankOver c f in
     let ts = given (early l x j) s in
-    let us = given (after (j 3) (reading 0 x) ∷ after (j 4) flushing ∷ []) (final ts s) in
+    let us = given (later l x j) (final ts s) in
     let split : given (newer l x j) s ≡ ts ++ us = newer-split s l x j in
     let whole : Admissible (ts ++ us) s = subst (λ (vs : List Turn). Admissible vs s) split (given-admissible (newer l x j) s) in
-    let d : final ts s .disc ≡ discAfter earlyShapes (blank 256) =
-    known-disc 256 s (flash-start f) ts (given-admissible (early l x j) s) earlyShapes (early-shapes s l x j) in
+    let d : final ts s .disc ≡ listOf c earlyShapes =
+    known-disc c s (flash-start c f (m .range)) ts (given-admissible (early l x j) s) earlyShapes (early-shapes s l x j) in
     let here : recordedByte (final ts s .disc) i ≡ true =
-    ap (λ (d : Disc). recordedByte d i) d ∙ tail-readable (discAfter earlyShapes (blank 256)) 1 0 (i / 2048) early-list (omega (arith, h)) in
-    ap (λ (vs : List Turn). getD (final vs s .medium) i 0) split ∙ demand .stays 256 s (flash-start f) ts us whole i here .1
+    ap (λ (d : Disc). recordedByte d i) d ∙ tail-readable (listOf c earlyShapes) c 1 0 (i / 2048) (m .earlyList) (omega (arith, h)) in
+    let kept = demand .stays c s (flash-start c f (m .range)) ts us whole i here in (
+      ap (λ (vs : List Turn). recordedByte (final vs s .disc) i) split ∙ kept .0,
+      ap (λ (vs : List Turn). getD (final vs s .medium) i 0) split ∙ kept .1,
+    )
 
 -- a WRITE that fits in part, and one that fits whole: their parts, after RESERVE
 abbrev joined : List ℕ → List ℕ → List ℕ
@@ -338,17 +436,6 @@ joined x y = x ++ (y ++ [])
 
 joined-length : (x y : List ℕ) (n m : ℕ) → length x ≡ n → length y ≡ m → length (joined x y) ≡ n + m
 joined-length x y n m h k = length-append x (y ++ []) ∙ omega (arith, length-append y [], h, k)
-
-abbrev wholeShapes : ℕ → ℕ → List Shape
-wholeShapes p n = shape (reserving .cdb) 0 0 ∷ shape (writeBlock 0 p) n 0 ∷ []
-
-decided-partly : decisions (wholeShapes 49 100352) (blank 256) ≡ Accepted ∷ byDrive EndOfUserArea ∷ []
-unfolding decisions decode listed some every find sumRecorded usedFirst firstAtZero followsFrom inOrder endsWithin recordedWithin zeroedWithin incompleteLast tailLast tailOrFull pendingNamed finalizedComplete sound allowedState isRefusalSense allowedSense blank dataLength replyRoom lengthsFit accepted accept refuse flush flushPlan synchronizeCache allReadable read flushOthers flushOthersPlan gather writeTo writeFound write nextWritableOrZero freeSectors trackBytes trackVerdict trackFound trackNumbered readTrackInformation perform judgeCommand judge splitTail reserve
-decided-partly = refl
-
-decided-wholly : decisions (wholeShapes 48 98304) (blank 256) ≡ Accepted ∷ Accepted ∷ []
-unfolding decisions decode listed some every find sumRecorded usedFirst firstAtZero followsFrom inOrder endsWithin recordedWithin zeroedWithin incompleteLast tailLast tailOrFull pendingNamed finalizedComplete sound allowedState isRefusalSense allowedSense blank dataLength replyRoom lengthsFit accepted accept refuse flush flushPlan synchronizeCache allReadable read flushOthers flushOthersPlan gather writeTo writeFound write nextWritableOrZero freeSectors trackBytes trackVerdict trackFound trackNumbered readTrackInformation perform judgeCommand judge splitTail reserve
-decided-wholly = refl
 
 abbrev whole-then : List ℕ → ℕ → (ℕ → Change) → List Given
 whole-then x p j = after (j 0) reserving ∷ after (j 1) (writing 0 p x) ∷ []
@@ -358,13 +445,13 @@ unfolding given
 whole-shapes s x p b j size = λ i. shape (reserving .cdb) 0 0 ∷ shape (writeBlock 0 p) (size i) 0 ∷ []
 
 whole-answers :
-    (s : Drive) → Start 256 s → (x : List ℕ) (p b : ℕ) (j : ℕ → Change) → length x ≡ b
-    → answers (given (whole-then x p j) s) s ≡ decisions (wholeShapes p b) (blank 256)
-whole-answers s start x p b j size =
-    let gs = whole-then x p j in known-answers 256 s start (given gs s) (given-admissible gs s) (wholeShapes p b) (whole-shapes s x p b j size)
+    (c : ℕ) (s : Drive) → Start c s → (x : List ℕ) (p b : ℕ) (j : ℕ → Change) → length x ≡ b
+    → answers (given (whole-then x p j) s) s ≡ decisions (wholeShapes p b) (blank c)
+whole-answers c s start x p b j size =
+    let gs = whole-then x p j in known-answers c s start (given gs s) (given-admissible gs s) (wholeShapes p b) (whole-shapes s x p b j size)
 
 module _
-    (demand : Demand3) (s : Drive) (start : Start 256 s) (x y : List ℕ) (n p : ℕ) (j : ℕ → Change)
+    (c : ℕ) (demand : Demand3) (s : Drive) (start : Start c s) (x y : List ℕ) (n p : ℕ) (j : ℕ → Change)
     (whole : CutOf (writing 0 p (joined x y)) (writing 0 40 x ∷ writing 40 n y ∷ []))
   where
     abbrev one : List Given
@@ -382,7 +469,7 @@ module _
         let t = turn (after (j 1) (writing 0 p (joined x y))) r in
         let gs = after (j 1) (writing 0 40 x) ∷ after (j 2) (writing 40 n y) ∷ [] in
         let w =
-        demand .whole 256 s start ts (given-admissible (after (j 0) reserving ∷ []) s) t (given gs r)
+        demand .whole c s start ts (given-admissible (after (j 0) reserving ∷ []) s) t (given gs r)
         (turn-alike (after (j 1) (writing 0 p (joined x y))) r) (given-admissible gs r) whole in (
           λ a b. (λ i. b i ∷ w .0 a .0 i ∷ w .0 a .1 .0 i ∷ []),
           λ a. w .1 (ap (λ (l : List Answer). getD l 1 Accepted) a, (ap (λ (l : List Answer). getD l 2 Accepted) a, tt)),
@@ -391,31 +478,25 @@ module _
 not-accepted : (x : DriveRefusal) → byDrive x ≡ Accepted → ⊥
 not-accepted x e = absurd (let z : _≡_ {A = ℕ} 0 1 = cc in omega arith)
 
-fits : Demand3 → (f : Flash) (x y z : List ℕ) → length x ≡ 81920 → length y ≡ 18432 → length z ≡ 16384 → (j : ℕ → Change) → Fitting (blankOver f) x y z j
-fits demand f x y z a b c j =
-    let s = blankOver f in
-    let start = flash-start f in
-    let large = joined-length x y 81920 18432 a b in
-    let small = joined-length x z 81920 16384 a c in
-    let no = parts-answers demand s start x y 9 49 j (cut-in-two 0 40 9 49 x y (omega arith) (omega arith) refl a b) in
-    let yes = parts-answers demand s start x z 8 48 j (cut-in-two 0 40 8 48 x z (omega arith) (omega arith) refl a c) in
-    let refused = whole-answers s start (joined x y) 49 100352 j large ∙ decided-partly in
-    let taken = whole-answers s start (joined x z) 48 98304 j small ∙ decided-wholly in
+fits :
+    (c : ℕ) → Computed c → Demand3 → (f : Flash c) (x y z : List ℕ) → length x ≡ 81920 → length y ≡ 18432 → length z ≡ 16384 → (j : ℕ → Change)
+    → Fitting (blankOver c f) x y z j
+fits c m demand f x y z one two three j =
+    let s = blankOver c f in
+    let start = flash-start c f (m .range) in
+    let large = joined-length x y 81920 18432 one two in
+    let small = joined-length x z 81920 16384 one three in
+    let no = parts-answers c demand s start x y 9 49 j (cut-in-two 0 40 9 49 x y (omega arith) (omega arith) refl one two) in
+    let yes = parts-answers c demand s start x z 8 48 j (cut-in-two 0 40 8 48 x z (omega arith) (omega arith) refl one three) in
+    let refused = whole-answers c s start (joined x y) 49 100352 j large ∙ m .partly in
+    let taken = whole-answers c s start (joined x z) 48 98304 j small ∙ m .wholly in
     record {
       partly = λ q. not-accepted EndOfUserArea (sym (ap (λ (l : List Answer). getD l 1 Accepted) refused) ∙ no .1 q);
       wholly = yes .0 (ap (λ (l : List Answer). getD l 1 Accepted) taken) (ap (λ (l : List Answer). getD l 0 Accepted) taken);
     }
 
--- what the history says of the newer controller's log, computed: where an address lies, and what stands there
-abbrev lateShapes : ℕ → List Shape
-lateShapes a = newerShapes ++ (shape (reading a 0 .cdb) 0 32768 ∷ [])
-
 abbrev late : ℕ → Log → ℕ → (ℕ → Change) → List Given
-late a l x j = newer l x j ++ (after (j 5) (reading a x) ∷ [])
-
-decided-late : (decisions (lateShapes 0) (blank 256) ≡ replicate 6 Accepted) × (decisions (lateShapes 16) (blank 256) ≡ replicate 6 Accepted)
-unfolding decisions decode listed some every find sumRecorded usedFirst firstAtZero followsFrom inOrder endsWithin recordedWithin zeroedWithin incompleteLast tailLast tailOrFull pendingNamed finalizedComplete sound allowedState isRefusalSense allowedSense blank dataLength replyRoom lengthsFit accepted accept refuse flush flushPlan synchronizeCache allReadable read flushOthers flushOthersPlan gather writeTo writeFound write nextWritableOrZero freeSectors trackBytes trackVerdict trackFound trackNumbered readTrackInformation perform judgeCommand judge
-decided-late = (refl, refl)
+late a l x j = newer l x j ++ (after (j 7) (reading a x) ∷ [])
 
 late-shapes : (s : Drive) (a : ℕ) (l : Log) (x : ℕ) (j : ℕ → Change) → shapes (given (late a l x j) s) ≡ lateShapes a
 unfolding given
@@ -423,61 +504,17 @@ late-shapes s a l x j =
     λ i.
     shape (writeBlock 0 5) (five-length l i) 0 ∷ shape (asking 0 .cdb) 0 (length-replicate {A = ℕ} 36 x i)
     ∷ shape (writeBlock 5 13) (thirteen-length l i) 0 ∷ shape (reading 0 0 .cdb) 0 (length-replicate {A = ℕ} 32768 x i)
-    ∷ shape (flushing .cdb) 0 0 ∷ shape (reading a 0 .cdb) 0 (length-replicate {A = ℕ} 32768 x i) ∷ []
+    ∷ shape (flushing .cdb) 0 0 ∷ shape (reading 32 0 .cdb) 0 (length-replicate {A = ℕ} 32768 x i) ∷ shape (writeBlock 32 3) (l .sixLength i) 0
+    ∷ shape (reading a 0 .cdb) 0 (length-replicate {A = ℕ} 32768 x i) ∷ []
 
 late-answers :
-    (f : Flash) (a : ℕ) (l : Log) (x : ℕ) (j : ℕ → Change) → decisions (lateShapes a) (blank 256) ≡ replicate 6 Accepted
-    → getD (answers (given (late a l x j) (blankOver f)) (blankOver f)) 5 Accepted ≡ Accepted
-late-answers f a l x j e =
-    let s = blankOver f in
-    let known = known-answers 256 s (flash-start f) (given (late a l x j) s) (given-admissible (late a l x j) s) (lateShapes a) (late-shapes s a l x j) in
-    ap (λ (r : List Answer). getD r 5 Accepted) (known ∙ e)
-
-early-places : (atAddress (discAfter earlyShapes (blank 256)) (lba 3) ≡ Number 1) × (atAddress (discAfter earlyShapes (blank 256)) (lba 7) ≡ Number 1)
-unfolding discAfter decode listed some every find sumRecorded usedFirst firstAtZero followsFrom inOrder endsWithin recordedWithin zeroedWithin incompleteLast tailLast tailOrFull pendingNamed finalizedComplete sound allowedState isRefusalSense allowedSense blank dataLength replyRoom lengthsFit accepted accept refuse flush flushPlan synchronizeCache allReadable read flushOthers flushOthersPlan gather writeTo writeFound write nextWritableOrZero freeSectors trackBytes trackVerdict trackFound trackNumbered readTrackInformation perform judgeCommand judge
-early-places = (refl, refl)
-
-newer-places :
-    (atAddress (discAfter newerShapes (blank 256)) (lba 17) ≡ Number 1) × (atAddress (discAfter newerShapes (blank 256)) (lba 18) ≡ Number 1)
-    × (atAddress (discAfter newerShapes (blank 256)) (lba 31) ≡ Number 1) × (atAddress (discAfter newerShapes (blank 256)) (lba 32) ≡ Number 1)
-    × (atAddress (discAfter newerShapes (blank 256)) (lba 16) ≡ Number 1)
-unfolding discAfter decode listed some every find sumRecorded usedFirst firstAtZero followsFrom inOrder endsWithin recordedWithin zeroedWithin incompleteLast tailLast tailOrFull pendingNamed finalizedComplete sound allowedState isRefusalSense allowedSense blank dataLength replyRoom lengthsFit accepted accept refuse flush flushPlan synchronizeCache allReadable read flushOthers flushOthersPlan gather writeTo writeFound write nextWritableOrZero freeSectors trackBytes trackVerdict trackFound trackNumbered readTrackInformation perform judgeCommand judge
-newer-places = (refl, refl, refl, refl, refl)
-
-module _ (s : Drive) (l : Log) (x : ℕ) (j : ℕ → Change) where
-  abbrev earlyAccount : Account
-  earlyAccount = accountBy 1 (given (early l x j) s) earlyShapes (blank 256) opened
-
-  abbrev newerAccount : Account
-  newerAccount = accountBy 1 (given (newer l x j) s) newerShapes (blank 256) opened
-
-  early-content : (earlyAccount .content 3 ≡ sectorAt 3 (firstFive l)) × (earlyAccount .content 7 ≡ sectorAt 2 (nextThirteen l))
-  unfolding accountBy given noted credited written flushed decode listed some every find sumRecorded usedFirst firstAtZero followsFrom inOrder endsWithin recordedWithin zeroedWithin incompleteLast tailLast tailOrFull pendingNamed finalizedComplete sound allowedState isRefusalSense allowedSense blank dataLength replyRoom lengthsFit accepted accept refuse flush flushPlan synchronizeCache allReadable read flushOthers flushOthersPlan gather writeTo writeFound write nextWritableOrZero freeSectors trackBytes trackVerdict trackFound trackNumbered readTrackInformation perform judgeCommand judge
-  early-content = (refl, refl)
-
-  newer-content : (newerAccount .content 17 ≡ sectorAt 12 (nextThirteen l)) × (newerAccount .content 18 ≡ zeros 2048)
-  unfolding accountBy given noted credited written flushed decode listed some every find sumRecorded usedFirst firstAtZero followsFrom inOrder endsWithin recordedWithin zeroedWithin incompleteLast tailLast tailOrFull pendingNamed finalizedComplete sound allowedState isRefusalSense allowedSense blank dataLength replyRoom lengthsFit accepted accept refuse flush flushPlan synchronizeCache allReadable read flushOthers flushOthersPlan gather writeTo writeFound write nextWritableOrZero freeSectors trackBytes trackVerdict trackFound trackNumbered readTrackInformation perform judgeCommand judge
-  newer-content = (refl, refl)
-
-  newer-recorded : newerAccount .recorded ≡ 32
-  unfolding accountBy given noted credited written flushed decode listed some every find sumRecorded usedFirst firstAtZero followsFrom inOrder endsWithin recordedWithin zeroedWithin incompleteLast tailLast tailOrFull pendingNamed finalizedComplete sound allowedState isRefusalSense allowedSense blank dataLength replyRoom lengthsFit accepted accept refuse flush flushPlan synchronizeCache allReadable read flushOthers flushOthersPlan gather writeTo writeFound write nextWritableOrZero freeSectors trackBytes trackVerdict trackFound trackNumbered readTrackInformation perform judgeCommand judge
-  newer-recorded = refl
-
-newer-first : extentOf (discAfter newerShapes (blank 256)) 1 .first ≡ 0
-unfolding discAfter decode listed some every find sumRecorded usedFirst firstAtZero followsFrom inOrder endsWithin recordedWithin zeroedWithin incompleteLast tailLast tailOrFull pendingNamed finalizedComplete sound allowedState isRefusalSense allowedSense blank dataLength replyRoom lengthsFit accepted accept refuse flush flushPlan synchronizeCache allReadable read flushOthers flushOthersPlan gather writeTo writeFound write nextWritableOrZero freeSectors trackBytes trackVerdict trackFound trackNumbered readTrackInformation perform judgeCommand judge
-newer-first = refl
-
-newer-figures :
-    (numbered (discAfter newerShapes (blank 256)) 1 .recorded ≡ 2) × (numbered (discAfter newerShapes (blank 256)) 1 .zeroed ≡ 14)
-    × (pendingIn (discAfter newerShapes (blank 256)) 1 ≡ 0)
-unfolding discAfter decode listed some every find sumRecorded usedFirst firstAtZero followsFrom inOrder endsWithin recordedWithin zeroedWithin incompleteLast tailLast tailOrFull pendingNamed finalizedComplete sound allowedState isRefusalSense allowedSense blank dataLength replyRoom lengthsFit accepted accept refuse flush flushPlan synchronizeCache allReadable read flushOthers flushOthersPlan gather writeTo writeFound write nextWritableOrZero freeSectors trackBytes trackVerdict trackFound trackNumbered readTrackInformation perform judgeCommand judge
-newer-figures = (refl, refl, refl)
-
-pending-figures :
-    (discAfter earlyShapes (blank 256) .pending ≡ 2) × (discAfter newerShapes (blank 256) .pending ≡ 0)
-    × (readable (discAfter newerShapes (blank 256)) (lba 32) ≡ false)
-unfolding discAfter decode listed some every find sumRecorded usedFirst firstAtZero followsFrom inOrder endsWithin recordedWithin zeroedWithin incompleteLast tailLast tailOrFull pendingNamed finalizedComplete sound allowedState isRefusalSense allowedSense blank dataLength replyRoom lengthsFit accepted accept refuse flush flushPlan synchronizeCache allReadable read flushOthers flushOthersPlan gather writeTo writeFound write nextWritableOrZero freeSectors trackBytes trackVerdict trackFound trackNumbered readTrackInformation perform judgeCommand judge
-pending-figures = (refl, refl, refl)
+    (c : ℕ) → Computed c → (f : Flash c) (a : ℕ) (l : Log) (x : ℕ) (j : ℕ → Change)
+    → decisions (lateShapes a) (blank c) ≡ newerAnswers ++ (Accepted ∷ [])
+    → getD (answers (given (late a l x j) (blankOver c f)) (blankOver c f)) 7 Accepted ≡ Accepted
+late-answers c m f a l x j e =
+    let s = blankOver c f in
+    let known = known-answers c s (flash-start c f (m .range)) (given (late a l x j) s) (given-admissible (late a l x j) s) (lateShapes a) (late-shapes s a l x j) in
+    ap (λ (r : List Answer). getD r 7 Accepted) (known ∙ e)
 
 -- L2 and L3 are neither L1 nor L4
 abbrev OwnLength : LinkRefusal → Type 0
@@ -492,12 +529,15 @@ no-state (inl e) = absurd (let z : _≡_ {A = ℕ} 0 1 = cc in omega arith)
 no-state (inr e) = absurd (let z : _≡_ {A = ℕ} 0 1 = cc in omega arith)
 
 -- the kept account of it
-module _ (kept : KeptAccount) (f : Flash) (l : Log) (x : ℕ) (j : ℕ → Change) where
+module _ (c : ℕ) (m : Computed c) (kept : KeptAccount) (f : Flash c) (l : Log) (x : ℕ) (j : ℕ → Change) where
   abbrev disc₀ : Drive
-  disc₀ = blankOver f
+  disc₀ = blankOver c f
 
-  abbrev start₀ : Start 256 disc₀
-  start₀ = flash-start f
+  abbrev start₀ : Start c disc₀
+  start₀ = flash-start c f (m .range)
+
+  abbrev firstTurns : List Turn
+  firstTurns = given (earliest l j) disc₀
 
   abbrev earlyTurns : List Turn
   earlyTurns = given (early l x j) disc₀
@@ -519,29 +559,29 @@ module _ (kept : KeptAccount) (f : Flash) (l : Log) (x : ℕ) (j : ℕ → Chang
   unfolding given final answers replies decode
   read-early a h =
       let r = final earlyTurns disc₀ in
-      kept .back 256 disc₀ start₀ earlyTurns early-admissible (turn (after (j 3) (reading 0 x)) r) (turn-alike (after (j 3) (reading 0 x)) r) (lba 0) 16 refl
-      (newer-answer disc₀ start₀ l x j 3) a h
+      kept .back c disc₀ start₀ earlyTurns early-admissible (turn (after (j 3) (reading 0 x)) r) (turn-alike (after (j 3) (reading 0 x)) r) (lba 0) 16 refl
+      (newer-answer c m disc₀ start₀ l x j 3) a h
 
   read-late :
-      (a : ℕ) → a < 16 → sectorAt a (behindAll logTurns disc₀ (after (j 5) (reading 16 x)) .reply) ≡ contentAt logTurns disc₀ (16 + a)
+      (a : ℕ) → a < 16 → sectorAt a (behindAll logTurns disc₀ (after (j 7) (reading 16 x)) .reply) ≡ contentAt logTurns disc₀ (16 + a)
   unfolding given final answers replies decode
   read-late a h =
-      kept .back 256 disc₀ start₀ logTurns log-admissible (turn (after (j 5) (reading 16 x)) logEnd) (turn-alike (after (j 5) (reading 16 x)) logEnd) (lba 16) 16 refl
-      (late-answers f 16 l x j (decided-late .1)) a h
+      kept .back c disc₀ start₀ logTurns log-admissible (turn (after (j 7) (reading 16 x)) logEnd) (turn-alike (after (j 7) (reading 16 x)) logEnd) (lba 16) 16 refl
+      (late-answers c m f 16 l x j (m .lateAnswered .1)) a h
 
-  early-known : (a : ℕ) → atAddress (discAfter earlyShapes (blank 256)) (lba a) ≡ Number 1 → contentAt earlyTurns disc₀ a ≡ earlyAccount disc₀ l x j .content a
-  early-known a e = known-content 256 disc₀ start₀ earlyTurns early-admissible earlyShapes (early-shapes disc₀ l x j) a 1 e
+  early-known : (a : ℕ) → atAddress (listOf c earlyShapes) (lba a) ≡ Number 1 → contentAt earlyTurns disc₀ a ≡ accountOf c earlyTurns earlyShapes .content a
+  early-known a e = known-content c disc₀ start₀ earlyTurns early-admissible earlyShapes (early-shapes disc₀ l x j) a 1 e
 
-  log-known : (a : ℕ) → atAddress (discAfter newerShapes (blank 256)) (lba a) ≡ Number 1 → contentAt logTurns disc₀ a ≡ newerAccount disc₀ l x j .content a
-  log-known a e = known-content 256 disc₀ start₀ logTurns log-admissible newerShapes (newer-shapes disc₀ l x j) a 1 e
+  log-known : (a : ℕ) → atAddress (listOf c newerShapes) (lba a) ≡ Number 1 → contentAt logTurns disc₀ a ≡ accountOf c logTurns newerShapes .content a
+  log-known a e = known-content c disc₀ start₀ logTurns log-admissible newerShapes (newer-shapes disc₀ l x j) a 1 e
 
-  log-recorded : (a : ℕ) → atAddress (discAfter newerShapes (blank 256)) (lba a) ≡ Number 1 → recordedAt logTurns disc₀ a ≡ ltb a 32
+  log-recorded : (a : ℕ) → atAddress (listOf c newerShapes) (lba a) ≡ Number 1 → recordedAt logTurns disc₀ a ≡ ltb a 32
   log-recorded a e =
-      known-recorded 256 disc₀ start₀ logTurns log-admissible newerShapes (newer-shapes disc₀ l x j) a 1 e
-      ∙ (ap (λ (b : ℕ). ltb a (b + newerAccount disc₀ l x j .recorded)) newer-first ∙ ap (λ (b : ℕ). ltb a (0 + b)) (newer-recorded disc₀ l x j))
+      known-recorded c disc₀ start₀ logTurns log-admissible newerShapes (newer-shapes disc₀ l x j) a 1 e
+      ∙ (ap (λ (b : ℕ). ltb a (b + accountOf c logTurns newerShapes .recorded)) (m .first) ∙ ap (λ (b : ℕ). ltb a (0 + b)) (m .newerRecorded disc₀ l x j))
 
-  log-readable : (a : ℕ) → atAddress (discAfter newerShapes (blank 256)) (lba a) ≡ Number 1 → readable (logEnd .disc) (lba a) ≡ ltb a 32
-  log-readable a e = kept .recorded 256 disc₀ start₀ logTurns log-admissible a ∙ log-recorded a e
+  log-readable : (a : ℕ) → atAddress (listOf c newerShapes) (lba a) ≡ Number 1 → readable (logEnd .disc) (lba a) ≡ ltb a 32
+  log-readable a e = kept .recorded c disc₀ start₀ logTurns log-admissible a ∙ log-recorded a e
 
   one-read : ReadOf (request (0x28 ∷ 0 ∷ 0 ∷ 0 ∷ 0 ∷ 16 ∷ 0 ∷ 0 ∷ 1 ∷ 0 ∷ 0 ∷ 0 ∷ []) [] (replicate 2048 x)) (lba 16) 1
   unfolding decode
@@ -549,45 +589,54 @@ module _ (kept : KeptAccount) (f : Flash) (l : Log) (x : ℕ) (j : ℕ → Chang
       let size = length-replicate {A = ℕ} 2048 x in
       record { cdb = refl; command = refl; payload = refl; room = omega (arith, size) }
 
-  log-kept : Keeps (account 1 logTurns disc₀) (discAfter newerShapes (blank 256)) 1
+  log-kept : Keeps (account 1 logTurns disc₀) (listOf c newerShapes) 1
   log-kept =
       subst (λ (d : Disc). Keeps (account 1 logTurns disc₀) d 1)
-      (known-disc 256 disc₀ start₀ logTurns log-admissible newerShapes (newer-shapes disc₀ l x j))
-      (kept .keeps 256 disc₀ start₀ logTurns log-admissible 1 (omega arith))
+      (known-disc c disc₀ start₀ logTurns log-admissible newerShapes (newer-shapes disc₀ l x j))
+      (kept .keeps c disc₀ start₀ logTurns log-admissible 1 (omega arith))
 
-  reads : Reader l x logTurns disc₀ (j 5)
+  first-kept : Keeps (account 1 firstTurns disc₀) (listOf c earliestShapes) 1
+  first-kept =
+      let h = given-admissible (earliest l j) disc₀ in
+      subst (λ (d : Disc). Keeps (account 1 firstTurns disc₀) d 1) (known-disc c disc₀ start₀ firstTurns h earliestShapes (earliest-shapes disc₀ l j))
+      (kept .keeps c disc₀ start₀ firstTurns h 1 (omega arith))
+
+  reads : Reader l x firstTurns logTurns disc₀ (j 7)
   reads =
       let k = log-kept in
-      let c = newer-figures in
+      let e = first-kept in
+      let n = m .figures in
+      let o = m .firstFigures in
       record {
-        first = read-early 3 (omega arith) ∙ (early-known 3 (early-places .0) ∙ early-content disc₀ l x j .0);
-        second = read-early 7 (omega arith) ∙ (early-known 7 (early-places .1) ∙ early-content disc₀ l x j .1);
-        last = read-late 1 (omega arith) ∙ (log-known 17 (newer-places .0) ∙ newer-content disc₀ l x j .0);
-        zeroed = read-late 2 (omega arith) ∙ (log-known 18 (newer-places .1) ∙ newer-content disc₀ l x j .1);
-        log = log-readable 17 (newer-places .0);
-        padding = log-readable 31 (newer-places .2);
-        behind = log-readable 32 (newer-places .3);
+        early = read-early 3 (omega arith) ∙ (early-known 3 (m .earlyPlaces .0) ∙ m .earlyContent disc₀ l x j .0);
+        second = read-early 7 (omega arith) ∙ (early-known 7 (m .earlyPlaces .1) ∙ m .earlyContent disc₀ l x j .1);
+        last = read-late 1 (omega arith) ∙ (log-known 17 (m .newerPlaces .0) ∙ m .newerContent disc₀ l x j .0);
+        zeroed = read-late 2 (omega arith) ∙ (log-known 18 (m .newerPlaces .1) ∙ m .newerContent disc₀ l x j .1);
+        log = log-readable 17 (m .newerPlaces .0);
+        padding = log-readable 31 (m .newerPlaces .2);
+        behind = log-readable 32 (m .newerPlaces .3);
         accepted =
             let r = request (0x28 ∷ 0 ∷ 0 ∷ 0 ∷ 0 ∷ 16 ∷ 0 ∷ 0 ∷ 1 ∷ 0 ∷ 0 ∷ 0 ∷ []) [] (replicate 2048 x) in
-            kept .readable 256 disc₀ start₀ logTurns log-admissible (turn (after (j 5) r) logEnd) (turn-alike (after (j 5) r) logEnd) (lba 16) one-read
-            (log-recorded 16 (newer-places .4));
+            kept .readable c disc₀ start₀ logTurns log-admissible (turn (after (j 7) r) logEnd) (turn-alike (after (j 7) r) logEnd) (lba 16) one-read
+            (log-recorded 16 (m .newerPlaces .4));
         served =
             λ r q e.
-            let w = kept .lengths 256 disc₀ start₀ logTurns log-admissible (turn (after (j 5) r) logEnd) (turn-alike (after (j 5) r) logEnd) q e in
+            let w = kept .lengths c disc₀ start₀ logTurns log-admissible (turn (after (j 7) r) logEnd) (turn-alike (after (j 7) r) logEnd) q e in
             (λ z. no-size (subst OwnLength z w), λ z. no-state (subst OwnLength z w));
-        acceptedSectors = omega (arith, k .kept, k .within, k .recorded, k .zeroFilled, k .pending, c .0, c .1, c .2);
-        recordedSectors = omega (arith, k .recorded, c .0);
-        zeroSectors = k .zeroFilled ∙ c .1;
-        pendingSectors = k .pending ∙ c .2;
+        acceptedSectors = omega (arith, k .kept, k .within, k .recorded, k .zeroFilled, k .pending, n .0, n .1, n .2);
+        recordedSectors = omega (arith, k .recorded, n .0);
+        zeroSectors = k .zeroFilled ∙ n .1;
+        pendingSectors = k .pending ∙ n .2;
+        firstSectors = omega (arith, e .kept, e .within, e .recorded, e .zeroFilled, e .pending, o .0, o .1, o .2);
       }
 
 -- the same by requests
-module _ (back : ReadBack) (count : KeptAsListed) (history : RecordedByHistory) (f : Flash) (l : Log) (x : ℕ) (j : ℕ → Change) where
+module _ (c : ℕ) (m : Computed c) (back : ReadBack) (count : KeptAsListed) (history : RecordedByHistory) (f : Flash c) (l : Log) (x : ℕ) (j : ℕ → Change) where
   abbrev disc₁ : Drive
-  disc₁ = blankOver f
+  disc₁ = blankOver c f
 
-  abbrev start₁ : Start 256 disc₁
-  start₁ = flash-start f
+  abbrev start₁ : Start c disc₁
+  start₁ = flash-start c f (m .range)
 
   abbrev turns₁ : List Turn
   turns₁ = given (newer l x j) disc₁
@@ -605,79 +654,122 @@ module _ (back : ReadBack) (count : KeptAsListed) (history : RecordedByHistory) 
   abbrev write₁ : Given
   write₁ = after (j 2) (writing 5 13 (nextThirteen l))
 
-  brought₁ : sectorAt 7 (behindAll turns₁ disc₁ (after (j 5) (reading 0 x)) .reply) ≡ sectorAt 2 (nextThirteen l)
+  brought₁ : sectorAt 7 (behindAll turns₁ disc₁ (after (j 7) (reading 0 x)) .reply) ≡ sectorAt 2 (nextThirteen l)
   unfolding given final answers replies decode
   brought₁ =
       let ts = given front₁ disc₁ in
       let w = turn write₁ (final ts disc₁) in
-      let us = given (after (j 3) (reading 0 x) ∷ after (j 4) flushing ∷ []) (result w (final ts disc₁) .after) in
-      back .later 256 disc₁ start₁ ts w us admissible₁ (lba 5) 13 refl (newer-answer disc₁ start₁ l x j 2)
-      (turn (after (j 5) (reading 0 x)) end₁) (turn-alike (after (j 5) (reading 0 x)) end₁) (lba 0) 16 refl
-      (late-answers f 0 l x j (decided-late .0)) 2 7 (omega arith) (omega arith) refl
+      let us = given (later l x j) (result w (final ts disc₁) .after) in
+      back .later c disc₁ start₁ ts w us admissible₁ (lba 5) 13 refl (newer-answer c m disc₁ start₁ l x j 2)
+      (turn (after (j 7) (reading 0 x)) end₁) (turn-alike (after (j 7) (reading 0 x)) end₁) (lba 0) 16 refl
+      (late-answers c m f 0 l x j (m .lateAnswered .0)) 2 7 (omega arith) (omega arith) refl
 
-  none₁ : sectorAt 4 (behindAll turns₁ disc₁ (after (j 5) (reading 16 x)) .reply) ≡ zeros 2048
+  none₁ : sectorAt 4 (behindAll turns₁ disc₁ (after (j 7) (reading 16 x)) .reply) ≡ zeros 2048
   unfolding given final answers replies decode writes acceptedWrite writeOf broughtTo sole
   none₁ =
-      back .back 256 disc₁ start₁ turns₁ admissible₁ (turn (after (j 5) (reading 16 x)) end₁) (turn-alike (after (j 5) (reading 16 x)) end₁) (lba 16) 16 refl
-      (late-answers f 16 l x j (decided-late .1)) 4 (omega arith)
-      ∙ ap (λ (r : List Answer). sole (broughtTo 20 (bring (getD r 0 Accepted) (getD r 1 Accepted) (getD r 2 Accepted) (getD r 3 Accepted) (getD r 4 Accepted))))
-      (newer-answers disc₁ start₁ l x j)
+      back .back c disc₁ start₁ turns₁ admissible₁ (turn (after (j 7) (reading 16 x)) end₁) (turn-alike (after (j 7) (reading 16 x)) end₁) (lba 16) 16 refl
+      (late-answers c m f 16 l x j (m .lateAnswered .1)) 4 (omega arith)
+      ∙ ap (λ (r : List Answer). sole (broughtTo 20 (bring (getD r 0 Accepted) (getD r 1 Accepted) (getD r 2 Accepted) (getD r 3 Accepted) (getD r 4 Accepted) (getD r 5 Accepted) (getD r 6 Accepted))))
+      (newer-answers c m disc₁ start₁ l x j)
     where
-      bring : Answer → Answer → Answer → Answer → Answer → List Written
-      bring a b c d e =
-          acceptedWrite a (writing 0 5 (firstFive l)) ++ (acceptedWrite b (asking x) ++ (acceptedWrite c (writing 5 13 (nextThirteen l))
-          ++ (acceptedWrite d (reading 0 x) ++ (acceptedWrite e flushing ++ []))))
+      bring : Answer → Answer → Answer → Answer → Answer → Answer → Answer → List Written
+      bring a b o d e p q =
+          acceptedWrite a (writing 0 5 (firstFive l)) ++ (acceptedWrite b (asking x) ++ (acceptedWrite o (writing 5 13 (nextThirteen l))
+          ++ (acceptedWrite d (reading 0 x) ++ (acceptedWrite e flushing ++ (acceptedWrite p (reading 32 x)
+          ++ (acceptedWrite q (writing 32 3 (l .six)) ++ []))))))
 
-  last-disc : end₁ .disc ≡ discAfter newerShapes (blank 256)
-  last-disc = known-disc 256 disc₁ start₁ turns₁ admissible₁ newerShapes (newer-shapes disc₁ l x j)
+  last-disc : end₁ .disc ≡ listOf c newerShapes
+  last-disc = known-disc c disc₁ start₁ turns₁ admissible₁ newerShapes (newer-shapes disc₁ l x j)
 
-  early-disc : final (given (early l x j) disc₁) disc₁ .disc ≡ discAfter earlyShapes (blank 256)
-  early-disc = known-disc 256 disc₁ start₁ (given (early l x j) disc₁) (given-admissible (early l x j) disc₁) earlyShapes (early-shapes disc₁ l x j)
+  early-disc : final (given (early l x j) disc₁) disc₁ .disc ≡ listOf c earlyShapes
+  early-disc = known-disc c disc₁ start₁ (given (early l x j) disc₁) (given-admissible (early l x j) disc₁) earlyShapes (early-shapes disc₁ l x j)
 
-  listed₁ : ListedKeeps (writes turns₁ disc₁) (discAfter newerShapes (blank 256)) 1
+  listed₁ : ListedKeeps (writes turns₁ disc₁) (listOf c newerShapes) 1
   listed₁ =
-      subst (λ (d : Disc). ListedKeeps (writes turns₁ disc₁) d 1) last-disc (count .keeps 256 disc₁ start₁ turns₁ admissible₁ 1 (omega arith))
+      subst (λ (d : Disc). ListedKeeps (writes turns₁ disc₁) d 1) last-disc (count .keeps c disc₁ start₁ turns₁ admissible₁ 1 (omega arith))
 
-  requested : Requested l x (given (early l x j) disc₁) turns₁ disc₁ (j 5)
+  requested : Requested l x (given (early l x j) disc₁) turns₁ disc₁ (j 7)
   requested =
       let k = listed₁ in
-      let c = newer-figures in
+      let n = m .figures in
       record {
         brought = brought₁;
         none = none₁;
-        once = back .once 256 disc₁ start₁ turns₁ admissible₁ 7;
+        once = back .once c disc₁ start₁ turns₁ admissible₁ 7;
         listed =
             ap (λ (d : Disc). broughtInto (extentOf d 1) (writes turns₁ disc₁)) last-disc
-            ∙ omega (arith, k .kept, k .within, c .0, c .1, c .2);
-        counted = sym (count .accepted 256 disc₁ start₁ turns₁ admissible₁ 1 (omega arith));
+            ∙ omega (arith, k .kept, k .within, n .0, n .1, n .2);
+        counted = sym (count .accepted c disc₁ start₁ turns₁ admissible₁ 1 (omega arith));
         held =
-            sym (history .pending 256 disc₁ start₁ (given (early l x j) disc₁) (given-admissible (early l x j) disc₁))
-            ∙ (ap (λ (d : Disc). d .pending) early-disc ∙ pending-figures .0);
+            sym (history .pending c disc₁ start₁ (given (early l x j) disc₁) (given-admissible (early l x j) disc₁))
+            ∙ (ap (λ (d : Disc). d .pending) early-disc ∙ m .held .0);
         flushed =
-            sym (history .recorded 256 disc₁ start₁ turns₁ admissible₁ 16)
-            ∙ (ap (λ (d : Disc). readable d (lba 16)) last-disc ∙ tail-readable (discAfter newerShapes (blank 256)) 2 14 16 newer-list (omega arith));
+            sym (history .recorded c disc₁ start₁ turns₁ admissible₁ 16)
+            ∙ (ap (λ (d : Disc). readable d (lba 16)) last-disc ∙ tail-readable (listOf c newerShapes) c 2 14 16 (m .newerList) (omega arith));
         behind =
-            sym (history .recorded 256 disc₁ start₁ turns₁ admissible₁ 32)
-            ∙ (ap (λ (d : Disc). readable d (lba 32)) last-disc ∙ pending-figures .2);
-        settled =
-            sym (history .pending 256 disc₁ start₁ turns₁ admissible₁) ∙ (ap (λ (d : Disc). d .pending) last-disc ∙ pending-figures .1);
-        outside = history .stale 256 disc₁ start₁ turns₁ admissible₁;
-        covered = history .admissible 256 disc₁ start₁;
-        apart = history .apart 256 disc₁ start₁ turns₁ admissible₁;
-        alike = history .alike 256 disc₁ start₁ turns₁ admissible₁;
+            sym (history .recorded c disc₁ start₁ turns₁ admissible₁ 32)
+            ∙ (ap (λ (d : Disc). readable d (lba 32)) last-disc ∙ m .behind);
+        late =
+            sym (history .pending c disc₁ start₁ turns₁ admissible₁) ∙ (ap (λ (d : Disc). d .pending) last-disc ∙ m .held .1);
+        outside = history .stale c disc₁ start₁ turns₁ admissible₁;
+        covered = history .admissible c disc₁ start₁;
+        apart = history .apart c disc₁ start₁ turns₁ admissible₁;
+        alike = history .alike c disc₁ start₁ turns₁ admissible₁;
       }
 
+-- the first WRITE of any disc, in any parts
+module _
+    (demand : Demand3) (c : ℕ) (s e : Drive) (start : Start c s) (other : Start c e) (g : Given) (n : ℕ) (w : WriteOf (g .request) (lba 0) n)
+    (fit : n ≤ 16 * c) (ks : List ℕ) (several : 2 ≤ length ks) (sum : total ks ≡ n) (named : nameable ks ≡ true) (hs : List Given)
+    (asked : map (λ (h : Given). h .request) hs ≡ partsOf 0 ks (g .request .payload))
+  where
+    taken : result (turn g s) s .answer ≡ Accepted
+    taken =
+        let a = turn-alike g s in
+        let found-start : Start c (found (turn g s) s) =
+        record {
+          range = start .range;
+          disc = start .disc;
+          medium = sym (a .mediumLength) ∙ start .medium;
+          pending = sym (a .pendingLength) ∙ start .pending;
+        } in
+        wide .accepted c (found (turn g s) s) found-start (g .request) n w fit
+
+    in-parts : (x : Drive) → CutOf (g .request) (requests (given hs x))
+    in-parts x =
+        subst (λ (qs : List Request). CutOf (g .request) qs) (sym (given-requests hs x ∙ asked))
+        (parts-cut (g .request) (lba 0) n ks w several sum named (omega (arith, fit, range-most c (start .range))))
+
+    abbrev cut-again : Again s (turn g s ∷ []) (given hs e)
+    cut-again = cut s (turn g s) [] (given hs e) [] (given hs e) taken (in-parts e) (ends _) (sym (append-nil (given hs e)))
+
+    first-write : FirstWrite g hs s e
+    unfolding final given Agreeing Admissible
+    first-write =
+        let r = demand .again c s e start other (turn g s ∷ []) (given hs e) (given-admissible (g ∷ []) s) (given-admissible hs e) cut-again in
+        record {
+          here = demand .whole c s start [] tt (turn g s) (given hs s) (turn-alike g s) (given-admissible hs s) (in-parts s) .0 taken;
+          there = r .0 .0;
+          blocks = r .0 .1;
+          disc = sym (r .1 .disc);
+        }
+
 -- all of them
-pub drawn : Demand3 → KeptAccount → ReadBack → KeptAsListed → RecordedByHistory → Cases
-drawn demand kept back count history =
+drawn : (c : ℕ) → Computed c → Demand3 → KeptAccount → ReadBack → KeptAsListed → RecordedByHistory → CasesOn c
+drawn c m demand kept back count history =
     record {
-      controllers = two-controllers demand;
-      exactly = byte-for-byte demand;
-      stays = block-stays demand;
-      fitting = fits demand;
-      reader = reads kept;
-      requested = requested back count history;
+      controllers = two-controllers c m demand;
+      exactly = byte-for-byte c m demand;
+      stays = block-stays c m demand;
+      fitting = fits c m demand;
+      reader = reads c m kept;
+      requested = requested c m back count history;
     }
 
 pub cases : Cases
-cases = drawn demand-3 kept-account read-back kept-as-listed recorded-by-history
+cases =
+    record {
+      smallest = drawn 256 (computed .0) demand-3 kept-account read-back kept-as-listed recorded-by-history;
+      largest = drawn 143444 (computed .1) demand-3 kept-account read-back kept-as-listed recorded-by-history;
+      everywhere = first-write demand-3;
+    }

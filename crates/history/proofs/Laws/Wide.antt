@@ -142,6 +142,13 @@ cut-of q a n ks is c =
           (subst (λ (k : ℕ). a .0 + k ≤ 0x100000000) (sym (c .whole)) (c .near)));
     }
 
+pub parts-cut :
+    (q : Request) (a : Lba) (n : ℕ) (ks : List ℕ) → WriteOf q a n → 2 ≤ length ks → total ks ≡ n → nameable ks ≡ true → a .0 + n ≤ 0x100000000
+    → CutOf q (partsOf (a .0) ks (q .payload))
+parts-cut q a n ks w several whole named near =
+    cut-of q a n ks (w .command)
+    (record { cdb = w .cdb; payload = w .payload; several = several; whole = whole; named = named; near = near })
+
 abbrev Recut : Request → List Request → Type 0
 Recut q qs = (qs ≡ q ∷ []) ⊎ (CutOf q qs)
 

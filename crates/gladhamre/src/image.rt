@@ -1,4 +1,4 @@
-// The state image: a disc state as 391 words of 32 bits.
+// The state image: a disc state as words of 32 bits.
 use disc::Disc;
 use fragments::Block;
 use fragments::Fragment;
@@ -8,7 +8,7 @@ ghost use mathlib.Core.Path.{_≡_};
 ghost use mathlib.Core.Bool.{true};
 ghost use Prim.Native.Nat.{_+_};
 ghost use lib.ListN.{length, drop};
-ghost use Rattle.gladhamre.specs.Image.{kindOf, kindWord, flagWord, recordOf, recordWords, recordFits, listOf, listWords, listFits, headFits, headWords, decode, encode, isState, StateWords};
+ghost use Rattle.gladhamre.specs.Image.{imageLength, kindOf, kindWord, flagWord, recordOf, recordWords, recordFits, listOf, listWords, listFits, headFits, headWords, decode, encode, isState, StateWords};
 ghost use Rattle.fragments.specs.List.{limit};
 ghost use Rattle.drive.specs.Bytes.{splice};
 
@@ -87,7 +87,7 @@ fn record_fits(words: &[u32]) -> bool
 
 // Whether the words after the head are records'.
 fn list_fits(words: &[u32]) -> bool
-    requires { ⌜ length (now words) ≡ 391 ⌝ }
+    requires { ⌜ length (now words) ≡ imageLength ⌝ }
     ensures { λ r. ⌜ r ≡ listFits limit (drop 7 (now (words .entry))) ⌝ }
 {
     let mut fits = true;
@@ -103,7 +103,7 @@ fn list_fits(words: &[u32]) -> bool
 
 // Whether the head has a flag and bytes where it must.
 fn head_fits(words: &[u32]) -> bool
-    requires { ⌜ length (now words) ≡ 391 ⌝ }
+    requires { ⌜ length (now words) ≡ imageLength ⌝ }
     ensures { λ r. ⌜ r ≡ headFits (now (words .entry)) ⌝ }
 {
     (words[1] < 2)
@@ -126,7 +126,7 @@ pub(crate) fn is_state(words: &[u32]) -> bool
 
 // The records.
 fn read_list(words: &[u32]) -> [Fragment; Disc::LIMIT]
-    requires { ⌜ (length (now words) ≡ 391) × (listFits limit (drop 7 (now words)) ≡ true) ⌝ }
+    requires { ⌜ (length (now words) ≡ imageLength) × (listFits limit (drop 7 (now words)) ≡ true) ⌝ }
     ensures { λ r. ⌜ r ≡ listOf limit (drop 7 (now (words .entry))) ⌝ }
 {
     let unused = Fragment {
@@ -186,7 +186,7 @@ fn write_head(words: &mut [u32], disc: Disc)
 
 // The records, after the head.
 fn write_list(words: &mut [u32], disc: Disc)
-    requires { ⌜ length (now words) ≡ 391 ⌝ }
+    requires { ⌜ length (now words) ≡ imageLength ⌝ }
     ensures { λ _. ⌜ now (words .exit) ≡ splice (now (words .entry)) 7 (listWords (disc .fragments)) ⌝ }
 {
     let mut i = 0;
@@ -201,7 +201,7 @@ fn write_list(words: &mut [u32], disc: Disc)
 
 // A state as its image.
 pub(crate) fn write(words: &mut [u32], disc: Disc)
-    requires { ⌜ length (now words) ≡ 391 ⌝ }
+    requires { ⌜ length (now words) ≡ imageLength ⌝ }
     ensures { λ _. ⌜ now (words .exit) ≡ encode disc ⌝ }
 {
     write_head(&mut words[0..HEAD], disc);

@@ -11,25 +11,25 @@ use Rattle.disc.specs.Blank.{inRange, Blanked}
 use Rattle.fragments.proofs.Laws.Bool.{by-cases}
 use Rattle.drive.specs.Step.{drive, Request, Answered}
 use Rattle.gladhamre.specs.Types.{Blank, Response, LinkRefusal, CommandBlockLength, MediumSize, UnsoundState, Link}
-use Rattle.gladhamre.specs.Image.{encode, decode, isState}
+use Rattle.gladhamre.specs.Image.{imageLength, encode, decode, isState}
 use Rattle.gladhamre.specs.Face.{Lent, lentFits, isLink, refusedFace, steppedFace, face, Faced, blankState, blankNumber, BlankFaced}
 
 -- making a blank disc
 module _ (c : ℕ) (w : List ℕ) (b : Blank) (n : ℕ) (made : Blanked c b) (told : n ≡ number (b .answer)) where
-  pub blank-whole : (state : List ℕ) → length w ≡ 391 → state ≡ encode (b .disc) → BlankFaced c w n state
+  pub blank-whole : (state : List ℕ) → length w ≡ imageLength → state ≡ encode (b .disc) → BlankFaced c w n state
   unfolding blankNumber blankState
   blank-whole state h e =
-      let t = eq-eqb (length w) 391 h in
+      let t = eq-eqb (length w) imageLength h in
       record {
         numbered = rw t (told ∙ made .numbered);
         writtenState = rw t (e ∙ ap (λ x. encode (x .disc)) (made .result));
       }
 
-  module _ (h : length w ≡ 391 → ⊥) where
+  module _ (h : length w ≡ imageLength → ⊥) where
     pub blank-bad : (n ≡ 0 → ⊥) → BlankFaced c w n w
     unfolding blankNumber blankState
     blank-bad z =
-        let t = ne-eqb (length w) 391 h in
+        let t = ne-eqb (length w) imageLength h in
         by-cases (inRange c)
         (λ r. absurd (z (told ∙ (made .numbered ∙ rw r))))
         (λ r. record { numbered = rw (t, r) (told ∙ (made .numbered ∙ rw r)); writtenState = rw t })
@@ -37,7 +37,7 @@ module _ (c : ℕ) (w : List ℕ) (b : Blank) (n : ℕ) (made : Blanked c b) (to
     pub blank-short : (m : ℕ) → n ≡ 0 → m ≡ number (Link UnsoundState) → BlankFaced c w m w
     unfolding blankNumber blankState
     blank-short m z e =
-        let t = ne-eqb (length w) 391 h in
+        let t = ne-eqb (length w) imageLength h in
         by-cases (inRange c)
         (λ r. record { numbered = rw (t, r) e; writtenState = rw t })
         (λ r. let k : n ≡ 2 = told ∙ (made .numbered ∙ rw r) in absurd (omega arith))

@@ -16,7 +16,7 @@ use Rattle.fragments.proofs.Laws.Bool.{and-left, and-right, and-both}
 use Rattle.drive.specs.Bytes.{splice}
 use Rattle.drive.proofs.Laws.Bytes.{splice-splice, splice-end}
 use Rattle.gladhamre.specs.Types.{Kind, Reserved, Appended, Fragment, Disc}
-use Rattle.gladhamre.specs.Image.{flagWord, kindWord, kindOf, decode, word, recordOf, recordFits, recordWords, listOf, listFits, listWords, headWords, headFits, encode, isState, StateWords}
+use Rattle.gladhamre.specs.Image.{imageLength, flagWord, kindWord, kindOf, decode, word, recordOf, recordFits, recordWords, listOf, listFits, listWords, headWords, headFits, encode, isState, StateWords}
 
 -- as many words stored as there are: only they are left
 pub fill-all : (xs w : List ℕ) → length w ≡ length xs → sets w 0 xs ≡ xs
@@ -105,24 +105,24 @@ pub lent-record : (w : List ℕ) (i : ℕ) → recordOf (take (7 + 6 * i + 6 - (
 lent-record w i = ap recordOf (lent-part w i) ∙ part-record (drop (6 * i) (drop 7 w))
 
 -- the walk that tests the records: a says whether the first i of them fit
-pub fits-none : (v : List ℕ) → listFits 64 v ≡ (true && listFits (64 - 0) (drop (6 * 0) v))
+pub fits-none : (v : List ℕ) → listFits limit v ≡ (true && listFits (limit - 0) (drop (6 * 0) v))
 fits-none v = refl
 
 pub fits-more :
-    (v : List ℕ) (i : ℕ) (a b : Bool) → i < 64 → listFits 64 v ≡ (a && listFits (64 - i) (drop (6 * i) v))
-    → b ≡ recordFits (drop (6 * i) v) → listFits 64 v ≡ ((a && b) && listFits (64 - (i + 1)) (drop (6 * (i + 1)) v))
+    (v : List ℕ) (i : ℕ) (a b : Bool) → i < limit → listFits limit v ≡ (a && listFits (limit - i) (drop (6 * i) v))
+    → b ≡ recordFits (drop (6 * i) v) → listFits limit v ≡ ((a && b) && listFits (limit - (i + 1)) (drop (6 * (i + 1)) v))
 fits-more v i true b h so e =
-    so ∙ (fits-step 64 i v h ∙ ap (λ (t : Bool). t && listFits (64 - (i + 1)) (drop (6 * (i + 1)) v)) (sym e))
+    so ∙ (fits-step limit i v h ∙ ap (λ (t : Bool). t && listFits (limit - (i + 1)) (drop (6 * (i + 1)) v)) (sym e))
 fits-more v i false b h so e = so
 
-pub fits-all : (v : List ℕ) (i : ℕ) (a : Bool) → 64 ≤ i → listFits 64 v ≡ (a && listFits (64 - i) (drop (6 * i) v)) → a ≡ listFits 64 v
+pub fits-all : (v : List ℕ) (i : ℕ) (a : Bool) → limit ≤ i → listFits limit v ≡ (a && listFits (limit - i) (drop (6 * i) v)) → a ≡ listFits limit v
 unfolding listFits
-fits-all v i true h so = let k : 64 - i ≡ 0 = omega arith in sym (so ∙ rw k)
+fits-all v i true h so = let k : limit - i ≡ 0 = omega arith in sym (so ∙ rw k)
 fits-all v i false h so = sym so
 
 -- one turn of the writing
 pub write-more :
-    (w words words₁ : List ℕ) (fs : List Fragment) (i : ℕ) (d : Fragment) → length w ≡ 391 → i < length fs
+    (w words words₁ : List ℕ) (fs : List Fragment) (i : ℕ) (d : Fragment) → length w ≡ imageLength → i < length fs
     → words ≡ splice w 7 (listWords (take i fs)) → words₁ ≡ splice words (7 + 6 * i) (recordWords (getD fs i d))
     → words₁ ≡ splice w 7 (listWords (take (i + 1) fs))
 write-more w words words₁ fs i d hw h e f =
@@ -133,21 +133,21 @@ write-more w words words₁ fs i d hw h e f =
     ∙ ap (splice w 7) (words-more i fs d h)))
 
 -- all are read
-pub read-all : (v : List ℕ) (fs z : List Fragment) (i : ℕ) → length z ≡ 64 → i ≤ 64 → 64 ≤ i → fs ≡ listOf i v ++ drop i z → fs ≡ listOf 64 v
+pub read-all : (v : List ℕ) (fs z : List Fragment) (i : ℕ) → length z ≡ limit → i ≤ limit → limit ≤ i → fs ≡ listOf i v ++ drop i z → fs ≡ listOf limit v
 read-all v fs z i h l m e =
-    let k : i ≡ 64 = omega arith in
-    let s : fs ≡ listOf 64 v ++ drop 64 z = rw k at e in
-    s ∙ rw (drop-of-length-le z {i = 64} (omega arith), append-nil)
+    let k : i ≡ limit = omega arith in
+    let s : fs ≡ listOf limit v ++ drop limit z = rw k at e in
+    s ∙ rw (drop-of-length-le z {i = limit} (omega arith), append-nil)
 
 -- all are written
 pub write-all :
-    (w words : List ℕ) (fs : List Fragment) (i : ℕ) → length fs ≡ 64 → i ≤ 64 → 64 ≤ i → words ≡ splice w 7 (listWords (take i fs))
+    (w words : List ℕ) (fs : List Fragment) (i : ℕ) → length fs ≡ limit → i ≤ limit → limit ≤ i → words ≡ splice w 7 (listWords (take i fs))
     → words ≡ splice w 7 (listWords fs)
 write-all w words fs i h l m e = e ∙ ap (λ (x : List Fragment). splice w 7 (listWords x)) (take-all i fs (omega arith))
 
 -- head and records are the image
 pub write-both :
-    (w : List ℕ) (d : Disc) (words words₁ : List ℕ) → length w ≡ 391 → length (d .fragments) ≡ 64 → words ≡ splice w 0 (headWords d)
+    (w : List ℕ) (d : Disc) (words words₁ : List ℕ) → length w ≡ imageLength → length (d .fragments) ≡ limit → words ≡ splice w 0 (headWords d)
     → words₁ ≡ splice words 7 (listWords (d .fragments)) → words₁ ≡ encode d
 unfolding encode
 write-both w d words words₁ hw hf e f =
@@ -158,19 +158,19 @@ write-both w d words words₁ hw hf e f =
     ∙ splice-end w 0 (headWords d ++ listWords (d .fragments)) (omega (arith, l, length-append (headWords d) (listWords (d .fragments))))))
 
 -- the test of an image, and what it gives
-pub not-state : (w : List ℕ) → (length w ≡ 391 → ⊥) → false ≡ isState w
+pub not-state : (w : List ℕ) → (length w ≡ imageLength → ⊥) → false ≡ isState w
 unfolding isState
-not-state w h = rw (ne-eqb (length w) 391 h)
+not-state w h = rw (ne-eqb (length w) imageLength h)
 
-pub is-state : (w : List ℕ) (a b : Bool) → length w ≡ 391 → a ≡ headFits w → b ≡ listFits limit (drop 7 w) → (a && b) ≡ isState w
+pub is-state : (w : List ℕ) (a b : Bool) → length w ≡ imageLength → a ≡ headFits w → b ≡ listFits limit (drop 7 w) → (a && b) ≡ isState w
 unfolding isState
-is-state w a b h e f = rw (eq-eqb (length w) 391 h, e, f)
+is-state w a b h e f = rw (eq-eqb (length w) imageLength h, e, f)
 
 pub state-words : (w : List ℕ) → isState w ≡ true → StateWords w
 unfolding isState
 state-words w t =
-    let l : eqb (length w) 391 ≡ true = and-left _ (headFits w) (and-left _ (listFits limit (drop 7 w)) t) in
-    let h : headFits w ≡ true = and-right (eqb (length w) 391) _ (and-left _ (listFits limit (drop 7 w)) t) in
+    let l : eqb (length w) imageLength ≡ true = and-left _ (headFits w) (and-left _ (listFits limit (drop 7 w)) t) in
+    let h : headFits w ≡ true = and-right (eqb (length w) imageLength) _ (and-left _ (listFits limit (drop 7 w)) t) in
     let t₁ = ltb (word w 1) 2 in
     let t₂ = t₁ && ltb (word w 2) 256 in
     let t₃ = t₂ && ltb (word w 3) 256 in
@@ -187,7 +187,7 @@ state-words w t =
       ltb-true _ _ (and-right t₃ (ltb (word w 4) 256) h₄),
       ltb-true _ _ (and-right t₄ (ltb (word w 5) 256) h₅),
       ltb-true _ _ (and-right t₅ (ltb (word w 6) 256) h),
-      and-right (eqb (length w) 391 && headFits w) _ t,
+      and-right (eqb (length w) imageLength && headFits w) _ t,
     )
 
 -- an encoded state is read back
@@ -243,7 +243,7 @@ list-fits (suc n) (f ∷ fs) h s =
 pub encode-state : (d : Disc) → length (d .fragments) ≡ limit → Bytes d → isState (encode d) ≡ true
 unfolding isState encode
 encode-state d h b =
-    let l : length (headWords d ++ listWords (d .fragments)) ≡ 391 = omega (arith, length-list (d .fragments), length-append (headWords d) (listWords (d .fragments))) in
+    let l : length (headWords d ++ listWords (d .fragments)) ≡ imageLength = omega (arith, length-list (d .fragments), length-append (headWords d) (listWords (d .fragments))) in
     and-both
     (and-both (eq-eqb _ _ l)
     (and-both

@@ -1,3 +1,4 @@
+use Rattle.fragments.specs.List.{limit}
 use borrow.Author.Needs.{needs}
 use Rattle.gladhamre.specs.Image.{listFits}
 use Rattle.gladhamre.proofs.Laws.Image.{lent-fits, fits-none, fits-more, fits-all}
@@ -13,10 +14,10 @@ use Rattle.gladhamre.proofs.image.list_fits.Lts as lts
 use Rattle.gladhamre.proofs.image.record_fits.Reads as record-fits-reads
 
 abbrev Inv-loop : tie.InvT-loop
-Inv-loop words fits₀ i₀ fits i = (i ≤ 64) × (listFits 64 (drop 7 words) ≡ (fits && listFits (64 - i) (drop (6 * i) (drop 7 words))))
+Inv-loop words fits₀ i₀ fits i = (i ≤ limit) × (listFits limit (drop 7 words) ≡ (fits && listFits (limit - i) (drop (6 * i) (drop 7 words))))
 
 abbrev μ-loop : tie.MeasureT-loop
-μ-loop words fits₀ i₀ fits i = 64 - i
+μ-loop words fits₀ i₀ fits i = limit - i
 
 -- src/image.rt:95:5
 loop-holds : tie.Need-loop-holds Inv-loop μ-loop

@@ -2,6 +2,7 @@ use Rattle.gladhamre.proofs.Laws.Image.{read-all, lent-fits, fits-at, l
 use mathlib.Core.List.{_++_}
 use lib.ListN.{drop, length-take, length-drop, length-set, length}
 use Rattle.gladhamre.specs.Image.{listOf}
+use Rattle.fragments.specs.List.{limit}
 use borrow.Author.Needs.{needs}
 use mathlib.Core.Path.{_≡_, refl, _∙_}
 use native.Mathlib.Omega.{arith}
@@ -14,10 +15,10 @@ use Rattle.gladhamre.proofs.image.read_record.Reads as read-record-read
 
 abbrev Inv-loop : tie.InvT-loop
 Inv-loop words fragments₀ i₀ fragments i =
-    (i ≤ 64) × (length fragments₀ ≡ 64) × (length fragments ≡ 64) × (fragments ≡ listOf i (drop 7 words) ++ drop i fragments₀)
+    (i ≤ limit) × (length fragments₀ ≡ limit) × (length fragments ≡ limit) × (fragments ≡ listOf i (drop 7 words) ++ drop i fragments₀)
 
 abbrev μ-loop : tie.MeasureT-loop
-μ-loop words fragments₀ i₀ fragments i = 64 - i
+μ-loop words fragments₀ i₀ fragments i = limit - i
 
 -- src/image.rt:143:5
 loop-holds : tie.Need-loop-holds Inv-loop μ-loop
@@ -56,7 +57,7 @@ part-read-record-end c = search needs
 read-record-requires : tie.Need-read-record-requires Inv-loop μ-loop
 read-record-requires c κs =
     let start = c .before .before .before .before in
-    (simp (length-take, length-drop) (omega arith), lent-fits (start .args .words .now) (c .before .before .loop .i) ∙ fits-at 64 (c .before .before .loop .i) (drop 7 (start .args .words .now)) (omega arith) (start .pre .1))
+    (simp (length-take, length-drop) (omega arith), lent-fits (start .args .words .now) (c .before .before .loop .i) ∙ fits-at limit (c .before .before .loop .i) (drop 7 (start .args .words .now)) (omega arith) (start .pre .1))
 
 -- src/image.rt:146:9
 mul-fragments : tie.Need-mul-fragments Inv-loop μ-loop

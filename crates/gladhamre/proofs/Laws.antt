@@ -1,3 +1,4 @@
 -- One file a topic, named as in specs/.
 pub mod Image
+pub mod Used
 pub mod Face

@@ -8,7 +8,8 @@ ghost use mathlib.Core.Path.{_≡_};
 ghost use mathlib.Core.Bool.{true};
 ghost use Prim.Native.Nat.{_+_};
 ghost use lib.ListN.{length, drop};
-ghost use Rattle.gladhamre.specs.Image.{imageLength, kindOf, kindWord, flagWord, recordOf, recordWords, recordFits, listOf, listWords, listFits, headFits, headWords, decode, encode, isState, StateWords};
+ghost use Rattle.gladhamre.specs.Image.{imageLength, kindOf, kindWord, flagWord, recordOf, recordWords, recordFits, listOf, listWords, headFits, headWords, decode, encode};
+ghost use Rattle.gladhamre.specs.Used.{recordUsed, usedIn, allZero, wordsOf, Taken};
 ghost use Rattle.fragments.specs.List.{limit};
 ghost use Rattle.drive.specs.Bytes.{splice};
 
@@ -19,6 +20,14 @@ const RECORD: usize = 6;
 
 // Words of an image.
 pub(crate) const LENGTH: usize = HEAD + RECORD * Disc::LIMIT;
+
+// What the words of an image are.
+pub(crate) enum Words {
+    // A state's, with so many records in use and zeros alone after them.
+    State(usize),
+    // No state's, or those of a state that is not sound.
+    Unsound,
+}
 
 // 0 for a reserved fragment, 1 for an appended one.
 fn kind_of(word: u32) -> Kind
@@ -77,28 +86,42 @@ fn write_record(words: &mut [u32], f: Fragment)
     words[5] = kind_word(kind);
 }
 
-// Whether six words are a record's.
-fn record_fits(words: &[u32]) -> bool
+// Whether six words are those of a record in use.
+fn is_used(words: &[u32]) -> bool
     requires { ⌜ length (now words) ≡ 6 ⌝ }
-    ensures { λ r. ⌜ r ≡ recordFits (now (words .entry)) ⌝ }
+    ensures { λ r. ⌜ r ≡ recordUsed (now (words .entry)) ⌝ }
 {
-    (words[0] < 256) & (words[5] < 2)
+    (words[0] < 256) & (words[5] < 2) & (words[2] != 0)
 }
 
-// Whether the words after the head are records'.
-fn list_fits(words: &[u32]) -> bool
+// How many records stand before the first one that is not in use, or whose words are no record's.
+fn used(words: &[u32]) -> usize
     requires { ⌜ length (now words) ≡ imageLength ⌝ }
-    ensures { λ r. ⌜ r ≡ listFits limit (drop 7 (now (words .entry))) ⌝ }
+    ensures { λ r. ⌜ r ≡ usedIn (now (words .entry)) ⌝ }
 {
-    let mut fits = true;
     let mut i = 0;
     while i < Disc::LIMIT {
         let from = HEAD + RECORD * i;
         let to = from + RECORD;
-        fits = fits & record_fits(&words[from..to]);
+        if !is_used(&words[from..to]) {
+            return i;
+        }
         i += 1;
     }
-    fits
+    i
+}
+
+// Whether every word is zero.
+fn is_zero(words: &[u32]) -> bool
+    ensures { λ r. ⌜ r ≡ allZero (now (words .entry)) ⌝ }
+{
+    let mut all = 0;
+    let mut i = 0;
+    while i < words.len() {
+        all = all | words[i];
+        i += 1;
+    }
+    all == 0
 }
 
 // Whether the head has a flag and bytes where it must.
@@ -114,19 +137,24 @@ fn head_fits(words: &[u32]) -> bool
         & (words[6] < 256)
 }
 
-// Whether the words are a state's.
-pub(crate) fn is_state(words: &[u32]) -> bool
-    ensures { λ r. ⌜ r ≡ isState (now (words .entry)) ⌝ }
+// What the words are. No record after those in use is decoded: its words are zeros, or the state is not sound.
+pub(crate) fn examine(words: &[u32]) -> Words
+    ensures { λ r. ⌜ r ≡ wordsOf (now (words .entry)) ⌝ }
 {
     if words.len() != LENGTH {
-        return false;
+        return Words::Unsound;
     }
-    head_fits(words) & list_fits(words)
+    let used = used(words);
+    let rest = HEAD + RECORD * used;
+    if head_fits(words) & is_zero(&words[rest..]) {
+        return Words::State(used);
+    }
+    Words::Unsound
 }
 
-// The records.
-fn read_list(words: &[u32]) -> [Fragment; Disc::LIMIT]
-    requires { ⌜ (length (now words) ≡ imageLength) × (listFits limit (drop 7 (now words)) ≡ true) ⌝ }
+// The records, of which so many are in use.
+fn read_list(words: &[u32], used: usize) -> [Fragment; Disc::LIMIT]
+    requires { ⌜ Taken (now words) used ⌝ }
     ensures { λ r. ⌜ r ≡ listOf limit (drop 7 (now (words .entry))) ⌝ }
 {
     let unused = Fragment {
@@ -139,7 +167,7 @@ fn read_list(words: &[u32]) -> [Fragment; Disc::LIMIT]
     };
     let mut fragments = [unused; Disc::LIMIT];
     let mut i = 0;
-    while i < Disc::LIMIT {
+    while i < used {
         let from = HEAD + RECORD * i;
         let to = from + RECORD;
         fragments[i] = read_record(&words[from..to]);
@@ -149,8 +177,8 @@ fn read_list(words: &[u32]) -> [Fragment; Disc::LIMIT]
 }
 
 // The state that an image stands for.
-pub(crate) fn read(words: &[u32]) -> Disc
-    requires { ⌜ StateWords (now words) ⌝ }
+pub(crate) fn read(words: &[u32], used: usize) -> Disc
+    requires { ⌜ Taken (now words) used ⌝ }
     ensures { λ r. ⌜ r ≡ decode (now (words .entry)) ⌝ }
 {
     let sense = Sense {
@@ -158,7 +186,7 @@ pub(crate) fn read(words: &[u32]) -> Disc
         asc: words[3] as u8,
         ascq: words[4] as u8,
     };
-    let fragments = read_list(words);
+    let fragments = read_list(words, used);
     Disc {
         capacity: words[0],
         finalized: words[1] == 1,

@@ -4,6 +4,7 @@
 mod image;
 
 use disc::Disc;
+use image::Words;
 use protocol::Answer;
 use protocol::BLOCK_LENGTH;
 use protocol::CDB_LENGTH;
@@ -87,10 +88,11 @@ pub extern "C" fn gladhamre_command(
     if !is_lent(state, medium.len(), pending.len()) {
         return refusal_number(LinkRefusal::MediumSize);
     }
-    if !image::is_state(state) {
+    let words = image::examine(state);
+    let Words::State(used) = words else {
         return refusal_number(LinkRefusal::UnsoundState);
-    }
-    let disc = image::read(state);
+    };
+    let disc = image::read(state, used);
     let response = drive::command(cdb, data, disc, medium, pending, reply);
     *count = response.length as u64;
     *recorded = response.recorded as u64;

@@ -8,7 +8,7 @@ use mathlib.Core.Bool.{Bool, true, false, _&&_}
 use mathlib.Core.List.{List, [], _∷_, _++_, append-nil}
 use lib.ListN.{length, getD, set, take, drop, length-append, drop-of-length-le}
 use lib.Seq.{drop-drop, getD-take, take-all, length-take-le, sets, sets-eq}
-use borrow.Author.Tests.{eq-eqb, ne-eqb, eqb-true, ltb-true, lt-ltb}
+use borrow.Author.Tests.{eq-eqb, eqb-true, ltb-true, lt-ltb}
 use lib.Dec.{eqb, ltb}
 use Rattle.fragments.specs.Fragment.{unusedRecord}
 use Rattle.fragments.specs.List.{limit}
@@ -16,7 +16,7 @@ use Rattle.fragments.proofs.Laws.Bool.{and-left, and-right, and-both}
 use Rattle.drive.specs.Bytes.{splice}
 use Rattle.drive.proofs.Laws.Bytes.{splice-splice, splice-end}
 use Rattle.gladhamre.specs.Types.{Kind, Reserved, Appended, Fragment, Disc}
-use Rattle.gladhamre.specs.Image.{imageLength, flagWord, kindWord, kindOf, decode, word, recordOf, recordFits, recordWords, listOf, listFits, listWords, headWords, headFits, encode, isState, StateWords}
+use Rattle.gladhamre.specs.Image.{imageLength, flagWord, kindWord, kindOf, decode, word, recordOf, recordWords, listOf, listFits, listWords, headWords, headFits, encode, isState, StateWords}
 
 -- as many words stored as there are: only they are left
 pub fill-all : (xs w : List ℕ) → length w ≡ length xs → sets w 0 xs ≡ xs
@@ -27,9 +27,6 @@ pub part-record : (v : List ℕ) → recordOf (take 6 v) ≡ recordOf v
 part-record v =
     rw (getD-take 6 v 0 0 (omega arith), getD-take 6 v 1 0 (omega arith), getD-take 6 v 2 0 (omega arith), getD-take 6 v 3 0 (omega arith), getD-take 6 v 4 0 (omega arith), getD-take 6 v 5 0 (omega arith))
 
-pub part-fits : (v : List ℕ) → recordFits (take 6 v) ≡ recordFits v
-part-fits v = rw (getD-take 6 v 0 0 (omega arith), getD-take 6 v 5 0 (omega arith))
-
 drop-sum : (v : List ℕ) (a b c : ℕ) → b + a ≡ c → drop a (drop b v) ≡ drop c v
 drop-sum v a b c h = drop-drop a b v ∙ ap (λ (n : ℕ). drop n v) h
 
@@ -37,28 +34,22 @@ drop-sum v a b c h = drop-drop a b v ∙ ap (λ (n : ℕ). drop n v) h
 pub record-at : (w : List ℕ) (i : ℕ) → drop (7 + 6 * i) w ≡ drop (6 * i) (drop 7 w)
 record-at w i = sym (drop-sum w (6 * i) 7 (7 + 6 * i) refl)
 
-next-record : (v : List ℕ) (i : ℕ) → drop 6 (drop (6 * i) v) ≡ drop (6 * (i + 1)) v
+pub next-record : (v : List ℕ) (i : ℕ) → drop 6 (drop (6 * i) v) ≡ drop (6 * (i + 1)) v
 next-record v i = drop-sum v 6 (6 * i) (6 * (i + 1)) (omega arith)
 
-record-after : (v : List ℕ) (i : ℕ) → drop (6 * suc i) v ≡ drop (6 * i) (drop 6 v)
+pub record-after : (v : List ℕ) (i : ℕ) → drop (6 * suc i) v ≡ drop (6 * i) (drop 6 v)
 record-after v i = sym (drop-sum v (6 * i) 6 (6 * suc i) (omega arith))
 
--- one turn of the test, from index i
-pub fits-step :
-    (n i : ℕ) (v : List ℕ) → i < n
-    → listFits (n - i) (drop (6 * i) v) ≡ (recordFits (drop (6 * i) v) && listFits (n - (i + 1)) (drop (6 * (i + 1)) v))
-unfolding listFits
-fits-step n i v h =
-    let k : n - i ≡ suc (n - (i + 1)) = omega arith in
-    rw (k, next-record v i)
-
--- records that all fit, at an index
-pub fits-at : (n i : ℕ) (v : List ℕ) → i < n → listFits n v ≡ true → recordFits (drop (6 * i) v) ≡ true
-unfolding listFits
-fits-at zero i v h t = absurd (not-suc-le-zero h)
-fits-at (suc n) zero v h t = and-left (recordFits v) (listFits n (drop 6 v)) t
-fits-at (suc n) (suc i) v h t =
-    rw (record-after v i) (fits-at n i (drop 6 v) (le-of-suc-le-suc h) (and-right (recordFits v) (listFits n (drop 6 v)) t))
+-- words one by one
+pub six-words :
+    (v : List ℕ) → 6 ≤ length v → v ≡ word v 0 ∷ word v 1 ∷ word v 2 ∷ word v 3 ∷ word v 4 ∷ word v 5 ∷ drop 6 v
+six-words [] h = absurd (omega arith)
+six-words (x₀ ∷ []) h = absurd (omega arith)
+six-words (x₀ ∷ x₁ ∷ []) h = absurd (omega arith)
+six-words (x₀ ∷ x₁ ∷ x₂ ∷ []) h = absurd (omega arith)
+six-words (x₀ ∷ x₁ ∷ x₂ ∷ x₃ ∷ []) h = absurd (omega arith)
+six-words (x₀ ∷ x₁ ∷ x₂ ∷ x₃ ∷ x₄ ∷ []) h = absurd (omega arith)
+six-words (x₀ ∷ x₁ ∷ x₂ ∷ x₃ ∷ x₄ ∷ x₅ ∷ v) h = refl
 
 -- one turn of the reading
 read-suc :
@@ -93,32 +84,13 @@ pub words-more :
 words-more i fs d h = rw add-one (words-suc i fs d h)
 
 -- the same for the part that is lent
-lent-part : (w : List ℕ) (i : ℕ) → take (7 + 6 * i + 6 - (7 + 6 * i)) (drop (7 + 6 * i) w) ≡ take 6 (drop (6 * i) (drop 7 w))
+pub lent-part : (w : List ℕ) (i : ℕ) → take (7 + 6 * i + 6 - (7 + 6 * i)) (drop (7 + 6 * i) w) ≡ take 6 (drop (6 * i) (drop 7 w))
 lent-part w i =
     let k : 7 + 6 * i + 6 - (7 + 6 * i) ≡ 6 = omega arith in
     rw (k, record-at w i)
 
-pub lent-fits : (w : List ℕ) (i : ℕ) → recordFits (take (7 + 6 * i + 6 - (7 + 6 * i)) (drop (7 + 6 * i) w)) ≡ recordFits (drop (6 * i) (drop 7 w))
-lent-fits w i = ap recordFits (lent-part w i) ∙ part-fits (drop (6 * i) (drop 7 w))
-
 pub lent-record : (w : List ℕ) (i : ℕ) → recordOf (take (7 + 6 * i + 6 - (7 + 6 * i)) (drop (7 + 6 * i) w)) ≡ recordOf (drop (6 * i) (drop 7 w))
 lent-record w i = ap recordOf (lent-part w i) ∙ part-record (drop (6 * i) (drop 7 w))
-
--- the walk that tests the records: a says whether the first i of them fit
-pub fits-none : (v : List ℕ) → listFits limit v ≡ (true && listFits (limit - 0) (drop (6 * 0) v))
-fits-none v = refl
-
-pub fits-more :
-    (v : List ℕ) (i : ℕ) (a b : Bool) → i < limit → listFits limit v ≡ (a && listFits (limit - i) (drop (6 * i) v))
-    → b ≡ recordFits (drop (6 * i) v) → listFits limit v ≡ ((a && b) && listFits (limit - (i + 1)) (drop (6 * (i + 1)) v))
-fits-more v i true b h so e =
-    so ∙ (fits-step limit i v h ∙ ap (λ (t : Bool). t && listFits (limit - (i + 1)) (drop (6 * (i + 1)) v)) (sym e))
-fits-more v i false b h so e = so
-
-pub fits-all : (v : List ℕ) (i : ℕ) (a : Bool) → limit ≤ i → listFits limit v ≡ (a && listFits (limit - i) (drop (6 * i) v)) → a ≡ listFits limit v
-unfolding listFits
-fits-all v i true h so = let k : limit - i ≡ 0 = omega arith in sym (so ∙ rw k)
-fits-all v i false h so = sym so
 
 -- one turn of the writing
 pub write-more :
@@ -131,13 +103,6 @@ write-more w words words₁ fs i d hw h e f =
     ∙ (ap (λ (m : List ℕ). splice m (7 + 6 * i) (recordWords (getD fs i d))) e
     ∙ (splice-splice w 7 (7 + 6 * i) (listWords (take i fs)) (recordWords (getD fs i d)) (omega arith) (omega (arith, l))
     ∙ ap (splice w 7) (words-more i fs d h)))
-
--- all are read
-pub read-all : (v : List ℕ) (fs z : List Fragment) (i : ℕ) → length z ≡ limit → i ≤ limit → limit ≤ i → fs ≡ listOf i v ++ drop i z → fs ≡ listOf limit v
-read-all v fs z i h l m e =
-    let k : i ≡ limit = omega arith in
-    let s : fs ≡ listOf limit v ++ drop limit z = rw k at e in
-    s ∙ rw (drop-of-length-le z {i = limit} (omega arith), append-nil)
 
 -- all are written
 pub write-all :
@@ -157,15 +122,7 @@ write-both w d words words₁ hw hf e f =
     ∙ (splice-splice w 0 7 (headWords d) (listWords (d .fragments)) (omega arith) refl
     ∙ splice-end w 0 (headWords d ++ listWords (d .fragments)) (omega (arith, l, length-append (headWords d) (listWords (d .fragments))))))
 
--- the test of an image, and what it gives
-pub not-state : (w : List ℕ) → (length w ≡ imageLength → ⊥) → false ≡ isState w
-unfolding isState
-not-state w h = rw (ne-eqb (length w) imageLength h)
-
-pub is-state : (w : List ℕ) (a b : Bool) → length w ≡ imageLength → a ≡ headFits w → b ≡ listFits limit (drop 7 w) → (a && b) ≡ isState w
-unfolding isState
-is-state w a b h e f = rw (eq-eqb (length w) imageLength h, e, f)
-
+-- what an image that is a state's gives
 pub state-words : (w : List ℕ) → isState w ≡ true → StateWords w
 unfolding isState
 state-words w t =

@@ -1,5 +1,8 @@
 // The state image: a disc state as words of 32 bits.
+use disc::Change;
 use disc::Disc;
+use disc::Effect;
+use disc::Entry;
 use fragments::Block;
 use fragments::Fragment;
 use fragments::Kind;
@@ -8,8 +11,10 @@ ghost use mathlib.Core.Path.{_≡_};
 ghost use mathlib.Core.Bool.{true};
 ghost use Prim.Native.Nat.{_+_};
 ghost use lib.ListN.{length, drop};
-ghost use Rattle.gladhamre.specs.Image.{imageLength, kindOf, kindWord, flagWord, recordOf, recordWords, recordFits, listOf, listWords, headFits, headWords, decode, encode};
+ghost use Rattle.gladhamre.specs.Image.{imageLength, kindOf, kindWord, flagWord, recordOf, recordWords, recordFits, listOf, listWords, headFits, headWords, decode, encode, StateWords};
 ghost use Rattle.gladhamre.specs.Used.{recordUsed, usedIn, allZero, wordsOf, Taken};
+ghost use Rattle.gladhamre.specs.Update.{Turned};
+ghost use Rattle.disc.specs.Decision.{withEntry, withPending, settled, affected, changed};
 ghost use Rattle.fragments.specs.List.{limit};
 ghost use Rattle.drive.specs.Bytes.{splice};
 
@@ -234,4 +239,93 @@ pub(crate) fn write(words: &mut [u32], disc: Disc)
 {
     write_head(&mut words[0..HEAD], disc);
     write_list(words, disc);
+}
+
+// A record put under its number; under 0, or a number past the list, none is put.
+fn put(words: &mut [u32], entry: Entry)
+    requires { ⌜ length (now words) ≡ imageLength ⌝ }
+    ensures { λ _. ⌜ Turned (now (words .entry)) (now (words .exit)) (λ d. withEntry d entry) ⌝ }
+{
+    let number = entry.number;
+    if number == 0 {
+        return;
+    }
+    if number > Disc::LIMIT {
+        return;
+    }
+    let from = HEAD + RECORD * (number - 1);
+    let to = from + RECORD;
+    let f = entry.fragment;
+    write_record(&mut words[from..to], f);
+}
+
+// How many sectors are pending, and in which fragment.
+fn put_pending(words: &mut [u32], pending: u8, owner: u8)
+    requires { ⌜ length (now words) ≡ imageLength ⌝ }
+    ensures { λ _. ⌜ Turned (now (words .entry)) (now (words .exit)) (λ d. withPending d pending owner) ⌝ }
+{
+    words[5] = pending as u32;
+    words[6] = owner as u32;
+}
+
+// The record that a flush leaves; nothing is pending then.
+fn settle(words: &mut [u32], flushed: Entry)
+    requires { ⌜ length (now words) ≡ imageLength ⌝ }
+    ensures { λ _. ⌜ Turned (now (words .entry)) (now (words .exit)) (λ d. settled d flushed) ⌝ }
+{
+    put(words, flushed);
+    put_pending(words, 0, 0);
+}
+
+// Two records, one after the other.
+fn put_both(words: &mut [u32], first: Entry, second: Entry)
+    requires { ⌜ length (now words) ≡ imageLength ⌝ }
+    ensures { λ _. ⌜ Turned (now (words .entry)) (now (words .exit)) (λ d. withEntry (withEntry d first) second) ⌝ }
+{
+    put(words, first);
+    put(words, second);
+}
+
+// What becomes of the list, of the pending sectors and of the flag.
+fn put_effect(words: &mut [u32], effect: Effect)
+    requires { ⌜ length (now words) ≡ imageLength ⌝ }
+    ensures { λ _. ⌜ Turned (now (words .entry)) (now (words .exit)) (λ d. affected d effect) ⌝ }
+{
+    match effect {
+        Effect::Keep => {}
+        Effect::Settle { flushed } => settle(words, flushed),
+        Effect::Reserve { reserved, tail } => put_both(words, reserved, tail),
+        Effect::Close {
+            flushed,
+            closed,
+            tail,
+            finalized,
+        } => {
+            settle(words, flushed);
+            put_both(words, closed, tail);
+            words[1] = flag_word(finalized);
+        }
+        Effect::Grow {
+            flushed,
+            grown,
+            pending,
+            owner,
+        } => {
+            put_both(words, flushed, grown);
+            put_pending(words, pending, owner);
+        }
+    }
+}
+
+// The image of the state before a command becomes that of the state after it: only what the change names is written.
+pub(crate) fn update(words: &mut [u32], change: Change)
+    requires { ⌜ StateWords (now words) ⌝ }
+    ensures { λ _. ⌜ now (words .exit) ≡ encode (changed (decode (now (words .entry))) change) ⌝ }
+{
+    let effect = change.effect;
+    put_effect(words, effect);
+    let sense = change.sense;
+    words[2] = sense.key as u32;
+    words[3] = sense.asc as u32;
+    words[4] = sense.ascq as u32;
 }

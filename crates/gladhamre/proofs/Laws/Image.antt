@@ -6,17 +6,17 @@ use native.Mathlib.Nat.{not-suc-le-zero, le-of-suc-le-suc}
 use native.Mathlib.Omega.{arith}
 use mathlib.Core.Bool.{Bool, true, false, _&&_}
 use mathlib.Core.List.{List, [], _∷_, _++_, append-nil}
-use lib.ListN.{length, getD, set, take, drop, length-append, drop-of-length-le}
-use lib.Seq.{drop-drop, getD-take, take-all, length-take-le, sets, sets-eq}
-use borrow.Author.Tests.{eq-eqb, eqb-true, ltb-true, lt-ltb}
+use lib.ListN.{length, getD, set, take, drop, length-append, length-drop, drop-of-length-le}
+use lib.Seq.{drop-cons, drop-drop, getD-take, take-all, length-take-le, sets, sets-eq}
+use borrow.Author.Tests.{eq-eqb, eqb-true, eqb-false, ltb-true, lt-ltb}
 use lib.Dec.{eqb, ltb}
 use Rattle.fragments.specs.Fragment.{unusedRecord}
 use Rattle.fragments.specs.List.{limit}
-use Rattle.fragments.proofs.Laws.Bool.{and-left, and-right, and-both}
+use Rattle.fragments.proofs.Laws.Bool.{and-left, and-right, and-both, by-cases}
 use Rattle.drive.specs.Bytes.{splice}
 use Rattle.drive.proofs.Laws.Bytes.{splice-splice, splice-end}
 use Rattle.gladhamre.specs.Types.{Kind, Reserved, Appended, Fragment, Disc}
-use Rattle.gladhamre.specs.Image.{imageLength, flagWord, kindWord, kindOf, decode, word, recordOf, recordWords, listOf, listFits, listWords, headWords, headFits, encode, isState, StateWords}
+use Rattle.gladhamre.specs.Image.{imageLength, flagWord, kindWord, kindOf, decode, word, recordOf, recordFits, recordWords, listOf, listFits, listWords, headWords, headFits, encode, isState, StateWords}
 
 -- as many words stored as there are: only they are left
 pub fill-all : (xs w : List ℕ) → length w ≡ length xs → sets w 0 xs ≡ xs
@@ -211,3 +211,37 @@ encode-state d h b =
     (lt-ltb _ _ (b .pending)))
     (lt-ltb _ _ (b .owner))))
     (list-fits limit (d .fragments) h (b .sessions))
+
+-- a state's words are the image of what they stand for
+flag-same : (n : ℕ) → n < 2 → flagWord (eqb n 1) ≡ n
+flag-same n h =
+    by-cases (eqb n 1)
+    (λ t. let e = eqb-true n 1 t in rw t (sym e))
+    (λ t. let e = eqb-false n 1 t in rw t (omega arith))
+
+kind-same : (n : ℕ) → n < 2 → kindWord (kindOf n) ≡ n
+kind-same n h =
+    by-cases (eqb n 1)
+    (λ t. let e = eqb-true n 1 t in rw t (sym e))
+    (λ t. let e = eqb-false n 1 t in rw t (omega arith))
+
+list-same : (n : ℕ) (v : List ℕ) → length v ≡ 6 * n → listFits n v ≡ true → listWords (listOf n v) ≡ v
+unfolding listFits listOf listWords
+list-same zero [] h t = refl
+list-same zero (x ∷ v) h t = absurd (omega arith)
+list-same (suc n) v h t =
+    let k = ltb-true (word v 5) 2 (and-right (ltb (word v 0) 256) _ (and-left (recordFits v) (listFits n (drop 6 v)) t)) in
+    let r = list-same n (drop 6 v) (simp length-drop (omega arith)) (and-right (recordFits v) (listFits n (drop 6 v)) t) in
+    rw (kind-same (word v 5) k, r) (sym (six-words v (omega arith)))
+
+pub length-list-of : (n : ℕ) (v : List ℕ) → length (listOf n v) ≡ n
+unfolding listOf
+length-list-of zero v = refl
+length-list-of (suc n) v = ap suc (length-list-of n (drop 6 v))
+
+pub encode-decode : (w : List ℕ) → StateWords w → encode (decode w) ≡ w
+unfolding encode decode
+encode-decode w s =
+    let r = list-same limit (drop 7 w) (simp length-drop (omega arith)) (s .7) in
+    let seven = six-words w (omega arith) ∙ ap (λ (l : List ℕ). word w 0 ∷ word w 1 ∷ word w 2 ∷ word w 3 ∷ word w 4 ∷ word w 5 ∷ l) (drop-cons w 6 0 (omega arith)) in
+    rw (flag-same (word w 1) (s .1), r) (sym seven)

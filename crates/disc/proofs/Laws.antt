@@ -15,6 +15,7 @@ pub mod Write
 pub mod Reserve
 pub mod Close
 pub mod Session
+pub mod Decision
 pub mod Keep
 pub mod Counts
 pub mod Pending

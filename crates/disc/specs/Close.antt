@@ -2,13 +2,14 @@
 use Prim.Native.Nat.{ℕ, _+_, _-_, _≤_, _<_}
 use mathlib.Core.Bool.{Bool, true, cond, not, _&&_, _||_}
 use lib.Dec.{eqb, ltb}
-use Rattle.disc.specs.Types.{Kind, Reserved, Appended, Fragment, Disc, Nothing, Fill, Verdict, InvalidFieldInCommand, IncompleteTrackInSession, EmptyTrack, NoMoreReservations, EndOfUserArea}
+use Rattle.disc.specs.Types.{Kind, Reserved, Appended, Fragment, Disc, Nothing, Fill, Last, Flushing, Entry, Close, Decision, Verdict, InvalidFieldInCommand, IncompleteTrackInSession, EmptyTrack, NoMoreReservations, EndOfUserArea}
 use Rattle.fragments.specs.Address.{sectorsIn}
-use Rattle.fragments.specs.Fragment.{unusedRecord, end, firstUnrecorded, complete, isIncompleteReserved, nextFragmentStart, nextSessionStart, tailFrom}
+use Rattle.fragments.specs.Fragment.{unusedRecord, end, firstUnrecorded, complete, isTail, isIncompleteReserved, nextFragmentStart, nextSessionStart, tailFrom}
 use Rattle.disc.specs.Records.{isBlank, records, used, isListed, numbered, lastRecord, withRecord, hasTail, hasBlankTail, blankTailOnly, isBlankDisc}
 use Rattle.fragments.specs.List.{limit, some}
 use Rattle.disc.specs.Verdict.{accept, refuse, noPlan, plan}
 use Rattle.protocol.specs.Reply.{noReply}
+use Rattle.disc.specs.Decision.{entry, noEntry, accepting}
 use Rattle.disc.specs.Flush.{flush, flushPlan}
 
 -- every block not yet recorded is recorded as zeros
@@ -42,6 +43,11 @@ appendTail d n =
     cond (ltb (nextFragmentStart (end f) .0) (d .capacity) && ltb n limit)
     (withRecord d (n + 1) (tailFrom (d .capacity) (f .session) (nextFragmentStart (end f)))) d
 
+-- the same as a record of its own: the tail after the record f under the number n
+unfoldable pub tailAfter : ℕ → ℕ → Fragment → Entry
+tailAfter capacity n f =
+    cond (ltb (nextFragmentStart (end f) .0) capacity && ltb n limit) (entry (n + 1) (tailFrom capacity (f .session) (nextFragmentStart (end f)))) noEntry
+
 -- 001 on an incomplete fragment of a flushed disc, by its kind; `before` is the disc before the flush
 unfoldable pub closeIncomplete : Disc → Disc → ℕ → Kind → Verdict
 closeIncomplete before d n Reserved =
@@ -69,16 +75,21 @@ closeTail d =
     cond (hasBlankTail d) (withRecord d (used d) unusedRecord)
     (cond (hasTail d) (withRecord d (used d) (shortenedRecord (lastRecord d))) d)
 
+-- what that makes of the last record, with nothing pending
+unfoldable pub tailClosed : Last → Entry
+tailClosed l =
+    cond (isTail (l .fragment))
+    (cond (eqb (l .fragment .recorded) 0) (entry (l .number) unusedRecord) (entry (l .number) (shortenedRecord (l .fragment)))) noEntry
+
 -- a tail of the next session after the last record
 unfoldable pub openSession : Disc → Disc
 openSession d =
     withRecord d (used d + 1) (tailFrom (d .capacity) (lastRecord d .session + 1) (nextSessionStart (end (lastRecord d))))
 
--- what the code that opens asks: a record is free, and the new tail starts within the capacity
-pub record Opening (d : Disc) : Type 0 where
-  pub free : used d < limit
-  pub start : nextSessionStart (end (lastRecord d)) .0 ≤ d .capacity
-  pub session : lastRecord d .session < 255
+-- what 010 and 110 are decided to where they are not refused: a flush, the last record closed, a tail after it
+unfoldable pub closingLast : Flushing → Last → Entry → Bool → Decision
+closingLast flush last tail finalized =
+    accepting (Close (flush .entry) (tailClosed last) tail finalized) (flush .recorded) noReply (plan (flush .plan) Nothing)
 
 -- 010: nothing is done on a finalized disc or where the last session is only a blank tail. Else no reserved fragment may be
 -- incomplete, a record must be free and a block must be left for the new tail, all judged on the flushed list

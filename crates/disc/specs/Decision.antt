@@ -2,7 +2,7 @@
 use Prim.Native.Nat.{ℕ}
 use mathlib.Core.Bool.{Bool, cond}
 use lib.Dec.{eqb}
-use Rattle.disc.specs.Types.{Fragment, Disc, Sense, Reply, Plan, Verdict, DriveRefusal, LinkRefusal, Accepted, Link, Drive, Entry, Effect, Keep, Settle, Reserve, Close, Grow, Change, Decision}
+use Rattle.disc.specs.Types.{Fragment, Disc, Sense, Reply, Plan, Verdict, DriveRefusal, LinkRefusal, Answer, Accepted, Link, Drive, Entry, Effect, Keep, Settle, Reserve, Close, Grow, Change, Decision}
 use Rattle.fragments.specs.Fragment.{unusedRecord}
 use Rattle.protocol.specs.Answer.{noSense, refusalSense}
 use Rattle.protocol.specs.Reply.{noReply}
@@ -66,22 +66,18 @@ decided d r =
     record { answer = r .answer; disc = changed d (r .change); reply = r .reply; recorded = r .recorded; plan = r .plan }
 
 -- accepted, with so many blocks recorded: the sense is cleared
-unfoldable pub acceptance : Effect → ℕ → Reply → Plan → Decision
-acceptance e n r p =
+unfoldable pub accepting : Effect → ℕ → Reply → Plan → Decision
+accepting e n r p =
     record { answer = Accepted; change = record { sense = noSense; effect = e }; reply = r; recorded = n; plan = p }
 
+-- not accepted: nothing changes but the sense, if this is another one
+abbrev pub declining : Answer → Sense → Decision
+declining a s = record { answer = a; change = record { sense = s; effect = Keep }; reply = noReply; recorded = 0; plan = noPlan }
+
 -- refused by the drive: only the sense changes
-unfoldable pub refusal : DriveRefusal → Decision
-refusal r =
-    record {
-      answer = Drive r;
-      change = record { sense = refusalSense r; effect = Keep };
-      reply = noReply;
-      recorded = 0;
-      plan = noPlan;
-    }
+unfoldable pub refusing : DriveRefusal → Decision
+refusing r = declining (Drive r) (refusalSense r)
 
 -- refused on the link: nothing changes, the sense included
-unfoldable pub linkRefusal : Sense → LinkRefusal → Decision
-linkRefusal s r =
-    record { answer = Link r; change = record { sense = s; effect = Keep }; reply = noReply; recorded = 0; plan = noPlan }
+unfoldable pub refusingLink : Sense → LinkRefusal → Decision
+refusingLink s r = declining (Link r) s

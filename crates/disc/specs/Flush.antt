@@ -3,11 +3,12 @@ use Prim.Native.Nat.{ℕ, _+_, _-_}
 use mathlib.Core.Bool.{cond}
 use lib.ListN.{set}
 use lib.Dec.{eqb}
-use Rattle.disc.specs.Types.{Fragment, Disc, Flush, Skip, Record, Nothing, Flushed, Verdict}
+use Rattle.disc.specs.Types.{Fragment, Disc, Flush, Skip, Record, Nothing, Entry, Flushing, Verdict}
 use Rattle.fragments.specs.Address.{missing}
 use Rattle.fragments.specs.Fragment.{firstUnrecorded}
 use Rattle.disc.specs.Records.{numbered}
 use Rattle.disc.specs.Verdict.{accept, plan}
+use Rattle.disc.specs.Decision.{entry, noEntry}
 use Rattle.protocol.specs.Reply.{noReply}
 
 -- the record whose pending block, n sectors of it given, is recorded with zeros for the missing ones
@@ -43,9 +44,16 @@ flushPlan d = cond (eqb (d .pending) 0) Skip (Record (firstUnrecorded (numbered 
 unfoldable pub flushCount : Disc → ℕ
 flushCount d = cond (eqb (d .pending) 0) 0 1
 
--- the three together
-abbrev pub afterFlush : Disc → Flushed
-afterFlush d = record { disc = flush d; plan = flushPlan d; recorded = flushCount d }
+-- the record that it leaves
+unfoldable pub flushEntry : Disc → Entry
+flushEntry d = cond (eqb (d .pending) 0) noEntry (entry (d .owner) (flushedRecord (d .pending) (numbered d (d .owner))))
+
+-- what the code that flushes comes to: record, plan and count
+abbrev pub flushing : Disc → Flushing
+flushing d = record { entry = flushEntry d; plan = flushPlan d; recorded = flushCount d }
+
+abbrev pub noFlushing : Flushing
+noFlushing = record { entry = noEntry; plan = Skip; recorded = 0 }
 
 -- 35h flushes and does nothing else
 unfoldable pub synchronizeCache : Disc → Verdict

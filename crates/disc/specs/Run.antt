@@ -5,7 +5,7 @@ use mathlib.Core.Path.{_≡_}
 use mathlib.Core.Bool.{Bool, true, cond, _&&_}
 use mathlib.Core.List.{List, []}
 use lib.ListN.{length, take, drop}
-use lib.Dec.{eqb}
+use lib.Dec.{eqb, ltb}
 use Rattle.disc.specs.Types.{Lba, Disc, Transfer, Nothing, Send, Gather, Fill, Command, TestUnitReady, RequestSense, ReadCapacity, Read, Write, SynchronizeCache, ReserveTrack, CloseTrackSession, ReadDiscInformation, ReadTrackInformation, Unlisted}
 use Rattle.fragments.specs.Address.{lba}
 use Rattle.protocol.specs.Command.{decode}
@@ -24,6 +24,13 @@ sent Nothing medium = []
 sent (Send a n) medium = stretch a n medium
 sent (Gather b p n) medium = []
 sent (Fill b n) medium = []
+
+-- the same of a medium of any length: nothing where the sectors do not lie in it
+unfoldable pub sentWithin : Transfer → List ℕ → List ℕ
+sentWithin Nothing medium = []
+sentWithin (Send a n) medium = cond (ltb (length medium) (2048 * (a .0 + n))) [] (stretch a n medium)
+sentWithin (Gather b p n) medium = []
+sentWithin (Fill b n) medium = []
 
 -- what a READ sends of it; any other command sends nothing
 unfoldable pub sentBy : Disc → Command → List ℕ → List ℕ

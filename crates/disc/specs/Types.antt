@@ -30,7 +30,7 @@ pub use Rattle.disc.specs.declared.verdict.Transfer.the-variants.{Nothin
 pub use Rattle.disc.specs.declared.verdict.Plan.{Plan}
 pub use Rattle.disc.specs.declared.verdict.Verdict.{Verdict}
 pub use Rattle.fragments.specs.declared.list.Last.{Last}
-pub use Rattle.disc.specs.declared.flush.Flushed.{Flushed}
+pub use Rattle.disc.specs.declared.flush.Flushing.{Flushing}
 pub use Rattle.disc.specs.declared.decision.Entry.{Entry}
 pub use Rattle.disc.specs.declared.decision.Effect.{Effect}
 pub use Rattle.disc.specs.declared.decision.Effect.the-variants.{Keep, Settle, Reserve, Close, Grow}

@@ -4,14 +4,15 @@ use mathlib.Core.Path.{_≡_}
 use mathlib.Core.Bool.{false, cond}
 use lib.ListN.{set}
 use lib.Dec.{eqb, ltb}
-use Rattle.disc.specs.Types.{Lba, Fragment, Disc, Found, Number, Nowhere, Flush, Skip, Gather, Flushed, Verdict, WriteProtected, InvalidAddressForWrite, EndOfUserArea}
+use Rattle.disc.specs.Types.{Lba, Fragment, Disc, Found, Number, Nowhere, Flush, Skip, Gather, Entry, Flushing, Verdict, WriteProtected, InvalidAddressForWrite, EndOfUserArea}
 use Rattle.fragments.specs.Address.{firstSector, wholeBlocks, leftOver}
 use Rattle.fragments.specs.Fragment.{end, firstUnrecorded, complete}
 use Rattle.disc.specs.Records.{pendingIn, nextWritable, used, numbered, writableAt}
 use Rattle.fragments.specs.List.{limit}
 use Rattle.disc.specs.Verdict.{accept, refuse, noPlan, plan}
 use Rattle.protocol.specs.Reply.{noReply}
-use Rattle.disc.specs.Flush.{flush, flushPlan, flushCount}
+use Rattle.disc.specs.Flush.{flush, flushPlan, flushCount, flushEntry}
+use Rattle.disc.specs.Decision.{noEntry}
 
 -- sectors pending in another fragment are flushed first: the disc after that, and the plan for it
 unfoldable pub flushOthers : Disc → ℕ → Disc
@@ -23,9 +24,13 @@ flushOthersPlan d n = cond (eqb (d .owner) n) Skip (flushPlan d)
 unfoldable pub flushOthersCount : Disc → ℕ → ℕ
 flushOthersCount d n = cond (eqb (d .owner) n) 0 (flushCount d)
 
--- the three together
-abbrev pub afterFlushOthers : Disc → ℕ → Flushed
-afterFlushOthers d n = record { disc = flushOthers d n; plan = flushOthersPlan d n; recorded = flushOthersCount d n }
+-- the record that it leaves
+unfoldable pub flushOthersEntry : Disc → ℕ → Entry
+flushOthersEntry d n = cond (eqb (d .owner) n) noEntry (flushEntry d)
+
+-- what the code that flushes comes to: record, plan and count
+abbrev pub flushingOthers : Disc → ℕ → Flushing
+flushingOthers d n = record { entry = flushOthersEntry d n; plan = flushOthersPlan d n; recorded = flushOthersCount d n }
 
 abbrev pub grownRecord : ℕ → Fragment → Fragment
 grownRecord blocks f =

@@ -1,215 +1,258 @@
 // CLOSE TRACK/SESSION (5Bh): of a fragment (001), of the session (010) or of the disc (110).
 use crate::change;
-use crate::flush::Flushed;
+use crate::decision::Decision;
+use crate::decision::Effect;
+use crate::decision::Entry;
+use crate::flush::Flushing;
 use crate::state::Disc;
 use crate::verdict::Plan;
 use crate::verdict::Transfer;
-use crate::verdict::Verdict;
 use fragments::Block;
 use fragments::Fragment;
 use fragments::Kind;
+use fragments::Last;
 use protocol::DriveRefusal;
 use protocol::Reply;
 ghost use mathlib.Core.Path.{_≡_};
 ghost use Prim.Native.Nat.{_≤_};
 ghost use Rattle.disc.specs.Types.{Reserved, Appended};
-ghost use Rattle.fragments.specs.List.{limit};
-ghost use Rattle.disc.specs.Records.{used};
+ghost use Rattle.fragments.specs.List.{lastOf};
+ghost use Rattle.disc.specs.Records.{used, numbered};
 ghost use Rattle.disc.specs.Ready.{Ready};
-ghost use Rattle.disc.specs.Flush.{flush, afterFlush};
-ghost use Rattle.disc.specs.Close.{appendTail, closeIncomplete, closeFragment, hasIncompleteReserved, closeTail, Opening, openSession, closeSession, finalized, finalize, close};
+ghost use Rattle.disc.specs.Decision.{decided};
+ghost use Rattle.disc.specs.Flush.{flush, flushEntry, flushing};
+ghost use Rattle.disc.specs.Close.{tailAfter, closeIncomplete, closeFragment, hasIncompleteReserved, closeTail, tailClosed, closingLast, closeSession, finalize, close};
+
+// A new tail after a fragment with a number, the last one, if a block is left for it and a record.
+fn tail_after(capacity: u32, number: usize, f: Fragment) -> Entry
+    ensures { λ r. ⌜ r ≡ tailAfter capacity number f ⌝ }
+{
+    let start = f.next_start();
+    if start.0 >= capacity as u64 {
+        return Entry::none();
+    }
+    if number >= Disc::LIMIT {
+        return Entry::none();
+    }
+    let tail = change::tail_from(capacity, f.session, Block(start.0 as u32));
+    Entry::new(number + 1, tail)
+}
 
 impl Disc {
-    // The disc with a new tail after the fragment with a number, its last one, if a block is left for it and a record.
-    pub(crate) fn append_tail(self, number: usize) -> Disc
-        requires { ⌜ (1 ≤ number) × (number ≤ limit) ⌝ }
-        ensures { λ r. ⌜ r ≡ appendTail self number ⌝ }
-    {
-        let f = self.fragments[number - 1];
-        let start = f.next_start();
-        if start.0 < self.capacity as u64 {
-            if number < Disc::LIMIT {
-                let tail = change::tail_from(self.capacity, f.session, Block(start.0 as u32));
-                return self.with_record(number + 1, tail);
-            }
-        }
-        self
-    }
-
-    // An incomplete reserved fragment is closed; `flushed` is what the flush leaves.
-    pub(crate) fn close_reserved(self, flushed: Flushed, number: usize) -> Verdict
+    // An incomplete reserved fragment is closed; `f` is its record after the flush.
+    fn close_reserved(self, first: Flushing, number: usize, f: Fragment) -> Decision
         requires { ⌜ Ready self ⌝ }
-        requires { ⌜ flushed ≡ afterFlush self ⌝ }
+        requires { ⌜ first ≡ flushing self ⌝ }
         requires { ⌜ (1 ≤ number) × (number ≤ used (flush self)) ⌝ }
-        ensures { λ r. ⌜ r ≡ closeIncomplete self (flush self) number Reserved ⌝ }
+        requires { ⌜ f ≡ numbered (flush self) number ⌝ }
+        ensures { λ r. ⌜ decided self r ≡ closeIncomplete self (flush self) number Reserved ⌝ }
     {
-        let disc = flushed.disc;
-        let f = disc.fragments[number - 1];
         let blocks = f.length - f.recorded;
         let block = change::first_unrecorded(f);
         let transfer = Transfer::Fill { block, blocks };
-        let flush = flushed.plan;
+        let flush = first.plan;
         let plan = Plan::new(flush, transfer);
-        Verdict::accepted(
-            disc.with_record(number, change::filled(f)),
-            flushed.recorded + blocks,
-            Reply::none(),
-            plan,
-        )
+        let flushed = first.entry;
+        let closed = Entry::new(number, change::filled(f));
+        let tail = Entry::none();
+        let effect = Effect::Close {
+            flushed,
+            closed,
+            tail,
+            finalized: self.finalized,
+        };
+        Decision::accepted(effect, first.recorded + blocks, Reply::none(), plan)
     }
 
-    // A written tail is closed; `flushed` is what the flush leaves.
-    pub(crate) fn close_appended(self, flushed: Flushed, number: usize) -> Verdict
+    // A written tail is closed; `f` is its record after the flush.
+    fn close_appended(self, first: Flushing, number: usize, f: Fragment) -> Decision
         requires { ⌜ Ready self ⌝ }
-        requires { ⌜ flushed ≡ afterFlush self ⌝ }
+        requires { ⌜ first ≡ flushing self ⌝ }
         requires { ⌜ number ≡ used (flush self) ⌝ }
-        ensures { λ r. ⌜ r ≡ closeIncomplete self (flush self) number Appended ⌝ }
+        requires { ⌜ f ≡ numbered (flush self) number ⌝ }
+        ensures { λ r. ⌜ decided self r ≡ closeIncomplete self (flush self) number Appended ⌝ }
     {
-        let disc = flushed.disc;
-        let f = disc.fragments[number - 1];
-        let flush = flushed.plan;
+        let flush = first.plan;
         let plan = Plan::new(flush, Transfer::Nothing);
-        let after = disc.with_record(number, change::shortened(f))
-            .append_tail(number);
-        Verdict::accepted(after, flushed.recorded, Reply::none(), plan)
+        let short = change::shortened(f);
+        let flushed = first.entry;
+        let closed = Entry::new(number, short);
+        let tail = tail_after(self.capacity, number, short);
+        let effect = Effect::Close {
+            flushed,
+            closed,
+            tail,
+            finalized: self.finalized,
+        };
+        Decision::accepted(effect, first.recorded, Reply::none(), plan)
     }
 
     // CLOSE of a fragment (001).
-    pub(crate) fn close_fragment(self, number: usize) -> Verdict
+    pub(crate) fn close_fragment(self, number: usize) -> Decision
         requires { ⌜ Ready self ⌝ }
-        ensures { λ r. ⌜ r ≡ closeFragment self number ⌝ }
+        ensures { λ r. ⌜ decided self r ≡ closeFragment self number ⌝ }
     {
         if !self.is_listed(number) {
-            return Verdict::refused(self, DriveRefusal::InvalidFieldInCommand);
+            return Decision::refused(DriveRefusal::InvalidFieldInCommand);
         }
-        let before = self.fragments[number - 1];
+        let before = self.numbered(number);
         if self.is_blank(number, before) {
-            return Verdict::refused(self, DriveRefusal::EmptyTrack);
+            return Decision::refused(DriveRefusal::EmptyTrack);
         }
-        let after = self.flush();
-        let disc = after.disc;
-        let f = disc.fragments[number - 1];
+        let first = self.flushing();
+        let flushed = first.entry;
+        let f = flushed.over(number, before);
         if f.is_complete() {
-            let flush = after.plan;
-            let plan = Plan::new(flush, Transfer::Nothing);
-            return Verdict::accepted(disc, after.recorded, Reply::none(), plan);
+            return self.synchronize_cache();
         }
         let kind = f.kind;
         match kind {
-            Kind::Reserved => self.close_reserved(after, number),
-            Kind::Appended => self.close_appended(after, number),
+            Kind::Reserved => self.close_reserved(first, number, f),
+            Kind::Appended => self.close_appended(first, number, f),
         }
     }
 }
 
+// What closing a session makes of its last record: a blank tail is dropped, a written one ends with its recorded blocks.
+fn tail_closed(last: Last) -> Entry
+    ensures { λ r. ⌜ r ≡ tailClosed last ⌝ }
+{
+    let f = last.fragment;
+    if !f.is_tail() {
+        return Entry::none();
+    }
+    if f.recorded == 0 {
+        return Entry::new(last.number, Fragment::unused());
+    }
+    Entry::new(last.number, change::shortened(f))
+}
+
+// The last record is closed, after a flush, and a tail may begin after it: what 010 and 110 are decided to.
+fn close_last(first: Flushing, last: Last, tail: Entry, finalized: bool) -> Decision
+    ensures { λ r. ⌜ r ≡ closingLast first last tail finalized ⌝ }
+{
+    let flush = first.plan;
+    let plan = Plan::new(flush, Transfer::Nothing);
+    let flushed = first.entry;
+    let closed = tail_closed(last);
+    let effect = Effect::Close {
+        flushed,
+        closed,
+        tail,
+        finalized,
+    };
+    Decision::accepted(effect, first.recorded, Reply::none(), plan)
+}
+
 impl Disc {
-    // Some reserved fragment is incomplete.
-    pub(crate) fn has_incomplete_reserved(self) -> bool
-        ensures { λ r. ⌜ r ≡ hasIncompleteReserved self ⌝ }
+    // Some reserved fragment is incomplete after the flush that leaves `flushed`.
+    fn stays_incomplete(self, flushed: Entry) -> bool
+        requires { ⌜ Ready self ⌝ }
+        requires { ⌜ flushed ≡ flushEntry self ⌝ }
+        ensures { λ r. ⌜ r ≡ hasIncompleteReserved (flush self) ⌝ }
     {
-        let records = self.fragments;
+        let disc = self.with_entry(flushed);
+        let records = disc.fragments;
         fragments::has_incomplete_reserved(records)
     }
 
-    // The disc without its blank tail, or with a written tail that ends with its recorded blocks.
-    pub(crate) fn close_tail(self) -> Disc
+    // The last record after that flush, with its number.
+    fn last_flushed(self, flushed: Entry) -> Last
         requires { ⌜ Ready self ⌝ }
-        ensures { λ r. ⌜ r ≡ closeTail self ⌝ }
+        requires { ⌜ flushed ≡ flushEntry self ⌝ }
+        ensures { λ r. ⌜ r ≡ lastOf (flush self .fragments) ⌝ }
     {
         let last = self.last();
-        if self.has_blank_tail() {
-            return self.with_record(last.number, Fragment::unused());
-        }
-        let f = last.fragment;
-        if f.is_tail() {
-            return self.with_record(last.number, change::shortened(f));
-        }
-        self
+        let number = last.number;
+        let fragment = flushed.over(number, last.fragment);
+        Last { number, fragment }
     }
 
-    // The disc with a tail of the next session after its last record.
-    pub(crate) fn open_session(self) -> Disc
-        requires { ⌜ Opening self ⌝ }
-        ensures { λ r. ⌜ r ≡ openSession self ⌝ }
+    // The last record that is left with the tail closed, after that flush, whose last record is `last`.
+    fn last_kept(self, flushed: Entry, last: Last) -> Last
+        requires { ⌜ Ready self ⌝ }
+        requires { ⌜ flushed ≡ flushEntry self ⌝ }
+        requires { ⌜ last ≡ lastOf (flush self .fragments) ⌝ }
+        ensures { λ r. ⌜ r ≡ lastOf (closeTail (flush self) .fragments) ⌝ }
     {
-        let last = self.last();
         let f = last.fragment;
-        let start = Block(f.next_session_start().0 as u32);
-        let tail = change::tail_from(self.capacity, f.session + 1, start);
-        self.with_record(last.number + 1, tail)
+        if !f.is_tail() {
+            return last;
+        }
+        if f.recorded != 0 {
+            let fragment = change::shortened(f);
+            return Last {
+                number: last.number,
+                fragment,
+            };
+        }
+        let number = last.number - 1;
+        if number == 0 {
+            let fragment = Fragment::unused();
+            return Last { number, fragment };
+        }
+        let fragment = flushed.over(number, self.numbered(number));
+        Last { number, fragment }
     }
 
     // CLOSE of the session (010).
-    pub(crate) fn close_session(self) -> Verdict
+    pub(crate) fn close_session(self) -> Decision
         requires { ⌜ Ready self ⌝ }
-        ensures { λ r. ⌜ r ≡ closeSession self ⌝ }
+        ensures { λ r. ⌜ decided self r ≡ closeSession self ⌝ }
     {
         if self.finalized | self.blank_tail_only() {
-            return Verdict::unchanged(self, Reply::none());
+            return Decision::unchanged(Reply::none());
         }
-        let after = self.flush();
-        let disc = after.disc;
-        if disc.has_incomplete_reserved() {
-            return Verdict::refused(self, DriveRefusal::IncompleteTrackInSession);
+        let first = self.flushing();
+        let flushed = first.entry;
+        if self.stays_incomplete(flushed) {
+            return Decision::refused(DriveRefusal::IncompleteTrackInSession);
         }
-        let kept = disc.close_tail();
-        let last = kept.last();
-        if last.number == Disc::LIMIT {
-            return Verdict::refused(self, DriveRefusal::NoMoreReservations);
+        let last = self.last_flushed(flushed);
+        let kept = self.last_kept(flushed, last);
+        if kept.number == Disc::LIMIT {
+            return Decision::refused(DriveRefusal::NoMoreReservations);
         }
-        let f = last.fragment;
-        if (self.capacity as u64) < f.next_session_start().0 + 1 {
-            return Verdict::refused(self, DriveRefusal::EndOfUserArea);
+        let f = kept.fragment;
+        let start = f.next_session_start();
+        if (self.capacity as u64) < start.0 + 1 {
+            return Decision::refused(DriveRefusal::EndOfUserArea);
         }
-        let flush = after.plan;
-        let plan = Plan::new(flush, Transfer::Nothing);
-        Verdict::accepted(kept.open_session(), after.recorded, Reply::none(), plan)
-    }
-
-    // The same disc, finalized.
-    fn as_finalized(mut self) -> Disc
-        ensures { λ r. ⌜ r ≡ finalized self ⌝ }
-    {
-        self.finalized = true;
-        self
+        let opened = change::tail_from(self.capacity, f.session + 1, Block(start.0 as u32));
+        let tail = Entry::new(kept.number + 1, opened);
+        close_last(first, last, tail, self.finalized)
     }
 
     // CLOSE of the disc (110): finalized.
-    pub(crate) fn finalize(self) -> Verdict
+    pub(crate) fn finalize(self) -> Decision
         requires { ⌜ Ready self ⌝ }
-        ensures { λ r. ⌜ r ≡ finalize self ⌝ }
+        ensures { λ r. ⌜ decided self r ≡ finalize self ⌝ }
     {
         if self.finalized {
-            return Verdict::unchanged(self, Reply::none());
+            return Decision::unchanged(Reply::none());
         }
-        let after = self.flush();
-        let disc = after.disc;
-        if disc.has_incomplete_reserved() {
-            return Verdict::refused(self, DriveRefusal::IncompleteTrackInSession);
+        let first = self.flushing();
+        let flushed = first.entry;
+        if self.stays_incomplete(flushed) {
+            return Decision::refused(DriveRefusal::IncompleteTrackInSession);
         }
         if self.is_blank_disc() {
-            return Verdict::refused(self, DriveRefusal::EmptyTrack);
+            return Decision::refused(DriveRefusal::EmptyTrack);
         }
-        let flush = after.plan;
-        let plan = Plan::new(flush, Transfer::Nothing);
-        Verdict::accepted(
-            disc.close_tail().as_finalized(),
-            after.recorded,
-            Reply::none(),
-            plan,
-        )
+        let last = self.last_flushed(flushed);
+        close_last(first, last, Entry::none(), true)
     }
 
     // CLOSE TRACK/SESSION by its function.
-    pub(crate) fn close(self, function: u8, number: usize) -> Verdict
+    pub(crate) fn close_track_session(self, function: u8, number: usize) -> Decision
         requires { ⌜ Ready self ⌝ }
-        ensures { λ r. ⌜ r ≡ close self function number ⌝ }
+        ensures { λ r. ⌜ decided self r ≡ close self function number ⌝ }
     {
         match function {
             0b001 => self.close_fragment(number),
             0b010 => self.close_session(),
             0b110 => self.finalize(),
-            _ => Verdict::refused(self, DriveRefusal::InvalidFieldInCommand),
+            _ => Decision::refused(DriveRefusal::InvalidFieldInCommand),
         }
     }
 }

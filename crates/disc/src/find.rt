@@ -45,7 +45,8 @@ impl Disc {
         requires { ⌜ (1 ≤ number) × (number ≤ limit) ⌝ }
         ensures { λ r. ⌜ r ≡ numbered self number ⌝ }
     {
-        self.fragments[number - 1]
+        let records = self.fragments;
+        records[number - 1]
     }
 
     // The number is that of a record in use.

@@ -1,62 +1,77 @@
 // The flush, and SYNCHRONIZE CACHE (35h), which flushes and does nothing else.
 use crate::change;
+use crate::decision::Decision;
+use crate::decision::Effect;
+use crate::decision::Entry;
 use crate::state::Disc;
 use crate::verdict::Flush;
 use crate::verdict::Plan;
 use crate::verdict::Transfer;
-use crate::verdict::Verdict;
 use protocol::Reply;
 ghost use mathlib.Core.Path.{_≡_};
 ghost use Rattle.disc.specs.Ready.{Ready};
-ghost use Rattle.disc.specs.Flush.{afterFlush, synchronizeCache};
+ghost use Rattle.disc.specs.Decision.{decided};
+ghost use Rattle.disc.specs.Flush.{noFlushing, flushing, synchronizeCache};
 
-// The disc after a flush, what the flush does to the bytes, and how many blocks it records.
-pub(crate) struct Flushed {
-    pub(crate) disc: Disc,
+// What a flush comes to: the record that it leaves, what it does to the bytes, and how many blocks it records.
+pub(crate) struct Flushing {
+    pub(crate) entry: Entry,
     pub(crate) plan: Flush,
     pub(crate) recorded: u32,
 }
 
+impl Flushing {
+    // Nothing is flushed.
+    pub(crate) fn none() -> Flushing
+        ensures { λ r. ⌜ r ≡ noFlushing ⌝ }
+    {
+        let entry = Entry::none();
+        Flushing {
+            entry,
+            plan: Flush::Skip,
+            recorded: 0,
+        }
+    }
+}
+
 impl Disc {
-    // The disc with its pending block recorded; nothing happens with none pending.
-    pub(crate) fn flush(self) -> Flushed
+    // The flush of the pending block; nothing happens with none pending.
+    pub(crate) fn flushing(self) -> Flushing
         requires { ⌜ Ready self ⌝ }
-        ensures { λ r. ⌜ r ≡ afterFlush self ⌝ }
+        ensures { λ r. ⌜ r ≡ flushing self ⌝ }
     {
         let pending = self.pending;
         if pending == 0 {
-            return Flushed {
-                disc: self,
-                plan: Flush::Skip,
-                recorded: 0,
-            };
+            return Flushing::none();
         }
         let owner = self.owner as usize;
         let f = self.numbered(owner);
         let block = change::first_unrecorded(f);
-        let plan = Flush::Record {
-            block,
-            sectors: pending,
-        };
-        let mut disc = self.with_record(owner, change::flushed(f, pending));
-        disc.pending = 0;
-        disc.owner = 0;
-        Flushed {
-            disc,
-            plan,
+        let entry = Entry::new(owner, change::flushed(f, pending));
+        Flushing {
+            entry,
+            plan: Flush::Record {
+                block,
+                sectors: pending,
+            },
             recorded: 1,
         }
     }
 
     // SYNCHRONIZE CACHE.
-    pub(crate) fn synchronize_cache(self) -> Verdict
+    pub(crate) fn synchronize_cache(self) -> Decision
         requires { ⌜ Ready self ⌝ }
-        ensures { λ r. ⌜ r ≡ synchronizeCache self ⌝ }
+        ensures { λ r. ⌜ decided self r ≡ synchronizeCache self ⌝ }
     {
-        let after = self.flush();
-        let disc = after.disc;
-        let flush = after.plan;
+        let first = self.flushing();
+        let flushed = first.entry;
+        let flush = first.plan;
         let plan = Plan::new(flush, Transfer::Nothing);
-        Verdict::accepted(disc, after.recorded, Reply::none(), plan)
+        Decision::accepted(
+            Effect::Settle { flushed },
+            first.recorded,
+            Reply::none(),
+            plan,
+        )
     }
 }

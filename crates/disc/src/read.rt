@@ -1,9 +1,10 @@
 // READ (28h): the run must end within the disc and be recorded.
+use crate::decision::Decision;
+use crate::decision::Effect;
 use crate::state::Disc;
 use crate::verdict::Flush;
 use crate::verdict::Plan;
 use crate::verdict::Transfer;
-use crate::verdict::Verdict;
 use fragments::Lba;
 use protocol::DriveRefusal;
 use protocol::Reply;
@@ -11,6 +12,7 @@ ghost use mathlib.Core.Path.{_≡_};
 ghost use Rattle.fragments.specs.List.{some};
 ghost use Rattle.disc.specs.Records.{records};
 ghost use Rattle.disc.specs.Ready.{Ready};
+ghost use Rattle.disc.specs.Decision.{decided};
 ghost use Rattle.disc.specs.Read.{sends, read};
 ghost use Rattle.fragments.specs.Address.{passes};
 ghost use Rattle.fragments.specs.Fragment.{holdsRun};
@@ -35,23 +37,23 @@ impl Disc {
     }
 
     // The run must end within the disc and be recorded.
-    pub(crate) fn read(self, address: Lba, sectors: u32) -> Verdict
+    pub(crate) fn read(self, address: Lba, sectors: u32) -> Decision
         requires { ⌜ Ready self ⌝ }
-        ensures { λ r. ⌜ r ≡ read self address sectors ⌝ }
+        ensures { λ r. ⌜ decided self r ≡ read self address sectors ⌝ }
     {
         if sectors == 0 {
-            return Verdict::unchanged(self, Reply::none());
+            return Decision::unchanged(Reply::none());
         }
         if address.passes(sectors, Lba(fragments::sectors_in(self.capacity))) {
-            return Verdict::refused(self, DriveRefusal::AddressOutOfRange);
+            return Decision::refused(DriveRefusal::AddressOutOfRange);
         }
         if self.holds_run(address, sectors) {
             let plan = Plan {
                 flush: Flush::Skip,
                 transfer: Transfer::Send { address, sectors },
             };
-            return Verdict::accepted(self, 0, Reply::none(), plan);
+            return Decision::accepted(Effect::Keep, 0, Reply::none(), plan);
         }
-        Verdict::refused(self, DriveRefusal::BlankCheck)
+        Decision::refused(DriveRefusal::BlankCheck)
     }
 }

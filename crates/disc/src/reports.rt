@@ -1,7 +1,7 @@
 // The reports: REQUEST SENSE (03h), READ CAPACITY (25h), READ DISC INFORMATION (51h), READ TRACK INFORMATION (52h). What each says of
 // the disc; where the bytes stand is the protocol's.
+use crate::decision::Decision;
 use crate::state::Disc;
-use crate::verdict::Verdict;
 use fragments::Found;
 use fragments::Lba;
 use protocol::DiscReport;
@@ -12,6 +12,7 @@ ghost use mathlib.Core.Path.{_≡_};
 ghost use Prim.Native.Nat.{_≤_};
 ghost use Rattle.disc.specs.Records.{used, atAddress};
 ghost use Rattle.disc.specs.Ready.{Ready};
+ghost use Rattle.disc.specs.Decision.{decided};
 ghost use Rattle.disc.specs.Reports.{requestSense, readCapacity, sessionState, discStatus, discReport, readDiscInformation, nextWritableOrZero, freeSectors, trackReport, trackVerdict, trackFound, trackNumbered, readTrackInformation};
 
 // The number that stands for the tail in READ TRACK INFORMATION.
@@ -19,20 +20,20 @@ const TAIL: usize = 0xFF;
 
 impl Disc {
     // REQUEST SENSE (03h): the sense as the command finds it.
-    pub(crate) fn request_sense(self, allocation: u8) -> Verdict
-        ensures { λ r. ⌜ r ≡ requestSense self allocation ⌝ }
+    pub(crate) fn request_sense(self, allocation: u8) -> Decision
+        ensures { λ r. ⌜ decided self r ≡ requestSense self allocation ⌝ }
     {
         let sense = self.sense;
-        Verdict::unchanged(self, Reply::of_sense(sense, allocation as usize))
+        Decision::unchanged(Reply::of_sense(sense, allocation as usize))
     }
 
     // READ CAPACITY (25h): the last readable address.
-    pub(crate) fn read_capacity(self) -> Verdict
-        ensures { λ r. ⌜ r ≡ readCapacity self ⌝ }
+    pub(crate) fn read_capacity(self) -> Decision
+        ensures { λ r. ⌜ decided self r ≡ readCapacity self ⌝ }
     {
         let records = self.fragments;
         let last = fragments::last_readable(records);
-        Verdict::unchanged(self, Reply::of_capacity(last))
+        Decision::unchanged(Reply::of_capacity(last))
     }
 
     // The state of the last session: 0 with only a blank tail, 3 on a finalized disc, else 1.
@@ -75,14 +76,14 @@ impl Disc {
     }
 
     // READ DISC INFORMATION (51h): data type 0 alone is served.
-    pub(crate) fn read_disc_information(self, data_type: u8, allocation: u16) -> Verdict
-        ensures { λ r. ⌜ r ≡ readDiscInformation self «data_type» allocation ⌝ }
+    pub(crate) fn read_disc_information(self, data_type: u8, allocation: u16) -> Decision
+        ensures { λ r. ⌜ decided self r ≡ readDiscInformation self «data_type» allocation ⌝ }
     {
         if data_type == 0 {
             let reply = Reply::of_disc(self.disc_report(), allocation as usize);
-            return Verdict::unchanged(self, reply);
+            return Decision::unchanged(reply);
         }
-        Verdict::refused(self, DriveRefusal::InvalidFieldInCommand)
+        Decision::refused(DriveRefusal::InvalidFieldInCommand)
     }
 
     // The next writable address of the fragment with a number, or 0 if it is complete.
@@ -133,42 +134,42 @@ impl Disc {
     }
 
     // The report of the fragment with a number.
-    fn track_verdict(self, number: usize, allocation: u16) -> Verdict
+    fn track_decision(self, number: usize, allocation: u16) -> Decision
         requires { ⌜ Ready self × (1 ≤ number) × (number ≤ used self) ⌝ }
-        ensures { λ r. ⌜ r ≡ trackVerdict self allocation number ⌝ }
+        ensures { λ r. ⌜ decided self r ≡ trackVerdict self allocation number ⌝ }
     {
         let reply = Reply::of_track(self.track_report(number), allocation as usize);
-        Verdict::unchanged(self, reply)
+        Decision::unchanged(reply)
     }
 
     // The fragment that an address lies in.
-    fn track_at(self, address: Lba, allocation: u16) -> Verdict
+    fn track_at(self, address: Lba, allocation: u16) -> Decision
         requires { ⌜ Ready self ⌝ }
-        ensures { λ r. ⌜ r ≡ trackFound self allocation (atAddress self address) ⌝ }
+        ensures { λ r. ⌜ decided self r ≡ trackFound self allocation (atAddress self address) ⌝ }
     {
         let found = self.at_address(address);
         match found {
-            Found::Number(number) => self.track_verdict(number, allocation),
-            Found::Nowhere => Verdict::refused(self, DriveRefusal::AddressOutOfRange),
+            Found::Number(number) => self.track_decision(number, allocation),
+            Found::Nowhere => Decision::refused(DriveRefusal::AddressOutOfRange),
         }
     }
 
     // The fragment with a number; FFh stands for the tail.
-    fn track_numbered(self, number: usize, allocation: u16) -> Verdict
+    fn track_numbered(self, number: usize, allocation: u16) -> Decision
         requires { ⌜ Ready self ⌝ }
-        ensures { λ r. ⌜ r ≡ trackNumbered self allocation number ⌝ }
+        ensures { λ r. ⌜ decided self r ≡ trackNumbered self allocation number ⌝ }
     {
         if number == TAIL {
             let last = self.last();
             if last.fragment.is_tail() {
-                return self.track_verdict(last.number, allocation);
+                return self.track_decision(last.number, allocation);
             }
-            return Verdict::refused(self, DriveRefusal::InvalidFieldInCommand);
+            return Decision::refused(DriveRefusal::InvalidFieldInCommand);
         }
         if self.is_listed(number) {
-            return self.track_verdict(number, allocation);
+            return self.track_decision(number, allocation);
         }
-        Verdict::refused(self, DriveRefusal::InvalidFieldInCommand)
+        Decision::refused(DriveRefusal::InvalidFieldInCommand)
     }
 
     // READ TRACK INFORMATION (52h) by its address type: 0 for an address, 1 for a number.
@@ -177,9 +178,9 @@ impl Disc {
         address_type: u8,
         number: u32,
         allocation: u16,
-    ) -> Verdict
+    ) -> Decision
         requires { ⌜ Ready self ⌝ }
-        ensures { λ r. ⌜ r ≡ readTrackInformation self «address_type» number allocation ⌝ }
+        ensures { λ r. ⌜ decided self r ≡ readTrackInformation self «address_type» number allocation ⌝ }
     {
         if address_type == 0 {
             return self.track_at(Lba(number as u64), allocation);
@@ -187,6 +188,6 @@ impl Disc {
         if address_type == 1 {
             return self.track_numbered(number as usize, allocation);
         }
-        Verdict::refused(self, DriveRefusal::InvalidFieldInCommand)
+        Decision::refused(DriveRefusal::InvalidFieldInCommand)
     }
 }

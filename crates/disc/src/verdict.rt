@@ -3,12 +3,9 @@ use crate::state::Disc;
 use fragments::Block;
 use fragments::Lba;
 use protocol::Answer;
-use protocol::DriveRefusal;
 use protocol::Reply;
-use protocol::Sense;
 ghost use mathlib.Core.Path.{_≡_};
-ghost use Rattle.protocol.specs.Reply.{cutReply, noReply};
-ghost use Rattle.disc.specs.Verdict.{plan, noPlan, accepted, accept, refuse};
+ghost use Rattle.disc.specs.Verdict.{plan, noPlan};
 
 // Whether the pending block is recorded before anything else, its missing sectors zero.
 pub enum Flush {
@@ -60,48 +57,11 @@ impl Plan {
     }
 }
 
-// The decision: the answer, the disc after it, a report's bytes, the number of blocks recorded and what to do to the bytes.
+// The decision applied: the answer, the disc after it, a report's bytes, the number of blocks recorded and what to do to the bytes.
 pub struct Verdict {
     pub answer: Answer,
     pub disc: Disc,
     pub reply: Reply,
     pub recorded: u32,
     pub plan: Plan,
-}
-
-impl Verdict {
-    // Accepted: the sense is cleared, and so many blocks are recorded.
-    pub(crate) fn accepted(after: Disc, recorded: u32, reply: Reply, plan: Plan) -> Verdict
-        ensures { λ r. ⌜ r ≡ accepted after recorded reply plan ⌝ }
-    {
-        let disc = after.with_sense(Sense::none());
-        Verdict {
-            answer: Answer::Accepted,
-            disc,
-            reply,
-            recorded,
-            plan,
-        }
-    }
-
-    // Accepted, and nothing but the sense changes.
-    pub(crate) fn unchanged(disc: Disc, reply: Reply) -> Verdict
-        ensures { λ r. ⌜ r ≡ accept disc disc reply noPlan ⌝ }
-    {
-        Verdict::accepted(disc, 0, reply, Plan::none())
-    }
-
-    // Refused by the drive: only the sense changes.
-    pub(crate) fn refused(disc: Disc, refusal: DriveRefusal) -> Verdict
-        ensures { λ r. ⌜ r ≡ refuse disc refusal ⌝ }
-    {
-        let disc = disc.with_sense(refusal.sense());
-        Verdict {
-            answer: Answer::Drive(refusal),
-            disc,
-            reply: Reply::none(),
-            recorded: 0,
-            plan: Plan::none(),
-        }
-    }
 }

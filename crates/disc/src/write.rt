@@ -1,11 +1,12 @@
 // WRITE (2Ah): the decision, the new list and the plan.
 use crate::change;
-use crate::flush::Flushed;
+use crate::decision::Decision;
+use crate::decision::Effect;
+use crate::decision::Entry;
+use crate::flush::Flushing;
 use crate::state::Disc;
-use crate::verdict::Flush;
 use crate::verdict::Plan;
 use crate::verdict::Transfer;
-use crate::verdict::Verdict;
 use fragments::Found;
 use fragments::Lba;
 use protocol::DriveRefusal;
@@ -16,7 +17,8 @@ ghost use lib.Dec.{eqb};
 ghost use Prim.Native.Nat.{_≤_};
 ghost use Rattle.disc.specs.Ready.{Ready};
 ghost use Rattle.fragments.specs.List.{limit};
-ghost use Rattle.disc.specs.Write.{afterFlushOthers, gather, Gathering, writeTo, Writable, write};
+ghost use Rattle.disc.specs.Decision.{affected, decided};
+ghost use Rattle.disc.specs.Write.{flushingOthers, flushOthers, flushOthersEntry, gather, Gathering, writeTo, Writable, write};
 
 // The number beside a pending count: the fragment's, or 0 with none pending.
 fn owner_of(pending: usize, number: usize) -> u8
@@ -30,44 +32,45 @@ fn owner_of(pending: usize, number: usize) -> u8
 }
 
 impl Disc {
-    // Sectors pending in any other fragment are flushed.
-    pub(crate) fn flush_others(self, number: usize) -> Flushed
+    // The flush of sectors that are pending in any other fragment.
+    pub(crate) fn flushing_others(self, number: usize) -> Flushing
         requires { ⌜ Ready self ⌝ }
-        ensures { λ r. ⌜ r ≡ afterFlushOthers self number ⌝ }
+        ensures { λ r. ⌜ r ≡ flushingOthers self number ⌝ }
     {
         if self.owner as usize == number {
-            return Flushed {
-                disc: self,
-                plan: Flush::Skip,
-                recorded: 0,
-            };
+            return Flushing::none();
         }
-        self.flush()
+        self.flushing()
     }
 
-    // The disc with more sectors gathered in the fragment with a number.
-    pub(crate) fn gather(self, number: usize, sectors: u32) -> Disc
+    // More sectors gathered in the fragment with a number, after the flush that leaves `flushed`.
+    pub(crate) fn gather(self, flushed: Entry, number: usize, sectors: u32) -> Effect
+        requires { ⌜ Ready self ⌝ }
+        requires { ⌜ flushed ≡ flushOthersEntry self number ⌝ }
         requires { ⌜ Gathering self number sectors ⌝ }
-        ensures { λ r. ⌜ r ≡ gather self number sectors ⌝ }
+        ensures { λ r. ⌜ affected self r ≡ gather (flushOthers self number) number sectors ⌝ }
     {
         let held = self.pending_in(number) as usize + sectors as usize;
         let left = fragments::left_over(held);
-        let f = self.fragments[number - 1];
-        let mut after = self.with_record(number, change::grown(f, held));
-        after.pending = left as u8;
-        after.owner = owner_of(left, number);
-        after
+        let f = self.numbered(number);
+        let grown = Entry::new(number, change::grown(f, held));
+        Effect::Grow {
+            flushed,
+            grown,
+            pending: left as u8,
+            owner: owner_of(left, number),
+        }
     }
 
     // A WRITE of 1 up at the next writable address of the fragment with a number.
-    pub(crate) fn write_to(self, address: Lba, sectors: u32, number: usize) -> Verdict
+    pub(crate) fn write_to(self, address: Lba, sectors: u32, number: usize) -> Decision
         requires { ⌜ Ready self ⌝ }
         requires { ⌜ Writable self address number ⌝ }
-        ensures { λ r. ⌜ r ≡ writeTo self address sectors number ⌝ }
+        ensures { λ r. ⌜ decided self r ≡ writeTo self address sectors number ⌝ }
     {
-        let f = self.fragments[number - 1];
+        let f = self.numbered(number);
         if f.end_address().0 < address.0 + sectors as u64 {
-            return Verdict::refused(self, DriveRefusal::EndOfUserArea);
+            return Decision::refused(DriveRefusal::EndOfUserArea);
         }
         let pending = self.pending_in(number);
         let block = change::first_unrecorded(f);
@@ -77,28 +80,29 @@ impl Disc {
             sectors,
         };
         let gathered = fragments::whole_blocks(pending as usize + sectors as usize) as u32;
-        let after = self.flush_others(number);
-        let flush = after.plan;
+        let first = self.flushing_others(number);
+        let flush = first.plan;
         let plan = Plan::new(flush, transfer);
-        let disc = after.disc.gather(number, sectors);
-        Verdict::accepted(disc, after.recorded + gathered, Reply::none(), plan)
+        let flushed = first.entry;
+        let effect = self.gather(flushed, number, sectors);
+        Decision::accepted(effect, first.recorded + gathered, Reply::none(), plan)
     }
 
     // WRITE.
-    pub(crate) fn write(self, address: Lba, sectors: u32) -> Verdict
+    pub(crate) fn write(self, address: Lba, sectors: u32) -> Decision
         requires { ⌜ Ready self ⌝ }
-        ensures { λ r. ⌜ r ≡ write self address sectors ⌝ }
+        ensures { λ r. ⌜ decided self r ≡ write self address sectors ⌝ }
     {
         if sectors == 0 {
-            return Verdict::unchanged(self, Reply::none());
+            return Decision::unchanged(Reply::none());
         }
         if self.finalized {
-            return Verdict::refused(self, DriveRefusal::WriteProtected);
+            return Decision::refused(DriveRefusal::WriteProtected);
         }
         let found = self.writable_at(address);
         match found {
             Found::Number(number) => self.write_to(address, sectors, number),
-            Found::Nowhere => Verdict::refused(self, DriveRefusal::InvalidAddressForWrite),
+            Found::Nowhere => Decision::refused(DriveRefusal::InvalidAddressForWrite),
         }
     }
 }

@@ -5,10 +5,11 @@ use mathlib.Core.Path.{_≡_}
 use mathlib.Core.List.{List, []}
 use lib.ListN.{length}
 use lib.Dec.{eqb}
-use Rattle.drive.specs.Types.{Lba, Disc, Answer, LinkRefusal, Verdict, Write, CommandBlockLength, MediumSize, Response}
+use Rattle.drive.specs.Types.{Lba, Disc, Sense, Answer, Link, LinkRefusal, Reply, Plan, Keep, Decision, Verdict, Write, CommandBlockLength, MediumSize, Response, Outcome}
 use Rattle.protocol.specs.Answer.{number}
 use Rattle.protocol.specs.Command.{decode}
 use Rattle.disc.specs.Verdict.{refuseLink, rise}
+use Rattle.disc.specs.Decision.{changed}
 use Rattle.disc.specs.Judge.{judge}
 use Rattle.disc.specs.Lent.{FlushFits, TransferFits}
 use Rattle.drive.specs.Bytes.{splice}
@@ -73,26 +74,26 @@ abbrev pub untouched : Drive → Request → Answer → Disc → Result
 untouched s q a d =
     record { answer = a; reply = []; recorded = 0; buffer = q .buffer; after = drive d (s .medium) (s .pending) }
 
--- what the code that carries a verdict out asks: what is sent is the recorded run, and what the plan asks of the lent buffers is there
-pub record Feasible (v : Verdict) (s : Drive) (q : Request) : Type 0 where
-  pub sends : Sendable (s .disc) (q .cdb) (s .medium) (v .plan .transfer) (v .reply) (length (q .buffer))
-  pub cdb : length (s .pending) ≡ 32768
-  pub flush : FlushFits (length (s .medium)) (v .plan .flush)
-  pub transfer : TransferFits (length (s .medium)) (length (q .payload)) (v .plan .transfer)
+-- what the code that carries a decision out asks: what its plan asks of the lent buffers is there
+pub record Feasible (p : Plan) (r : Reply) (payload medium pending buffer : List ℕ) : Type 0 where
+  pub sends : Sendable medium (p .transfer) r (length buffer)
+  pub cdb : length pending ≡ 32768
+  pub flush : FlushFits (length medium) (p .flush)
+  pub transfer : TransferFits (length medium) (length payload) (p .transfer)
 
--- the response by value: of a verdict whose reply has so many bytes, and of a link refusal
-abbrev pub response : Verdict → ℕ → Response
-response v n = record { answer = v .answer; disc = v .disc; length = n; recorded = v .recorded }
+-- the outcome by value: of a decision whose reply has so many bytes, and of a link refusal before any decision
+abbrev pub outcome : Decision → ℕ → Outcome
+outcome d n = record { answer = d .answer; change = d .change; length = n; recorded = d .recorded }
 
-abbrev pub refused : Disc → LinkRefusal → Response
-refused d r = response (refuseLink d r) 0
+abbrev pub declined : Sense → LinkRefusal → Outcome
+declined s r = record { answer = Link r; change = record { sense = s; effect = Keep }; length = 0; recorded = 0 }
 
--- the promise of that code: the response, and medium, pending buffer and reply buffer afterwards
-pub record CarriedOut (v : Verdict) (s : Drive) (q : Request) (r : Response) (medium pending buffer : List ℕ) : Type 0 where
-  pub responds : r ≡ response v (length (carriedOut v s q .reply))
-  pub recordedMedium : medium ≡ carriedOut v s q .after .medium
-  pub keptPending : pending ≡ carriedOut v s q .after .pending
-  pub filledBuffer : buffer ≡ carriedOut v s q .buffer
+-- the promise of that code: the outcome, and medium, pending buffer and reply buffer afterwards
+pub record CarriedOut (d : Decision) (payload medium pending buffer : List ℕ) (r : Outcome) (medium₁ pending₁ buffer₁ : List ℕ) : Type 0 where
+  pub responds : r ≡ outcome d (length (sentBytes (d .plan .transfer) (d .reply) medium))
+  pub recordedMedium : medium₁ ≡ movedMedium (d .plan) medium pending payload
+  pub keptPending : pending₁ ≡ movedPending (d .plan) pending payload
+  pub filledBuffer : buffer₁ ≡ splice buffer 0 (sentBytes (d .plan .transfer) (d .reply) medium)
 
 -- the promise of the code that answers a command: all of it is the step's
 pub record Answered (s : Drive) (q : Request) (r : Response) (medium pending buffer : List ℕ) : Type 0 where
@@ -107,3 +108,11 @@ pub record Answered (s : Drive) (q : Request) (r : Response) (medium pending buf
   -- the number of blocks recorded is the rise of the recorded blocks of all fragments, and for a WRITE of n at most 1 + n/16
   pub risen : r .recorded ≡ rise (s .disc) (r .disc)
   pub bounded : (a : Lba) (n : ℕ) → decode (q .cdb) ≡ Write a n → r .recorded ≤ 1 + n / 16
+
+-- the response that an outcome stands for: its change applied to the disc
+abbrev pub responseOf : Disc → Outcome → Response
+responseOf d r = record { answer = r .answer; disc = changed d (r .change); length = r .length; recorded = r .recorded }
+
+-- the promise of the code that serves a command and leaves the change to its caller
+abbrev pub Served : Drive → Request → Outcome → List ℕ → List ℕ → List ℕ → Type 0
+Served s q r medium pending buffer = Answered s q (responseOf (s .disc) r) medium pending buffer

@@ -20,3 +20,8 @@ pub use Rattle.disc.specs.declared.verdict.Transfer.the-variants.{Nothing, Send
 pub use Rattle.disc.specs.declared.verdict.Plan.{Plan}
 pub use Rattle.disc.specs.declared.verdict.Verdict.{Verdict}
 pub use Rattle.drive.specs.declared.entry.Response.{Response}
+pub use Rattle.disc.specs.declared.decision.Effect.{Effect}
+pub use Rattle.disc.specs.declared.decision.Effect.the-variants.{Keep}
+pub use Rattle.disc.specs.declared.decision.Change.{Change}
+pub use Rattle.disc.specs.declared.decision.Decision.{Decision}
+pub use Rattle.drive.specs.declared.entry.Outcome.{Outcome}

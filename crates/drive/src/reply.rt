@@ -1,12 +1,11 @@
 // The reply's bytes, copied to the beginning of the lent reply buffer; the bytes past them stay.
 use crate::bytes;
-use disc::Disc;
 use disc::Transfer;
 use protocol::Reply;
 ghost use mathlib.Core.Path.{_≡_};
 ghost use Prim.Native.Nat.{_≤_};
 ghost use lib.ListN.{length, take};
-ghost use Rattle.disc.specs.Run.{recordedRun};
+ghost use Rattle.disc.specs.Run.{sentWithin};
 ghost use Rattle.drive.specs.Bytes.{splice};
 ghost use Rattle.drive.specs.Reply.{sentBytes, Sendable};
 
@@ -22,27 +21,20 @@ fn send_report(report: Reply, reply: &mut [u8]) -> usize
     length
 }
 
-// The recorded run that a READ asks for.
-fn send_run(disc: Disc, cdb: &[u8], medium: &[u8], reply: &mut [u8]) -> usize
-    requires { ⌜ length (recordedRun disc (now cdb) (now medium)) ≤ length (now reply) ⌝ }
-    ensures { λ r. ⌜ r ≡ length (recordedRun disc (now (cdb .entry)) (now (medium .entry))) ⌝ }
-    ensures reply { λ _. ⌜ now (reply .exit) ≡ splice (now (reply .entry)) 0 (recordedRun disc (now (cdb .entry)) (now (medium .entry))) ⌝ }
+// The run of sectors that a READ sends, as the lower layer hands it out.
+fn send_run(transfer: Transfer, medium: &[u8], reply: &mut [u8]) -> usize
+    requires { ⌜ length (sentWithin transfer (now medium)) ≤ length (now reply) ⌝ }
+    ensures { λ r. ⌜ r ≡ length (sentWithin transfer (now (medium .entry))) ⌝ }
+    ensures reply { λ _. ⌜ now (reply .exit) ≡ splice (now (reply .entry)) 0 (sentWithin transfer (now (medium .entry))) ⌝ }
 {
-    let run = disc.recorded_run(cdb, medium);
+    let run = transfer.run(medium);
     bytes::put(reply, 0, run);
     run.len()
 }
 
 // The one or the other; how many bytes it is.
-pub(crate) fn send(
-    transfer: Transfer,
-    report: Reply,
-    disc: Disc,
-    cdb: &[u8],
-    medium: &[u8],
-    reply: &mut [u8],
-) -> usize
-    requires { ⌜ Sendable disc (now cdb) (now medium) transfer report (length (now reply)) ⌝ }
+pub(crate) fn send(transfer: Transfer, report: Reply, medium: &[u8], reply: &mut [u8]) -> usize
+    requires { ⌜ Sendable (now medium) transfer report (length (now reply)) ⌝ }
     ensures { λ r. ⌜ r ≡ length (sentBytes transfer report (now (medium .entry))) ⌝ }
     ensures reply { λ _. ⌜ now (reply .exit) ≡ splice (now (reply .entry)) 0 (sentBytes transfer report (now (medium .entry))) ⌝ }
 {
@@ -50,7 +42,7 @@ pub(crate) fn send(
         Transfer::Send {
             address: _,
             sectors: _,
-        } => send_run(disc, cdb, medium, reply),
+        } => send_run(transfer, medium, reply),
         _ => send_report(report, reply),
     }
 }

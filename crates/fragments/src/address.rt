@@ -1,6 +1,7 @@
 // Block numbers and sector addresses: two kinds of number. The conversion between them by 16 stands in this file alone.
 ghost use mathlib.Core.Path.{_≡_};
 ghost use Prim.Native.Nat.{_+_};
+ghost use lib.Dec.{eqb};
 ghost use Rattle.fragments.specs.Address.{sectorsIn, blocksFor, wholeBlocks, leftOver, missing, block, lba, firstSector, passes};
 
 // The number of an ECC block, from 0. A disc's block numbers fit 32 bits.
@@ -54,6 +55,13 @@ pub fn missing(sectors: usize) -> usize
 }
 
 impl Block {
+    // Whether it is the block with a number that may be past every disc.
+    pub(crate) fn is(self, other: WideBlock) -> bool
+        ensures { λ r. ⌜ r ≡ eqb (self .0) (other .0) ⌝ }
+    {
+        self.0 as u64 == other.0
+    }
+
     // The address of the block's first sector.
     pub fn first_sector(self) -> Lba
         ensures { λ r. ⌜ r ≡ firstSector self ⌝ }

@@ -45,11 +45,10 @@ impl Fragment {
     fn continues(self, before: Fragment, incomplete: bool) -> bool
         ensures { λ r. ⌜ r ≡ continues incomplete before self ⌝ }
     {
-        let start = self.start.0 as u64;
         let session = self.session as u32;
-        let same = (self.session == before.session) & (start == before.next_start().0);
+        let same = (self.session == before.session) & self.start.is(before.next_start());
         let next = (session == before.session as u32 + 1)
-            & (start == before.next_session_start().0);
+            & self.start.is(before.next_session_start());
         !before.is_tail() & (same | !incomplete & next)
     }
 

@@ -70,14 +70,14 @@ impl Fragment {
     pub fn next_start(self) -> WideBlock
         ensures { λ r. ⌜ r ≡ wide (nextFragmentStart (end self)) ⌝ }
     {
-        WideBlock(self.start.0 as u64 + self.length as u64 + DIVIDING)
+        WideBlock(self.end().0 + DIVIDING)
     }
 
     // Where the first fragment of the next session starts.
     pub fn next_session_start(self) -> WideBlock
         ensures { λ r. ⌜ r ≡ wide (nextSessionStart (end self)) ⌝ }
     {
-        WideBlock(self.start.0 as u64 + self.length as u64 + (CLOSURE + INTRO))
+        WideBlock(self.end().0 + (CLOSURE + INTRO))
     }
 
     // The address of the first sector after the fragment.

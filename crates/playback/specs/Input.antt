@@ -23,7 +23,7 @@ pub record Carried (from filled : ℕ) (before after : List ℕ) (r : ℕ) : Typ
 
 -- bytes are read after those held, which stay
 pub record Brought (held : ℕ) (before after : List ℕ) (r : Input) : Type 0 where
-  pub behind : held ≤ r .filled
+  pub counted : held ≤ r .filled
   pub within : r .filled ≤ length before
   pub front : take held after ≡ take held before
   pub same : length after ≡ length before
@@ -46,7 +46,7 @@ pub record WentOn (before : Progress) (buffer after : List ℕ) (r : Progress) :
       r .ended ≡ false
       → take (before .filled - wholeEnd (take (before .filled) buffer)) after
       ≡ drop (wholeEnd (take (before .filled) buffer)) (take (before .filled) buffer)
-  pub behind : r .ended ≡ false → before .filled - wholeEnd (take (before .filled) buffer) ≤ r .filled
+  pub counted : r .ended ≡ false → before .filled - wholeEnd (take (before .filled) buffer) ≤ r .filled
   pub within : r .filled ≤ length after
   pub same : length after ≡ length buffer
 

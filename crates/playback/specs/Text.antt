@@ -5,7 +5,7 @@ use mathlib.Core.List.{List, [], _∷_, _++_}
 use lib.Dec.{ltb}
 use Rattle.playback.specs.Types.{Sense, TailNext, Address, NoTail}
 
--- the sign of a digit below 16: 0 to 9, then A to F
+-- the sign of a hex digit: 0 to 9, then A to F
 abbrev pub digit : ℕ → ℕ
 digit d = cond (ltb d 10) (0x30 + d) (0x41 + (d - 10))
 
@@ -20,7 +20,7 @@ decimal n = digits 20 n
 
 -- two capital hex digits
 abbrev pub hex : ℕ → List ℕ
-hex b = digit (b / 16) ∷ digit (b % 16) ∷ []
+hex b = digit (b / 0x10) ∷ digit (b % 0x10) ∷ []
 
 -- the tail's next writable address, or -
 unfoldable pub nextText : TailNext → List ℕ

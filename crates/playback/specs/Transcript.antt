@@ -13,8 +13,8 @@ use Rattle.disc.specs.Flush.{flush, flushPlan, synchronizeCache}
 use Rattle.disc.specs.Write.{flushOthers, flushOthersPlan, gather, writeTo, writeFound, write}
 use Rattle.disc.specs.Judge.{perform, judgeCommand, judge}
 use Rattle.trace.specs.Record.{badMark, readingOf, stepOf, stepAt}
-use Rattle.trace.specs.Whole.{cdbs, behind, traceOf, wholeCdbs, wholeEnd}
-use Rattle.playback.specs.Types.{Replay}
+use Rattle.trace.specs.Whole.{cdbs, positionAfter, traceOf, wholeCdbs, wholeEnd}
+use Rattle.playback.specs.Types.{BadMark, CutShort, End, Replay}
 use Rattle.playback.specs.Text.{digits, nextText, words}
 use Rattle.playback.specs.Replay.{start, lineText, onward, lastText, replayed}
 
@@ -35,7 +35,7 @@ transcript trace =
     heading
     ++ (lines start (wholeCdbs trace) ++ lastText (replayed start (wholeCdbs trace)) (stepAt trace (wholeEnd trace) .reading))
 
--- WRITE 0 of 20, WRITE 16 of 1, 35h
+-- WRITE 0 of 20, WRITE 16 of 1, SYNCHRONIZE CACHE
 abbrev pub three : List (List ℕ)
 three =
     (0x2A ∷ 0 ∷ 0 ∷ 0 ∷ 0 ∷ 0 ∷ 0 ∷ 0 ∷ 20 ∷ 0 ∷ 0 ∷ 0 ∷ [])
@@ -53,9 +53,16 @@ printedThree =
 
 pub example : transcript (traceOf three) ≡ heading ++ printedThree
 unfolding
-    transcript lines lastText replayed digits nextText words cdbs behind traceOf stepAt stepOf readingOf badMark
+    transcript lines lastText replayed digits nextText words cdbs positionAfter traceOf stepAt stepOf readingOf badMark
     blank judge judgeCommand perform decode dataLength replyRoom lengthsFit accepted accept refuse refuseLink
     isRefusalSense allowedSense listed some every find sumRecorded
     usedFirst firstAtZero followsFrom inOrder endsWithin recordedWithin zeroedWithin incompleteLast tailLast tailOrFull pendingNamed
     finalizedComplete sound allowedState flush flushPlan synchronizeCache flushOthers flushOthersPlan gather writeTo writeFound write
 example = refl
+
+-- the last line before any record: 1 bad, 1 cut, or nothing at the end of an empty trace
+pub last-lines :
+    (lastText start BadMark ≡ (0x31 ∷ 0x20 ∷ 0x62 ∷ 0x61 ∷ 0x64 ∷ 0x0A ∷ []))
+    × (lastText start CutShort ≡ (0x31 ∷ 0x20 ∷ 0x63 ∷ 0x75 ∷ 0x74 ∷ 0x0A ∷ [])) × (lastText start End ≡ [])
+unfolding lastText digits words
+last-lines = (refl, refl, refl)

@@ -13,9 +13,9 @@ pub struct Line {
     pub length: usize,
 }
 
-// The sign of a digit below 16, letters in capitals.
+// The sign of a hex digit, letters in capitals.
 fn sign(value: u8) -> u8
-    requires { ⌜ value < 16 ⌝ }
+    requires { ⌜ value < 0x10 ⌝ }
     ensures { λ r. ⌜ r ≡ digit value ⌝ }
 {
     if value < 10 {
@@ -63,7 +63,7 @@ impl Line {
     fn hex(self, byte: u8) -> Line
         ensures { λ r. ⌜ r ≡ append self (hex byte) ⌝ }
     {
-        self.push(sign(byte / 16)).push(sign(byte % 16))
+        self.push(sign(byte / 0x10)).push(sign(byte % 0x10))
     }
 
     // A space.

@@ -4,7 +4,7 @@ use mathlib.Core.Bool.{Bool, _&&_}
 use lib.Dec.{eqb, leb}
 use Rattle.protocol.specs.Types.{Command, TestUnitReady, RequestSense, ReadCapacity, Read, Write, SynchronizeCache, ReserveTrack, CloseTrackSession, ReadDiscInformation, ReadTrackInformation, Unlisted}
 
--- the whole reports of 03h, 25h, 51h and 52h
+-- the bytes of the whole reports of REQUEST SENSE, READ CAPACITY, READ DISC INFORMATION and READ TRACK INFORMATION
 abbrev pub senseLength : ℕ
 senseLength = 18
 

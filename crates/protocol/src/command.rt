@@ -1,4 +1,4 @@
-// A command as its block says it: the fields that document 01 names and no other byte.
+// A command as its command block says it: the fields that document 01 names and no other byte.
 use fragments::Lba;
 ghost use mathlib.Core.Path.{_≡_};
 ghost use Prim.Native.Nat.{_+_, _≤_};
@@ -39,7 +39,7 @@ pub enum Command {
     Unlisted,
 }
 
-// The byte at a place; 0 where there is none.
+// The byte at a place of a command block; 0 where there is none.
 fn byte_at(cdb: &[u8], at: usize) -> u8
     ensures { λ r. ⌜ r ≡ byteAt (now (cdb .entry)) at ⌝ }
 {
@@ -66,7 +66,7 @@ fn word32(cdb: &[u8], at: usize) -> u32
 }
 
 impl Command {
-    // The command of a block; bytes that are missing count as 0.
+    // The command of a command block; bytes that are missing count as 0.
     pub fn decode(cdb: &[u8]) -> Command
         ensures { λ r. ⌜ r ≡ decode (now (cdb .entry)) ⌝ }
     {

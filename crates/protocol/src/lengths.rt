@@ -7,12 +7,12 @@ ghost use Rattle.protocol.specs.Lengths.{dataLength, replyRoom, lengthsF
 // Bytes of a command block.
 pub const CDB_LENGTH: usize = 12;
 
-// Bytes of a sector, and of a block of sixteen.
+// Bytes of a sector, and of an ECC block of sixteen.
 pub const SECTOR_LENGTH: usize = 2048;
 
 pub const BLOCK_LENGTH: usize = 32768;
 
-// The whole reports of 03h, 25h, 51h and 52h.
+// Bytes of the whole reports of REQUEST SENSE, READ CAPACITY, READ DISC INFORMATION and READ TRACK INFORMATION.
 pub(crate) const SENSE_LENGTH: usize = 18;
 
 pub(crate) const CAPACITY_LENGTH: usize = 8;

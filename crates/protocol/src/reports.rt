@@ -27,7 +27,7 @@ pub struct TrackReport {
     pub session: usize,
     pub reserved: bool,
     pub blank: bool,
-    // Some block is recorded: the last recorded address is valid.
+    // Some ECC block is recorded: the last recorded address is valid.
     pub written: bool,
     // The next writable address is valid.
     pub incomplete: bool,
@@ -39,7 +39,7 @@ pub struct TrackReport {
     pub last: Lba,
 }
 
-// Bytes of the reports of 51h and 52h after the two of the length itself.
+// Bytes of the reports of READ DISC INFORMATION and READ TRACK INFORMATION after the two of the length itself.
 const DISC_INFORMATION_REST: u8 = 0x20;
 
 const TRACK_INFORMATION_REST: u8 = 0x22;

@@ -5,6 +5,15 @@
 use disc::Disc;
 use libc::STDOUT_FILENO;
 use protocol::Answer;
+use protocol::BLOCK_LENGTH;
+use protocol::CDB_LENGTH;
+use protocol::SECTOR_LENGTH;
+
+// Bytes of a medium and a pending buffer that go with no disc.
+const TINY: usize = 16;
+
+// More sectors than can be pending: with sixteen a block is recorded.
+const TOO_MANY: u8 = 16;
 
 // A line: what was tried, how many bytes of it, and the number of the answer.
 fn print(name: &[u8], length: usize, answer: Answer) {
@@ -24,19 +33,19 @@ fn ask(cdb: &[u8], disc: Disc, medium: &mut [u8], pending: &mut [u8]) -> Answer 
     response.answer
 }
 
-// A command block of so many bytes, with a medium and a pending buffer of 16.
+// A command block of so many bytes, with a medium and a pending buffer of a few bytes.
 fn ask_tiny(cdb: &[u8], disc: Disc) {
-    let mut medium = [0u8; 16];
-    let mut pending = [0u8; 16];
+    let mut medium = [0u8; TINY];
+    let mut pending = [0u8; TINY];
     print(
-        b"block",
+        b"command block",
         cdb.len(),
         ask(cdb, disc, &mut medium, &mut pending),
     );
 }
 
-// Blocks of 0 to 20 bytes: L1, and L2 where the block is right.
-fn ask_blocks(disc: Disc) {
+// Command blocks of 0 to 20 bytes: L1, and L2 where the length is right.
+fn ask_cdbs(disc: Disc) {
     let bytes = [0u8; 20];
     for length in 0..=20 {
         ask_tiny(&bytes[0..length], disc);
@@ -47,15 +56,15 @@ fn ask_blocks(disc: Disc) {
 fn ask_zero_state() {
     let made = Disc::blank(0);
     let disc = made.disc;
-    let cdb = [0u8; 12];
+    let cdb = [0u8; CDB_LENGTH];
     let mut no_medium = [0u8; 0];
-    let mut short = [0u8; 32767];
+    let mut short = [0u8; BLOCK_LENGTH - 1];
     print(
         b"pending",
         short.len(),
         ask(&cdb, disc, &mut no_medium, &mut short),
     );
-    let mut whole = [0u8; 32768];
+    let mut whole = [0u8; BLOCK_LENGTH];
     print(
         b"pending",
         whole.len(),
@@ -69,7 +78,7 @@ fn ask_zero_state() {
     );
 }
 
-// What the disc decides about an opcode with address 256, length 1 and, for 03h, allocation length 1.
+// What the disc decides about an opcode with address 256, length 1 and, for REQUEST SENSE, allocation length 1.
 fn decide(disc: Disc, opcode: u8, data: usize, reply: usize) -> Answer {
     let cdb = [opcode, 0, 0, 0, 1, 0, 0, 0, 1, 0, 0, 0];
     let verdict = disc.judge(&cdb, data, reply);
@@ -78,11 +87,21 @@ fn decide(disc: Disc, opcode: u8, data: usize, reply: usize) -> Answer {
 
 // Data and replies of wrong lengths: L4, and what the drive says where they are right.
 fn ask_lengths(disc: Disc) {
-    print(b"WRITE with data of", 2047, decide(disc, 0x2a, 2047, 0));
-    print(b"WRITE with data of", 2049, decide(disc, 0x2a, 2049, 0));
-    print(b"WRITE with data of", 2048, decide(disc, 0x2a, 2048, 0));
-    print(b"READ into", 2047, decide(disc, 0x28, 0, 2047));
-    print(b"READ into", 2048, decide(disc, 0x28, 0, 2048));
+    let short = SECTOR_LENGTH - 1;
+    let long = SECTOR_LENGTH + 1;
+    print(b"WRITE with data of", short, decide(disc, 0x2a, short, 0));
+    print(b"WRITE with data of", long, decide(disc, 0x2a, long, 0));
+    print(
+        b"WRITE with data of",
+        SECTOR_LENGTH,
+        decide(disc, 0x2a, SECTOR_LENGTH, 0),
+    );
+    print(b"READ into", short, decide(disc, 0x28, 0, short));
+    print(
+        b"READ into",
+        SECTOR_LENGTH,
+        decide(disc, 0x28, 0, SECTOR_LENGTH),
+    );
     print(b"REQUEST SENSE into", 0, decide(disc, 0x03, 0, 0));
     print(b"REQUEST SENSE into", 1, decide(disc, 0x03, 0, 1));
     print(b"READ CAPACITY into", 7, decide(disc, 0x25, 0, 7));
@@ -93,14 +112,18 @@ fn ask_lengths(disc: Disc) {
 
 // A state that breaks a rule: sixteen sectors pending.
 fn ask_unsound(mut disc: Disc) {
-    disc.pending = 16;
-    print(b"state with pending", 16, decide(disc, 0x00, 0, 0));
+    disc.pending = TOO_MANY;
+    print(
+        b"state with pending",
+        TOO_MANY as usize,
+        decide(disc, 0x00, 0, 0),
+    );
 }
 
 fn main() {
     let made = Disc::blank(300);
     let disc = made.disc;
-    ask_blocks(disc);
+    ask_cdbs(disc);
     ask_zero_state();
     ask_lengths(disc);
     ask_unsound(disc);

@@ -25,7 +25,7 @@ readingOf left =
 abbrev pub cdbOf : List ℕ → List ℕ
 cdbOf left = take 12 (drop 2 left)
 
--- no record: no block, and the position stays
+-- no record: no command block, and the position stays
 abbrev pub stopped : Reading → ℕ → Step
 stopped r at = record { reading = r; cdb = replicate 12 0; next = at }
 

@@ -13,23 +13,23 @@ isRecord BadMark = false
 isRecord CutShort = false
 isRecord End = false
 
--- the blocks of the first n records from a position on, or of as many as there are before the reader stops
+-- the command blocks of the first n records from a position on, or of as many as there are before the reader stops
 unfoldable pub cdbs : ℕ → List ℕ → ℕ → List (List ℕ)
 cdbs zero trace at = []
 cdbs (suc n) trace at =
     cond (isRecord (stepAt trace at .reading)) (stepAt trace at .cdb ∷ cdbs n trace (stepAt trace at .next)) []
 
--- the position that they lead to
-unfoldable pub behind : ℕ → List ℕ → ℕ → ℕ
-behind zero trace at = at
-behind (suc n) trace at = cond (isRecord (stepAt trace at .reading)) (behind n trace (stepAt trace at .next)) at
+-- the position after them
+unfoldable pub positionAfter : ℕ → List ℕ → ℕ → ℕ
+positionAfter zero trace at = at
+positionAfter (suc n) trace at = cond (isRecord (stepAt trace at .reading)) (positionAfter n trace (stepAt trace at .next)) at
 
 -- every record from a position on up to the stop, and where that is; there are no more records than bytes
 abbrev pub allFrom : List ℕ → ℕ → List (List ℕ)
 allFrom trace at = cdbs (length trace) trace at
 
 abbrev pub endFrom : List ℕ → ℕ → ℕ
-endFrom trace at = behind (length trace) trace at
+endFrom trace at = positionAfter (length trace) trace at
 
 -- those of a whole trace
 abbrev pub wholeCdbs : List ℕ → List (List ℕ)
@@ -38,7 +38,7 @@ wholeCdbs trace = allFrom trace 0
 abbrev pub wholeEnd : List ℕ → ℕ
 wholeEnd trace = endFrom trace 0
 
--- a trace made of blocks, each after the mark
+-- a trace made of command blocks, each after the mark
 unfoldable pub traceOf : List (List ℕ) → List ℕ
 traceOf [] = []
 traceOf (b ∷ bs) = 0xA5 ∷ 0x5A ∷ b ++ traceOf bs

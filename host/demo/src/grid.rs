@@ -80,7 +80,7 @@ pub fn sessions(map: &Map) -> Vec<Beginning> {
 }
 
 /// Labels in a row with their places, as F2 or S1. `place` gives that of a block and `width` is a
-/// letter's; a label that would run into the one before it is joined with that, as F2-4.
+/// letter's; a label less than a letter behind the one before it is joined with that, as F2-4.
 pub fn labels(
     letter: char,
     beginnings: &[Beginning],
@@ -93,7 +93,7 @@ pub fn labels(
     for &(block, number) in beginnings.iter().filter(|(block, _)| row.contains(block)) {
         let at = place(block);
         match labels.last_mut() {
-            Some((before, label)) if at < *before + width * label.len() => {
+            Some((before, label)) if at < *before + width * (label.len() + 1) => {
                 *label = format!("{letter}{first}-{number}");
             }
             _ => {

@@ -42,7 +42,8 @@ pub fn summary(map: &Map) -> Vec<String> {
     ]
 }
 
-fn count(number: usize, what: &str) -> String {
+/// So many of something.
+pub fn count(number: usize, what: &str) -> String {
     match number {
         1 => format!("1 {what}"),
         _ => format!("{number} {what}s"),
@@ -58,7 +59,7 @@ fn next_writables(map: &Map) -> String {
         .collect();
     match addresses.len() {
         0 => "none".into(),
-        many if many > ADDRESSES => format!("{many}, listed below"),
+        many if many > ADDRESSES => format!("listed below, {many} of them"),
         _ => addresses.join(", "),
     }
 }
@@ -97,7 +98,8 @@ pub fn fragments(map: &Map) -> Vec<String> {
         "in front of it",
     ]);
     let mut lines = vec![
-        "Fragments: their blocks and the recorded ones of these, with their numbers; then sectors"
+        "Fragments: blocks and recorded blocks, with how many they are; zero-filled and pending \
+         sectors; the next writable address"
             .into(),
         heading,
     ];

@@ -15,22 +15,32 @@ const GAP: usize = 2;
 const STEP: usize = CELL + GAP;
 
 /// A row: the labels above the squares, the squares, the bars under them.
-const LABELS: usize = 20;
+const LABELS: usize = 24;
 const BAR: usize = 3;
 const ROW: usize = LABELS + CELL + BAR + 1;
 
 /// Sectors to a row of a square.
 const ACROSS: usize = 4;
 
+/// The least width of the pending block, of which a disc has one at most: it is on no medium yet, and
+/// must not be lost in a square of many.
+const SEEN: f64 = 2.0;
+
+/// In front of a row, and after it, where a label of the last square has room.
 const LEFT: usize = 70;
-const WIDTH: usize = LEFT + COLUMNS * STEP + 20;
+const RIGHT: usize = 50;
+const WIDTH: usize = LEFT + COLUMNS * STEP + RIGHT;
 const TITLE: usize = 34;
 const AXIS: usize = 40;
 const LEGEND: usize = 72;
 
-/// A line of text, and a letter's width in the labels.
+/// Entries of the legend to a row, and their distance.
+const ENTRIES: usize = 3;
+const ENTRY: usize = 300;
+
+/// A line of text, and a letter's width in the labels, a bold one's.
 const LINE: usize = 15;
-const LETTER: usize = 6;
+const LETTER: usize = 7;
 
 const KINDS: [Sector; 9] = [
     Sector::Recorded,
@@ -49,7 +59,7 @@ fn name(sector: Sector) -> &'static str {
         Sector::Recorded => "recorded",
         Sector::ZeroFilled => "zero-filled",
         Sector::Pending => "pending",
-        Sector::Reserved => "reserved",
+        Sector::Reserved => "reserved and unrecorded",
         Sector::Blank => "blank",
         Sector::Dividing => "dividing",
         Sector::Closure => "Closure",
@@ -183,7 +193,7 @@ fn title(map: &Map, cell: &Range<usize>) -> String {
         .into_iter()
         .map(|kind| (kind, found.iter().flatten().filter(|&&sector| sector == kind).count()))
         .filter(|&(_, count)| count > 0)
-        .map(|(kind, count)| format!("{count} sectors {}", name(kind)))
+        .map(|(kind, count)| format!("{} {}", list::count(count, "sector"), name(kind)))
         .collect();
     let blocks = match cell.len() {
         1 => format!("block {}", cell.start),
@@ -208,15 +218,23 @@ fn block_square(svg: &mut String, x: usize, y: usize, block: &Block) {
 fn runs_square(svg: &mut String, x: usize, y: usize, blocks: &[Block], cell_blocks: usize) {
     let width = CELL as f64 / cell_blocks as f64;
     let mut at = x as f64;
+    let mut pending = None;
     for run in blocks.chunk_by(|one, next| map::character(one) == map::character(next)) {
         let run_width = width * run.len() as f64;
-        let last = run[0][run[0].len() - 1];
-        rectangle(svg, at, y, run_width, CELL, colour(run[0][0]));
-        if last != run[0][0] {
+        let (first, last) = (run[0][0], run[0][run[0].len() - 1]);
+        rectangle(svg, at, y, run_width, CELL, colour(first));
+        if last != first {
             // blocks in part zero-filled or pending: the lower half is the rest
             rectangle(svg, at, y + CELL / 2, run_width, CELL / 2, colour(last));
         }
+        if first == Sector::Pending {
+            pending = Some(at);
+        }
         at += run_width;
+    }
+    if let Some(at) = pending.filter(|_| width < SEEN) {
+        let left = at.min((x + CELL) as f64 - SEEN);
+        rectangle(svg, left, y, SEEN, CELL, colour(Sector::Pending));
     }
 }
 
@@ -252,9 +270,10 @@ fn legend(svg: &mut String, y: usize, map: &Map) {
         .filter(|&(_, count)| count > 0)
         .collect();
     for (place, (kind, count)) in present.into_iter().enumerate() {
-        let (x, y) = (LEFT + place % 4 * 225, y + place / 4 * 20);
+        let (x, y) = (LEFT + place % ENTRIES * ENTRY, y + place / ENTRIES * 20);
         rectangle(svg, x as f64, y, 14.0, 14, colour(kind));
-        text(svg, x + 20, y + 12, "", &format!("{} ({count} sectors)", name(kind)));
+        let entry = format!("{} ({})", name(kind), list::count(count, "sector"));
+        text(svg, x + 20, y + 12, "", &entry);
     }
 }
 

@@ -2,7 +2,9 @@
 //! of link refusals is tried, and every definition that it names is there.
 
 use demo::{data_bytes, fragment_list, reply_bytes, Disc, Outcome};
-use gladhamre::{blocks, raw, Lent, Refusal, State, BLOCK_BYTES, SECTOR_BYTES, STATE_WORDS};
+use gladhamre::{
+    blocks, raw, Lent, Refusal, State, BLOCK_BYTES, RECORD_LIMIT, SECTOR_BYTES, STATE_WORDS,
+};
 use std::collections::BTreeSet;
 use std::fs;
 use std::path::{Path, PathBuf};
@@ -256,6 +258,34 @@ fn link_refusals_are_what_the_drive_answers() {
     for row in rows {
         assert_eq!(lent(row[0]).answer(), row[1], "{}", row[0]);
     }
+}
+
+/// The manual's table of numbers has those of the linked drive and its wrapper.
+#[test]
+fn numbers_are_the_drives() {
+    let manual = manual();
+    let rows = table(&manual, "| What | How much | Definition |");
+    let number = |what: &str| {
+        let row = rows.iter().find(|row| row[0] == what).unwrap_or_else(|| panic!("{what}"));
+        row[1].replace(',', "")
+    };
+    for (what, is) in [
+        ("bytes of a command block", blocks::BLOCK_LENGTH.to_string()),
+        ("bytes of a sector", SECTOR_BYTES.to_string()),
+        ("sectors of a block", (BLOCK_BYTES / SECTOR_BYTES).to_string()),
+        ("bytes of a block, and of the pending buffer", BLOCK_BYTES.to_string()),
+        ("records, the tail's included", RECORD_LIMIT.to_string()),
+        ("longest READ and WRITE", format!("{} sectors", blocks::LONGEST_DATA / SECTOR_BYTES)),
+    ] {
+        assert_eq!(number(what), is, "{what}");
+    }
+    assert!(number("words of the state image").starts_with(&format!("{STATE_WORDS} ")));
+    let capacities = number("blocks of a disc");
+    let (least, most) = capacities.split_once(" to ").expect("two numbers");
+    let is_capacity = |blocks: u32| State::blank(blocks).is_ok();
+    let (least, most): (u32, u32) = (least.parse().expect("one"), most.parse().expect("one"));
+    assert!(!is_capacity(least - 1) && is_capacity(least));
+    assert!(is_capacity(most) && !is_capacity(most + 1));
 }
 
 /// The names of the definitions in the crates' specs/.

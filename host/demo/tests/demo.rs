@@ -125,32 +125,43 @@ fn kinds_are_told_apart() {
     assert_line(&finalized, "in no fragment: blocks 2-299 (298)");
 }
 
-/// A state of the largest disc with all its records: a reserved fragment of 1,000 blocks after
-/// another, and the tail.
-fn largest() -> Map {
-    let mut state = State::blank(143_444).expect("a capacity");
+/// The largest disc with all its records: reserved fragments of these lengths, each half recorded
+/// and the last recorded block zero-filled, and the tail.
+fn largest(length: impl Fn(usize) -> u32) -> Map {
+    let capacity = 143_444;
+    let mut state = State::blank(capacity).expect("a capacity");
+    let mut zero_filled = vec![false; 16 * capacity as usize];
+    let mut start = 0;
     for index in 0..63 {
-        let start = 1_001 * index;
-        let recorded = 500;
-        let reserved =
-            Record { session: 1, start, length: 1_000, recorded, zero_filled: 16, kind: 0 };
-        state.set_record(index as usize, reserved);
+        let length = length(index);
+        let recorded = length / 2;
+        state.set_record(
+            index,
+            Record { session: 1, start, length, recorded, zero_filled: 16, kind: 0 },
+        );
+        zero_filled[16 * (start + recorded - 1) as usize..][..16].fill(true);
+        start += length + 1;
     }
-    let start = 1_001 * 63;
-    let length = 143_444 - start;
+    let length = capacity - start;
     state
         .set_record(63, Record { session: 1, start, length, recorded: 0, zero_filled: 0, kind: 1 });
-    let mut zero_filled = vec![false; 16 * 143_444];
-    for index in 0..63 {
-        zero_filled[16 * (1_001 * index + 499)..][..16].fill(true);
-    }
     Map::of_state("The largest disc", &state, &zero_filled)
+}
+
+/// Fragments of 1,000 blocks.
+fn roomy() -> Map {
+    largest(|_| 1_000)
+}
+
+/// Many fragments in a cell, from the last one of the first row on.
+fn crowded() -> Map {
+    largest(|index| if index == 0 { 4_970 } else { 2 })
 }
 
 /// The largest disc with the longest list is still a page.
 #[test]
 fn large_maps_are_a_page() {
-    let map = largest();
+    let map = roomy();
     let text = printed(&map);
     assert!(text.lines().count() < 150, "{text}");
     assert!(text.lines().all(|line| line.chars().count() <= 160), "{text}");
@@ -160,18 +171,20 @@ fn large_maps_are_a_page() {
     assert_line(&text, "64        1  tail, blank           63063-143443 (80381)  -                               0        0  1009008  dividing 63062");
     let svg = image(&[map]);
     assert!(svg.len() < 1 << 20, "{} bytes", svg.len());
-    assert!(height(&svg) < 2_600, "{}", height(&svg));
+    let height = number_of(&svg, "height=\"");
+    assert!(height < 2_700, "{height}");
 }
 
-fn height(svg: &str) -> usize {
-    let from = svg.find("height=\"").expect("it has one") + 8;
-    svg[from..].split('"').next().expect("a number").parse().expect("a number")
+/// The number after the first place of an attribute.
+fn number_of(svg: &str, attribute: &str) -> usize {
+    let (_, rest) = svg.split_once(attribute).expect("it has one");
+    rest.split('"').next().expect("a number").parse().expect("a number")
 }
 
 /// The text and the image have the same rows and the same lists.
 #[test]
 fn text_and_image_agree() {
-    let maps = [largest(), mapped("disc 256\n2A 00 00000000 00 0013\n35\n5B 00 02")];
+    let maps = [roomy(), mapped("disc 256\n2A 00 00000000 00 0013\n35\n5B 00 02")];
     for map in maps {
         let text = printed(&map);
         let rows = |line: &&str| {
@@ -189,6 +202,43 @@ fn text_and_image_agree() {
         );
         let listed = text.lines().skip_while(|line| !line.starts_with("Fragments: "));
         assert_eq!(svg_labels(&svg, "xml:space=\"preserve\""), listed.collect::<Vec<_>>());
+    }
+}
+
+/// A label of an image: its row, where it begins, and its text.
+fn placed_label(line: &str) -> Option<(usize, usize, String)> {
+    let (place, label) = line.strip_prefix("<text x=\"")?.split_once("font-size=\"10\"")?;
+    let (x, rest) = place.split_once("\" y=\"")?;
+    let (y, attributes) = rest.split_once('"')?;
+    let label = label.split_once('>')?.1.strip_suffix("</text>")?;
+    attributes
+        .trim()
+        .is_empty()
+        .then(|| (y.parse().expect("a place"), x.parse().expect("a place"), label.to_owned()))
+}
+
+/// No label runs into the next one or over the edge, however many fragments begin in a cell.
+#[test]
+fn labels_keep_apart() {
+    let closed: String = (0..40)
+        .map(|at| format!("2A 00 {:08X} 00 0001\n5B 00 01 00 {:04X}\n", 32 * at, at + 1))
+        .collect();
+    for map in [roomy(), crowded(), mapped(&closed)] {
+        for row in text::rows(&map).iter().filter(|row| row.trim_start().starts_with(['S', 'F'])) {
+            let touch = |two: &[u8]| two[0].is_ascii_digit() && two[1].is_ascii_alphabetic();
+            assert!(!row.as_bytes().windows(2).any(touch), "{row}");
+        }
+        let svg = image(&[map]);
+        let mut labels: Vec<_> = svg.lines().filter_map(placed_label).collect();
+        labels.sort();
+        assert!(labels.len() > 3);
+        // letters are at most seven wide
+        let end = |(_, x, label): &(usize, usize, String)| x + 7 * label.len();
+        for pair in labels.windows(2).filter(|pair| pair[0].0 == pair[1].0) {
+            assert!(end(&pair[0]) < pair[1].1, "{pair:?}");
+        }
+        let edge = number_of(&svg, "width=\"");
+        labels.iter().for_each(|label| assert!(end(label) <= edge, "{label:?} at {edge}"));
     }
 }
 
@@ -226,6 +276,12 @@ fn pending_sectors_are_shown() {
     assert_line(&printed(&map), &format!("      0  #p{}", ".".repeat(48)));
     assert_eq!(map.blocks[1][..3], [Sector::Pending; 3]);
     assert_eq!(map.blocks[1][3..], [Sector::Blank; 13]);
+    // in the image of a large disc a block is less than a dot, this one is not
+    let mut state = State::blank(143_444).expect("a capacity");
+    state.words_mut()[5..7].copy_from_slice(&[3, 1]);
+    let large = Map::of_state("a disc", &state, &vec![false; 16 * 143_444]);
+    let seen = "width=\"2\" height=\"16\" fill=\"#f2a51f\"";
+    assert_eq!(image(&[large]).matches(seen).count(), 1);
 }
 
 #[test]
@@ -271,10 +327,19 @@ fn arguments_are_looked_at_first() {
         (&["missing.txt"], "missing.txt: there is no such script"),
         (&["--image", "missing/a.svg"], "the image cannot be written: there is no folder missing"),
         (&["--image", "src"], "the image's name src is no file's"),
+        (&["/dev/null"], "/dev/null: a script is an ordinary file"),
+        (
+            &["scripts/cold-store.txt", "--image", "./scripts/cold-store.txt"],
+            "the image would overwrite the script scripts/cold-store.txt",
+        ),
     ] {
         let refused = (Some(2), String::new(), format!("demo: {message}\n"));
         assert_eq!(asked(arguments), refused, "{arguments:?}");
     }
+    // a folder that takes no file; the reason is in the system's words
+    let (status, _, errors) = asked(&["--image", "/proc/disc.svg"]);
+    assert_eq!(status, Some(2));
+    assert!(errors.starts_with("demo: the image cannot be written: /proc/disc.svg: "), "{errors}");
 }
 
 fn demo(arguments: &[&str]) -> Output {

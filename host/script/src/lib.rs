@@ -7,7 +7,7 @@
 
 use blocks::{Block, BLOCK_LENGTH, SECTOR_BYTES};
 use std::fmt;
-use std::fs::File;
+use std::fs::{self, File};
 use std::io::Read;
 use std::path::Path;
 
@@ -76,7 +76,7 @@ pub fn parse(text: &str, folder: &Path) -> Result<Vec<Part>, ScriptError> {
     for (index, line) in text.lines().enumerate() {
         let at = |message: String| ScriptError { line: index + 1, message };
         let words: Vec<&str> =
-            line.split('#').next().unwrap_or_default().split_whitespace().collect();
+            line.split('#').next().unwrap_or_default().split_ascii_whitespace().collect();
         match words.as_slice() {
             [] => {}
             ["disc", rest @ ..] => parts.push(blank_disc(rest).map_err(at)?),
@@ -175,19 +175,30 @@ fn file(path: &Path, block: &Block) -> Result<Data, String> {
     let wanted = blocks::data_length(block) / SECTOR_BYTES;
     let says = |has: String| format!("{} has {has}, the command takes {wanted}", path.display());
     let Some(mut bytes) = read_at_most(path, wanted * SECTOR_BYTES)? else {
-        return Err(says(format!("more than {wanted} sectors")));
+        return Err(says(format!("more than {}", sectors(wanted))));
     };
-    let sectors = bytes.len().div_ceil(SECTOR_BYTES);
-    if sectors != wanted {
-        return Err(says(format!("{sectors} sectors")));
+    let found = bytes.len().div_ceil(SECTOR_BYTES);
+    if found != wanted {
+        return Err(says(sectors(found)));
     }
-    bytes.resize(sectors * SECTOR_BYTES, 0);
+    bytes.resize(found * SECTOR_BYTES, 0);
     Ok(Data::Bytes(bytes))
 }
 
-/// A file's bytes, or nothing where it has more than so many.
+fn sectors(count: usize) -> String {
+    match count {
+        1 => "1 sector".into(),
+        _ => format!("{count} sectors"),
+    }
+}
+
+/// A file's bytes, or nothing where it has more than so many. A pipe or a device is refused: opening
+/// it may wait for ever, and what it gives once it does not give again when the script is played.
 fn read_at_most(path: &Path, limit: usize) -> Result<Option<Vec<u8>>, String> {
     let named = |error| format!("{}: {error}", path.display());
+    if !fs::metadata(path).map_err(named)?.is_file() {
+        return Err(format!("{} is no ordinary file", path.display()));
+    }
     let file = File::open(path).map_err(named)?;
     let mut bytes = Vec::new();
     file.take(limit as u64 + 1).read_to_end(&mut bytes).map_err(named)?;

@@ -3,8 +3,9 @@
 
 use blocks::{Block, BLOCK_LENGTH};
 use script::{parse, Data, Part};
+use std::fs::{self, File};
 use std::io::Write;
-use std::path::Path;
+use std::path::{Path, PathBuf};
 use std::process::{Command, Output, Stdio};
 
 const ROOT: &str = concat!(env!("CARGO_MANIFEST_DIR"), "/../..");
@@ -33,7 +34,7 @@ fn scripts_are_read() {
 }
 
 /// What is no command block, with the message; tools/trace says the same.
-const NO_BLOCKS: [(&str, &str); 10] = [
+const NO_BLOCKS: [(&str, &str); 11] = [
     ("", "line 1: the script has no command"),
     ("# nothing\n\n", "line 2: the script has no command"),
     (
@@ -49,6 +50,10 @@ const NO_BLOCKS: [(&str, &str); 10] = [
     (
         "00 00 00 00 00 00 00 00 00 00 00 00 00",
         "line 1: a command block has 1 to 12 bytes, this one 13",
+    ),
+    (
+        "2A\u{a0}00",
+        "line 1: \"2A\u{a0}00\" is neither bytes in hexadecimal nor one of the words `disc` and `data`",
     ),
     ("data fill 00", "line 1: a command block has 1 to 12 bytes, this one 0"),
     ("00 data", "line 1: data is `stamp`, `fill BYTE`, `file NAME` or `length COUNT`"),
@@ -70,25 +75,46 @@ fn bad_scripts_are_refused_by_line() {
     }
 }
 
+/// A file of so many bytes, of which none is on the disk.
+fn sparse(bytes: u64) -> PathBuf {
+    let path = Path::new(env!("CARGO_TARGET_TMPDIR")).join(format!("sparse-{bytes}"));
+    File::create(&path).expect("it is made").set_len(bytes).expect("it grows");
+    path
+}
+
 /// No more of a file is read than the command takes, however long it is.
 #[test]
 fn files_have_the_sectors_that_the_command_takes() {
-    let write = "2A 00 00000000 00 0005 data file ";
-    for (name, says) in [
-        ("readings.csv", "readings.csv has 3 sectors, the command takes 5"),
-        ("/dev/null", "/dev/null has 0 sectors, the command takes 5"),
-        ("/dev/zero", "/dev/zero has more than 5 sectors, the command takes 5"),
+    let refused = |sectors: u16, name: &str| {
+        parsed(&format!("2A 00 00000000 00 {sectors:04X} data file {name}")).expect_err(name)
+    };
+    let endless = sparse(1 << 36).display().to_string();
+    for (sectors, name, says) in [
+        (5, "readings.csv", "readings.csv has 3 sectors, the command takes 5".to_owned()),
+        (5, &endless, format!("{endless} has more than 5 sectors, the command takes 5")),
+        (1, &endless, format!("{endless} has more than 1 sector, the command takes 1")),
+        (1, "/dev/zero", "/dev/zero is no ordinary file".into()),
+        (1, "..", ".. is no ordinary file".into()),
     ] {
-        let refused = parsed(&format!("{write}{name}")).expect_err(name);
-        assert!(refused.starts_with("line 1: ") && refused.ends_with(says), "{refused}");
+        let says_it = refused(sectors, name);
+        assert!(says_it.starts_with("line 1: ") && says_it.ends_with(&says), "{says_it}");
     }
-    let missing = parsed(&format!("{write}missing.csv")).expect_err("no such file");
-    assert!(missing.starts_with("line 1: ") && missing.contains("missing.csv"), "{missing}");
+    let missing = refused(5, "missing.csv");
+    assert!(missing.starts_with("line 1: ") && missing.contains("missing.csv: "), "{missing}");
     let parts = parsed("2A 00 00000000 00 0003 data file readings.csv").expect("it fits");
     let Data::Bytes(bytes) = &parts[0].commands[0].data else { panic!("a file's bytes") };
     assert_eq!(bytes.len(), 3 * blocks::SECTOR_BYTES);
-    let endless = script::read(Path::new("/dev/zero")).expect_err("it has no end");
-    assert_eq!(endless, "/dev/zero has more bytes than any script");
+    fs::remove_file(endless).expect("it was there");
+}
+
+#[test]
+fn scripts_are_ordinary_files_of_some_length() {
+    let refused = |path: &Path| script::read(path).expect_err("no script");
+    let endless = sparse(1 << 37);
+    assert_eq!(refused(&endless), format!("{} has more bytes than any script", endless.display()));
+    assert_eq!(refused(Path::new("/dev/zero")), "/dev/zero is no ordinary file");
+    assert_eq!(refused(Path::new(".")), ". is no ordinary file");
+    fs::remove_file(endless).expect("it was there");
 }
 
 /// What tools/trace makes of a script.
@@ -101,6 +127,17 @@ fn traced(text: &str) -> Output {
         .expect("tools/trace runs");
     trace.stdin.take().expect("piped").write_all(text.as_bytes()).expect("it reads");
     trace.wait_with_output().expect("it ends")
+}
+
+#[test]
+fn a_script_that_cannot_be_read_makes_no_trace() {
+    let folder = File::open(ROOT).expect("a folder opens, and cannot be read");
+    let trace = Command::new(format!("{ROOT}/tools/trace")).stdin(folder).output();
+    let refused = trace.expect("tools/trace runs");
+    assert_eq!(refused.status.code(), Some(2));
+    assert!(refused.stdout.is_empty());
+    let says = String::from_utf8_lossy(&refused.stderr).into_owned();
+    assert!(says.ends_with("trace: the script cannot be read\n"), "{says}");
 }
 
 /// The trace of command blocks: each after its mark.

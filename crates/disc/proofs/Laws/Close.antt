@@ -7,20 +7,18 @@ use borrow.Author.Tests.{ltb-true}
 use lib.Dec.{ltb}
 use lib.ListN.{length, getD, set, length-set}
 use lib.Seq.{getD-set-other}
-use Rattle.disc.specs.Types.{Kind, Disc, Appended, Nothing, EmptyTrack}
+use Rattle.disc.specs.Types.{Kind, Disc, Appended, EmptyTrack}
 use Rattle.fragments.specs.Fragment.{unusedRecord, end, complete, isReserved, isTail, nextFragmentStart, tailFrom}
 use Rattle.disc.specs.Records.{isBlank, used, isListed, numbered, withRecord}
 use Rattle.fragments.specs.List.{limit, sumRecorded}
 use Rattle.disc.specs.Rules.{at, Sound}
 use Rattle.disc.specs.Ready.{Ready}
-use Rattle.disc.specs.Verdict.{rise, accepted, refuse, plan}
-use Rattle.protocol.specs.Reply.{noReply}
-use Rattle.disc.specs.Flush.{flush, flushPlan, flushCount}
+use Rattle.disc.specs.Verdict.{rise, refuse}
+use Rattle.disc.specs.Flush.{flush, flushCount, synchronizeCache}
 use Rattle.disc.specs.Close.{filledRecord, shortenedRecord, appendTail, closeIncomplete, closeFragment}
 use Rattle.fragments.proofs.Laws.Bool.{and-right, and-both, by-cases, cond-yes, cond-no}
 use Rattle.fragments.proofs.Laws.List.{listed-le, sum-set}
-use Rattle.disc.proofs.Laws.Verdict.{accept-count}
-use Rattle.disc.proofs.Laws.Flush.{rise-flush, flush-sum, flush-sound, flush-ready}
+use Rattle.disc.proofs.Laws.Flush.{flush-sum, flush-sound}
 
 -- a tail put after a record adds no recorded block
 pub append-sum :
@@ -74,14 +72,11 @@ module _ (d : Disc) (n : ℕ) (l : isListed d n ≡ true) where
   close-blank b = cond-no (not (isListed d n)) _ _ (ap not l) ∙ cond-yes (isBlank d n (numbered d n)) _ _ b
 
   module _ (b : isBlank d n (numbered d n) ≡ false) where
-    pub close-complete :
-        Ready d → complete (numbered (flush d) n) ≡ true
-        → closeFragment d n ≡ accepted (flush d) (flushCount d) noReply (plan (flushPlan d) Nothing)
-    unfolding closeFragment
-    close-complete r c =
+    pub close-complete : complete (numbered (flush d) n) ≡ true → closeFragment d n ≡ synchronizeCache d
+    unfolding closeFragment synchronizeCache
+    close-complete c =
         cond-no (not (isListed d n)) _ _ (ap not l)
-        ∙ (cond-no (isBlank d n (numbered d n)) _ _ b
-        ∙ (cond-yes (complete (numbered (flush d) n)) _ _ c ∙ accept-count d (flush d) noReply (plan (flushPlan d) Nothing) (flushCount d) (rise-flush d r)))
+        ∙ (cond-no (isBlank d n (numbered d n)) _ _ b ∙ cond-yes (complete (numbered (flush d) n)) _ _ c)
 
     pub close-incomplete :
         (k : Kind) → complete (numbered (flush d) n) ≡ false → numbered (flush d) n .kind ≡ k → closeFragment d n ≡ closeIncomplete d (flush d) n k

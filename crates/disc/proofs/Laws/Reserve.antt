@@ -7,16 +7,15 @@ use borrow.Author.Tests.{eqb-true, eq-eqb, ne-eqb, le-leb, lt-leb}
 use lib.Dec.{eqb, leb}
 use lib.ListN.{getD, set, length-set}
 use lib.Seq.{getD-set-other}
-use Rattle.disc.specs.Types.{WideBlock, Fragment, Disc, NoMoreReservations, EndOfUserArea}
+use Rattle.disc.specs.Types.{Fragment, Disc, NoMoreReservations, EndOfUserArea}
 use Rattle.fragments.specs.Fragment.{unusedRecord, end, nextFragmentStart, tailFrom}
 use Rattle.disc.specs.Records.{pendingIn, isBlank, used, lastRecord, withRecord, hasTail, hasBlankTail}
 use Rattle.fragments.specs.List.{limit, sumRecorded}
 use Rattle.disc.specs.Rules.{Sound}
 use Rattle.disc.specs.Verdict.{rise, accepted, refuse, noPlan}
 use Rattle.protocol.specs.Reply.{noReply}
-use Rattle.fragments.specs.Address.{blocksFor, wide}
+use Rattle.fragments.specs.Address.{blocksFor}
 use Rattle.disc.specs.Reserve.{reservedAt, splitTail, reserve}
-use Rattle.fragments.proofs.Laws.Address.{wide-number}
 use Rattle.fragments.proofs.Laws.Bool.{and-left, and-right, cond-no}
 use Rattle.fragments.proofs.Laws.List.{listed-le, sum-set}
 use Rattle.disc.proofs.Laws.Verdict.{accept-count}
@@ -72,10 +71,3 @@ module _ (d : Disc) (size : ℕ) (f : d .finalized ≡ false) (z : size ≡ 0 �
         ∙ (cond-no (eqb (used d) limit) _ _ (ne-eqb _ _ u)
         ∙ (cond-no (leb (d .capacity) (nextFragmentStart (end (reservedAt (lastRecord d) (blocksFor size))) .0)) _ _ (lt-leb _ _ h)
         ∙ accept-count d (splitTail d (blocksFor size)) noReply noPlan 0 none))))
-
--- where the code finds the new tail to start
-pub split-start :
-    (d : Disc) (n b : ℕ) (f : Fragment) (k : WideBlock)
-    → n ≡ used d → f ≡ reservedAt (getD (d .fragments) (n - 1) unusedRecord) b → k ≡ wide (nextFragmentStart (end f))
-    → k .0 ≡ nextFragmentStart (end (reservedAt (lastRecord d) b)) .0
-split-start d n b f k en ef ek = wide-number (rw (ef, en) at ek)

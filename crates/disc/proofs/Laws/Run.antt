@@ -11,7 +11,7 @@ use lib.Dec.{eqb, ltb}
 use lib.ListN.{length, drop, length-take}
 use Rattle.protocol.proofs.command.Command as command
 use Rattle.disc.proofs.verdict.Transfer as transfer
-use Rattle.disc.specs.Types.{Lba, Disc, Command, TestUnitReady, RequestSense, ReadCapacity, Read, Write, SynchronizeCache, ReserveTrack, CloseTrackSession, ReadDiscInformation, ReadTrackInformation, Unlisted}
+use Rattle.disc.specs.Types.{Lba, Disc, Transfer, Nothing, Send, Gather, Fill, Command, TestUnitReady, RequestSense, ReadCapacity, Read, Write, SynchronizeCache, ReserveTrack, CloseTrackSession, ReadDiscInformation, ReadTrackInformation, Unlisted}
 use Rattle.fragments.specs.Address.{lba, sectorsIn}
 use Rattle.fragments.specs.List.{some}
 use Rattle.disc.specs.Records.{records, readable}
@@ -23,10 +23,18 @@ use Rattle.disc.specs.Ready.{Ready}
 use Rattle.disc.specs.Read.{allReadable, sends, read}
 use Rattle.disc.specs.Verdict.{accepted, accept, refuse}
 use Rattle.fragments.specs.Fragment.{holdsRun}
-use Rattle.disc.specs.Run.{stretch, sent, sentBy, served, recordedRun, RunOf}
+use Rattle.disc.specs.Run.{stretch, sent, sentWithin, sentBy, served, recordedRun, RunOf}
 use Rattle.fragments.proofs.Laws.Bool.{and-left, and-right, by-cases}
 use Rattle.disc.proofs.Laws.Read.{all-readable-at, run-test, transfer-cases}
 use Rattle.fragments.proofs.Laws.Numbers.{equal-cases}
+
+-- transfers that send nothing, by their places among the variants
+pub no-sectors : (t : Transfer) (medium : List ℕ) → OneOf (0 ∷ 2 ∷ 3 ∷ []) (tagOf transfer.the-type t) → sentWithin t medium ≡ []
+unfolding sentWithin
+no-sectors Nothing medium h = refl
+no-sectors (Send a n) medium h = absurd (miss (0 ∷ 2 ∷ 3 ∷ []) 1 tt h)
+no-sectors (Gather b p n) medium h = refl
+no-sectors (Fill b n) medium h = refl
 
 -- commands that send nothing, by their places among the variants
 abbrev pub withoutRun : List ℕ

@@ -66,11 +66,6 @@ module _ (d : Disc) (n : ℕ) (r : Ready d) (from : 1 ≤ n) where
   unfolding flushOthers flushOthersCount
   others-sum = by-cases (eqb (d .owner) n) (λ e. rw e (omega arith)) (λ e. rw e (flush-sum d r))
 
-  pub others-few : d .pending < 16 → flushOthers d n .pending < 16
-  unfolding flushOthers flush
-  others-few h =
-      by-cases (eqb (d .owner) n) (λ e. rw e h) (λ e. by-cases (eqb (d .pending) 0) (λ z. rw (e, z) h) (λ z. rw (e, z) (omega arith)))
-
 pub others-length : (d : Disc) (n : ℕ) → length (flushOthers d n .fragments) ≡ length (d .fragments)
 unfolding flushOthers
 others-length d n = by-cases (eqb (d .owner) n) (λ e. rw e) (λ e. rw e (flush-length d))
@@ -122,7 +117,7 @@ fit d a number n p w h =
 
 pub gathering :
     (d : Disc) (a : Lba) (number n : ℕ) → Ready d → Writable d a number
-    → a .0 + n ≤ firstSector (end (numbered d number)) .0 → Gathering (flushOthers d number) number n
+    → a .0 + n ≤ firstSector (end (numbered d number)) .0 → Gathering d number n
 gathering d a number n r w h =
     let p = place d a number r w in
     let f = fit d a number n p w h in
@@ -130,9 +125,8 @@ gathering d a number n r w h =
       from = w .from;
       to = p .slot;
       sectors = omega (arith, f .sectors);
-      pending = others-few d number r (w .from) (p .pending);
-      blocks =
-          rw (others-numbered d number r (w .from), others-pending d number r (w .from)) (omega (arith, f .blocks, p .ends));
+      pending = p .pending;
+      blocks = omega (arith, f .blocks, p .ends);
     }
 
 -- the count of an accepted WRITE

@@ -8,8 +8,9 @@ use lib.Seq.{length-take-le}
 use types.Run.{OneOf, miss}
 use denote.Enum.Declared.{tagOf}
 use Rattle.disc.proofs.verdict.Transfer.{the-type}
-use Rattle.disc.specs.Run.{recordedRun}
-use Rattle.drive.specs.Types.{Lba, Disc, Reply, Transfer, Nothing, Send, Gather, Fill}
+use Rattle.disc.specs.Run.{sentWithin}
+use borrow.Author.Tests.{le-ltb}
+use Rattle.drive.specs.Types.{Lba, Reply, Transfer, Nothing, Send, Gather, Fill}
 use Rattle.drive.specs.Bytes.{splice}
 use Rattle.drive.specs.Reply.{sentBytes, Sendable}
 
@@ -21,12 +22,12 @@ report-put r buffer after h e =
     let k : r .length - 0 ≡ r .length = omega arith in
     (sym (length-take-le (r .length) (r .bytes) h), e ∙ ap (λ (n : ℕ). splice buffer 0 (take n (r .bytes))) k)
 
--- what a READ sends is the recorded run
+-- what a READ sends is the run that the lower layer hands out
 pub run-sent :
-    (d : Disc) (b medium : List ℕ) (t : Transfer) (r : Reply) (m : ℕ) → Sendable d b medium t r m → (a : Lba) (n : ℕ) → t ≡ Send a n
-    → recordedRun d b medium ≡ sentBytes t r medium
-unfolding sentBytes
-run-sent d b medium t r m s a n e = s .run a n e ∙ rw e
+    (medium : List ℕ) (t : Transfer) (r : Reply) (m : ℕ) → Sendable medium t r m → (a : Lba) (n : ℕ) → t ≡ Send a n
+    → sentWithin t medium ≡ sentBytes t r medium
+unfolding sentBytes sentWithin
+run-sent medium t r m s a n e = rw (e, le-ltb _ _ (s .within a n e))
 
 -- every other command sends its report
 pub report-sent :

@@ -1,7 +1,7 @@
 -- One step: which verdict it carries out, and that what the code asks for that is there.
-use mathlib.Core.Path.{_≡_, refl, sym, ap, _∙_}
+use mathlib.Core.Path.{_≡_, refl, sym, ap, subst, _∙_}
 use mathlib.Core.Bool.{true, false, not}
-use Prim.Native.Nat.{ℕ, _*_, _≤_}
+use Prim.Native.Nat.{ℕ, _+_, _*_, _≤_}
 use native.Mathlib.Omega.{arith}
 use borrow.Author.Tests.{eq-eqb, ne-eqb, eqb-true, eqb-false}
 use mathlib.Core.List.{List}
@@ -12,13 +12,14 @@ use Rattle.protocol.specs.Command.{decode}
 use Rattle.disc.specs.Judge.{judge}
 use Rattle.disc.specs.Lent.{TransferFits, RunFits, Fits}
 use Rattle.disc.specs.Verdict.{refuseLink, rise}
+use Rattle.disc.specs.Decision.{affected, changed, decided}
 use Rattle.fragments.proofs.Laws.Bool.{and-left, and-right, cond-cases, by-cases}
 use Rattle.disc.proofs.Laws.Judge.{Decided, onLink, judge-decided, decided-rise, decided-most, judge-block}
-use Rattle.disc.proofs.Laws.Lent.{judge-fits, judge-run}
-use Rattle.drive.specs.Types.{Disc, LinkRefusal, CommandBlockLength, MediumSize, Reply, Transfer, Nothing, Send, Gather, Fill, Verdict, Response}
+use Rattle.disc.proofs.Laws.Lent.{judge-fits}
+use Rattle.drive.specs.Types.{Lba, Disc, LinkRefusal, Decision, Outcome, CommandBlockLength, MediumSize, Reply, Transfer, Nothing, Send, Gather, Fill, Verdict, Response}
 use Rattle.drive.specs.Moves.{flushedMedium, flushedPending, transferredMedium, transferredPending, movedMedium, movedPending}
 use Rattle.drive.specs.Reply.{sentBytes}
-use Rattle.drive.specs.Step.{Drive, Request, lent, verdictOn, carriedOut, step, Feasible, CarriedOut, refused, Answered}
+use Rattle.drive.specs.Step.{Drive, Request, lent, verdictOn, carriedOut, step, Feasible, CarriedOut, declined, responseOf, Answered, Served}
 use Rattle.drive.proofs.Laws.Bytes.{splice-nil}
 
 -- the lower layer's laws of a decision hold of the verdict: it is a link refusal or what the disc decides
@@ -99,22 +100,26 @@ judgement s q l =
       decided = judge-decided d (q .cdb) n m;
     }
 
+-- a READ's sectors lie in the medium
+sent-within : (t : Transfer) (l n : ℕ) → TransferFits l n t → (a : Lba) (k : ℕ) → t ≡ Send a k → 2048 * (a .0 + k) ≤ l
+sent-within t l n f a k e = subst (TransferFits l n) e f
+
 -- what the code that carries a decision out asks is there
-pub judge-feasible :
-    (s : Drive) (q : Request) → length (q .cdb) ≡ 12 → lent (s .disc) (length (s .medium)) (length (s .pending)) ≡ true
-    → Feasible (judge (s .disc) (q .cdb) (length (q .payload)) (length (q .buffer))) s q
-judge-feasible s q block h =
+pub decided-feasible :
+    (s : Drive) (q : Request) (d : Decision) → lent (s .disc) (length (s .medium)) (length (s .pending)) ≡ true
+    → decided (s .disc) d ≡ judge (s .disc) (q .cdb) (length (q .payload)) (length (q .buffer))
+    → Feasible (d .plan) (d .reply) (q .payload) (s .medium) (s .pending) (q .buffer)
+unfolding decided
+decided-feasible s q d h e =
     let n = length (q .payload) in
     let m = length (q .buffer) in
-    let whole = lent-medium (s .disc) (length (s .medium)) (length (s .pending)) h in
-    let v = judge (s .disc) (q .cdb) n m in
     let j = judgement s q h in
-    let f = j .fits in
+    let f : Fits (length (s .medium)) n m (decided (s .disc) d) = rw e (j .fits) in
     record {
       sends =
           record {
-            run = λ a k e. judge-run (s .disc) (q .cdb) (s .medium) n m a k block whole e;
-            room = sent-room (v .plan .transfer) (v .reply) (s .medium) n m (f .transfer) (f .run) (f .report);
+            within = sent-within (d .plan .transfer) (length (s .medium)) n (f .transfer);
+            room = sent-room (d .plan .transfer) (d .reply) (s .medium) n m (f .transfer) (f .run) (f .report);
             report = f .report;
             whole = f .whole;
           };
@@ -123,10 +128,21 @@ judge-feasible s q block h =
       transfer = f .transfer;
     }
 
--- a verdict carried out keeps the whole promise, the count's rise and bound included
-pub verdict-answered :
+-- the response of a verdict whose reply has so many bytes
+abbrev response : Verdict → ℕ → Response
+response v n = record { answer = v .answer; disc = v .disc; length = n; recorded = v .recorded }
+
+-- a verdict carried out, as response and buffers
+record Carried (v : Verdict) (s : Drive) (q : Request) (r : Response) (medium pending buffer : List ℕ) : Type 0 where
+  responds : r ≡ response v (length (carriedOut v s q .reply))
+  recordedMedium : medium ≡ carriedOut v s q .after .medium
+  keptPending : pending ≡ carriedOut v s q .after .pending
+  filledBuffer : buffer ≡ carriedOut v s q .buffer
+
+-- it keeps the whole promise, the count's rise and bound included
+verdict-answered :
     (s : Drive) (q : Request) (v : Verdict) (r : Response) (medium pending buffer : List ℕ) → v ≡ verdictOn s q
-    → CarriedOut v s q r medium pending buffer → Answered s q r medium pending buffer
+    → Carried v s q r medium pending buffer → Answered s q r medium pending buffer
 unfolding step carriedOut
 verdict-answered s q v r medium pending buffer same out =
     let w : Decided (s .disc) (decode (q .cdb)) (length (q .payload)) (length (q .buffer)) v = rw same (verdict-decided s q) in
@@ -147,11 +163,25 @@ verdict-answered s q v r medium pending buffer same out =
       bounded = λ a n c. rw count (decided-most (s .disc) v a n c w);
     }
 
+-- a decision carried out is served
+pub decided-served :
+    (s : Drive) (q : Request) (d : Decision) (r : Outcome) (medium pending buffer : List ℕ) → decided (s .disc) d ≡ verdictOn s q
+    → CarriedOut d (q .payload) (s .medium) (s .pending) (q .buffer) r medium pending buffer → Served s q r medium pending buffer
+unfolding decided carriedOut
+decided-served s q d r medium pending buffer same out =
+    verdict-answered s q (decided (s .disc) d) (responseOf (s .disc) r) medium pending buffer same
+    (record {
+      responds = ap (responseOf (s .disc)) (out .responds);
+      recordedMedium = out .recordedMedium;
+      keptPending = out .keptPending;
+      filledBuffer = out .filledBuffer;
+    })
+
 -- a link refusal leaves every buffer as it is
-pub refused-answered :
-    (s : Drive) (q : Request) (x : LinkRefusal) (r : Response) → refuseLink (s .disc) x ≡ verdictOn s q → r ≡ refused (s .disc) x
-    → Answered s q r (s .medium) (s .pending) (q .buffer)
-unfolding carriedOut refuseLink sentBytes movedMedium movedPending transferredMedium transferredPending flushedMedium flushedPending
-refused-answered s q x r same e =
-    verdict-answered s q (refuseLink (s .disc) x) r (s .medium) (s .pending) (q .buffer) same
-    (record { responds = e; recordedMedium = refl; keptPending = refl; filledBuffer = sym (splice-nil (q .buffer) 0) })
+pub declined-served :
+    (s : Drive) (q : Request) (x : LinkRefusal) (r : Outcome) → refuseLink (s .disc) x ≡ verdictOn s q → r ≡ declined (s .disc .sense) x
+    → Served s q r (s .medium) (s .pending) (q .buffer)
+unfolding carriedOut refuseLink sentBytes movedMedium movedPending transferredMedium transferredPending flushedMedium flushedPending changed affected
+declined-served s q x r same e =
+    verdict-answered s q (refuseLink (s .disc) x) (responseOf (s .disc) r) (s .medium) (s .pending) (q .buffer) same
+    (record { responds = ap (responseOf (s .disc)) e; recordedMedium = refl; keptPending = refl; filledBuffer = sym (splice-nil (q .buffer) 0) })

@@ -13,7 +13,7 @@ pub record Carrying (from count : ℕ) (before now : List ℕ) (i : ℕ) : Type 
   pub some : i ≤ count
   pub same : length now ≡ length before
   pub front : take i now ≡ take i (drop from before)
-  pub behind : drop i now ≡ drop i before
+  pub rest : drop i now ≡ drop i before
 
 pub carrying-more :
     (from count : ℕ) (b n : List ℕ) (i : ℕ) → i < count → from + count ≤ length b → Carrying from count b n i
@@ -22,7 +22,7 @@ carrying-more from count b n i h k w =
     let l : length n ≡ length b = w .same in
     let q : i + from ≡ from + i = omega arith in
     let v : getD n (from + i) 0 ≡ getD b (from + i) 0 =
-    rw (← q) (sym (getD-drop i n from 0) ∙ ap (λ (x : List ℕ). getD x from 0) (w .behind) ∙ getD-drop i b from 0) in
+    rw (← q) (sym (getD-drop i n from 0) ∙ ap (λ (x : List ℕ). getD x from 0) (w .rest) ∙ getD-drop i b from 0) in
     record {
       some = omega arith;
       same = length-set n i _ ∙ l;
@@ -30,8 +30,8 @@ carrying-more from count b n i h k w =
           rw (add-one i)
           (take-suc-set n i _ (omega arith)
           ∙ rw (w .front, v) (rw (take-suc (drop from b) i 0 (omega (arith, length-drop from b)), getD-drop)));
-      behind =
-          drop-set-lt (i + 1) n i _ (omega arith) ∙ sym (drop-drop 1 i n) ∙ ap (drop 1) (w .behind) ∙ drop-drop 1 i b;
+      rest =
+          drop-set-lt (i + 1) n i _ (omega arith) ∙ sym (drop-drop 1 i n) ∙ ap (drop 1) (w .rest) ∙ drop-drop 1 i b;
     }
 
 pub carrying-all :

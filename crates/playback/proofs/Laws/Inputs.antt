@@ -70,7 +70,7 @@ module _ (p : Progress) (b : List ℕ) (s : Stop) (fits : p .filled ≤ length b
       record {
         replay = rw e (stopped .replay);
         front = λ h. absurd (true≢false (sym (ap (λ (x : Progress). x .ended) e) ∙ h));
-        behind = λ h. absurd (true≢false (sym (ap (λ (x : Progress). x .ended) e) ∙ h));
+        counted = λ h. absurd (true≢false (sym (ap (λ (x : Progress). x .ended) e) ∙ h));
         within = rw e (omega arith);
         same = l;
       }
@@ -83,7 +83,7 @@ module _ (p : Progress) (b : List ℕ) (s : Stop) (fits : p .filled ≤ length b
       record {
         replay = stopped .replay;
         front = λ h. rw (← q, ← stopped .at) (m .front ∙ c .front);
-        behind = λ h. rw (← q) (m .behind);
+        counted = λ h. rw (← q) (m .counted);
         within = omega (arith, m .within, m .same);
         same = m .same ∙ c .same;
       }

@@ -13,7 +13,7 @@ use Rattle.trace.specs.Types.{Record, BadMark, CutShort, End}
 use Rattle.trace.specs.Record.{isWrong, badMark, readingOf, stepOf, stopped, stepAt}
 use Rattle.trace.specs.Whole.{isRecord, allFrom, endFrom, wholeCdbs, wholeEnd}
 use Rattle.trace.proofs.Laws.Record.{Marked, marked-record, step-end}
-use Rattle.trace.proofs.Laws.Whole.{by-cases, reading-step, block-step, record-found, whole-next, whole-stop}
+use Rattle.trace.proofs.Laws.Whole.{by-cases, reading-step, cdb-step, record-found, whole-next, whole-stop}
 
 pub record-early : (a b : List ℕ) (at : ℕ) → isRecord (stepAt a at .reading) ≡ true → stepAt (a ++ b) at ≡ stepAt a at
 unfolding stepAt stepOf
@@ -100,7 +100,7 @@ alike t p at =
     let l = drop at (drop p t) in
     record {
       reading = rw (shifted t p at) (reading-step (readingOf l) l (p + at) ∙ sym (reading-step (readingOf l) l at));
-      cdb = rw (shifted t p at) (block-step (readingOf l) l (p + at) at);
+      cdb = rw (shifted t p at) (cdb-step (readingOf l) l (p + at) at);
     }
 
 record Left (t : List ℕ) (p at : ℕ) : Type 0 where

@@ -11,14 +11,14 @@ use lib.ListN.{length, take, drop, length-append, length-take, length-drop, take
 use lib.Seq.{take-at, drop-at, drop-cons, drop-drop}
 use Rattle.trace.specs.Types.{Reading, Record, BadMark, CutShort, End}
 use Rattle.trace.specs.Record.{readingOf, stepOf, stepAt}
-use Rattle.trace.specs.Whole.{isRecord, cdbs, behind, traceOf, allTwelve, allFrom, endFrom, wholeCdbs, wholeEnd}
+use Rattle.trace.specs.Whole.{isRecord, cdbs, positionAfter, traceOf, allTwelve, allFrom, endFrom, wholeCdbs, wholeEnd}
 use Rattle.trace.proofs.Laws.Record.{Marked, record-marked, marked-record, step-none, step-end}
 
 pub by-cases {ℓ} : {P : Type ℓ} (b : Bool) → (b ≡ true → P) → (b ≡ false → P) → P
 by-cases true yes-case no-case = yes-case refl
 by-cases false yes-case no-case = no-case refl
 
--- the step at a record: its block stands after the mark, and the position goes after it
+-- the step at a record: its command block stands after the mark, and the position goes after it
 is-record : (r : Reading) → isRecord r ≡ true → r ≡ Record
 is-record Record h = refl
 is-record BadMark h = absurd (false≢true h)
@@ -32,13 +32,13 @@ reading-step BadMark left at = refl
 reading-step CutShort left at = refl
 reading-step End left at = refl
 
--- the block does not depend on the position that the bytes are said to stand at
-pub block-step : (r : Reading) (left : List ℕ) (at bt : ℕ) → stepOf r left at .cdb ≡ stepOf r left bt .cdb
+-- the command block does not depend on the position that the bytes are said to stand at
+pub cdb-step : (r : Reading) (left : List ℕ) (at bt : ℕ) → stepOf r left at .cdb ≡ stepOf r left bt .cdb
 unfolding stepOf
-block-step Record left at bt = refl
-block-step BadMark left at bt = refl
-block-step CutShort left at bt = refl
-block-step End left at bt = refl
+cdb-step Record left at bt = refl
+cdb-step BadMark left at bt = refl
+cdb-step CutShort left at bt = refl
+cdb-step End left at bt = refl
 
 pub record Found (t : List ℕ) (at : ℕ) : Type 0 where
   pub marked : Marked (drop at t)
@@ -52,7 +52,7 @@ record-found t at h =
     let r : readingOf l ≡ Record = is-record (readingOf l) (ap isRecord (sym (reading-step (readingOf l) l at)) ∙ h) in
     record { marked = record-marked l r; cdb = rw r; next = rw r }
 
--- what is left at a record is the mark, its block, and what is left after it
+-- what is left at a record is the mark, its command block, and what is left after it
 marked-split : (l : List ℕ) → Marked l → l ≡ 0xA5 ∷ 0x5A ∷ take 12 (drop 2 l) ++ drop 14 l
 marked-split l m =
     let long : 14 ≤ length l = m .long in
@@ -62,8 +62,8 @@ marked-split l m =
     ∙ ap (λ (x : List ℕ). 0xA5 ∷ 0x5A ∷ x) (sym (take-append-drop 12 (drop 2 l)) ∙ ap (λ (x : List ℕ). take 12 (drop 2 l) ++ x) (drop-drop 12 2 l))
 
 -- the records read from a position on, put back after their marks, and what is left at the stop are the trace from that position on
-pub split-from : (n : ℕ) (t : List ℕ) (at : ℕ) → traceOf (cdbs n t at) ++ drop (behind n t at) t ≡ drop at t
-unfolding cdbs behind traceOf
+pub split-from : (n : ℕ) (t : List ℕ) (at : ℕ) → traceOf (cdbs n t at) ++ drop (positionAfter n t at) t ≡ drop at t
+unfolding cdbs positionAfter traceOf
 split-from zero t at = refl
 split-from (suc n) t at =
     by-cases (isRecord (stepAt t at .reading))
@@ -72,7 +72,7 @@ split-from (suc n) t at =
     let l = drop at t in
     rw (h, f .cdb, f .next)
     (ap (λ (x : List ℕ). 0xA5 ∷ 0x5A ∷ x)
-    (append-assoc (take 12 (drop 2 l)) (traceOf (cdbs n t (at + 14))) (drop (behind n t (at + 14)) t)
+    (append-assoc (take 12 (drop 2 l)) (traceOf (cdbs n t (at + 14))) (drop (positionAfter n t (at + 14)) t)
     ∙ ap (λ (x : List ℕ). take 12 (drop 2 l) ++ x) (split-from n t (at + 14) ∙ sym (drop-drop 14 at t)))
     ∙ sym (marked-split l (f .marked))))
     (λ h. rw h)
@@ -81,7 +81,7 @@ split-from (suc n) t at =
 pub split : (t : List ℕ) → traceOf (wholeCdbs t) ++ drop (wholeEnd t) t ≡ t
 split t = split-from (length t) t 0
 
--- each block has twelve bytes
+-- each command block has twelve bytes
 pub cdbs-twelve : (n : ℕ) (t : List ℕ) (at : ℕ) → allTwelve (cdbs n t at) ≡ true
 unfolding cdbs allTwelve
 cdbs-twelve zero t at = refl
@@ -95,8 +95,8 @@ cdbs-twelve (suc n) t at =
     (λ h. rw h)
 
 -- where the reader stops there is no record
-stop-from : (n : ℕ) (t : List ℕ) (at : ℕ) → length t ≤ at + n → isRecord (stepAt t (behind n t at) .reading) ≡ false
-unfolding behind
+stop-from : (n : ℕ) (t : List ℕ) (at : ℕ) → length t ≤ at + n → isRecord (stepAt t (positionAfter n t at) .reading) ≡ false
+unfolding positionAfter
 stop-from zero t at h = rw (step-end t at (omega arith))
 stop-from (suc n) t at h =
     by-cases (isRecord (stepAt t at .reading))
@@ -106,7 +106,7 @@ stop-from (suc n) t at h =
 pub whole-stops : (t : List ℕ) → isRecord (stepAt t (wholeEnd t) .reading) ≡ false
 whole-stops t = stop-from (length t) t 0 (omega arith)
 
--- a record made of a block is read back
+-- a record made of a command block is read back
 made-marked : (b r : List ℕ) → length b ≡ 12 → Marked (0xA5 ∷ 0x5A ∷ b ++ r)
 made-marked b r h = record { long = omega (arith, length-append b r); first = refl; second = refl }
 
@@ -129,8 +129,8 @@ made t at b r h e =
 
 read-from :
     (bs : List (List ℕ)) (n : ℕ) (t : List ℕ) (at : ℕ) → allTwelve bs ≡ true → drop at t ≡ traceOf bs → length bs ≤ n
-    → (cdbs n t at ≡ bs) × (behind n t at ≡ at + length (traceOf bs))
-unfolding cdbs behind traceOf allTwelve
+    → (cdbs n t at ≡ bs) × (positionAfter n t at ≡ at + length (traceOf bs))
+unfolding cdbs positionAfter traceOf allTwelve
 read-from [] zero t at a e h = (refl, omega arith)
 read-from [] (suc n) t at a e h = (rw (step-none t at e), rw (step-none t at e) (omega arith))
 read-from (b ∷ bs) zero t at a e h = absurd (not-suc-le-zero h)
@@ -149,7 +149,7 @@ unfolding traceOf
 fewer [] = omega arith
 fewer (b ∷ bs) = omega (arith, fewer bs, length-append b (traceOf bs))
 
--- a trace made of blocks is read as exactly those, and then it is at its end
+-- a trace made of command blocks is read as exactly those, and then it is at its end
 pub read-back : (bs : List (List ℕ)) → allTwelve bs ≡ true → wholeCdbs (traceOf bs) ≡ bs
 read-back bs a = read-from bs (length (traceOf bs)) (traceOf bs) 0 a refl (fewer bs) .0
 
@@ -158,8 +158,8 @@ read-back-end bs a = read-from bs (length (traceOf bs)) (traceOf bs) 0 a refl (f
 
 -- room for one record more changes nothing where there are no more bytes than records to come
 enough :
-    (n : ℕ) (t : List ℕ) (at : ℕ) → length t ≤ at + n → (cdbs (suc n) t at ≡ cdbs n t at) × (behind (suc n) t at ≡ behind n t at)
-unfolding cdbs behind
+    (n : ℕ) (t : List ℕ) (at : ℕ) → length t ≤ at + n → (cdbs (suc n) t at ≡ cdbs n t at) × (positionAfter (suc n) t at ≡ positionAfter n t at)
+unfolding cdbs positionAfter
 enough zero t at h = (rw (step-end t at (omega arith)), rw (step-end t at (omega arith)))
 enough (suc n) t at h =
     by-cases (isRecord (stepAt t at .reading))
@@ -177,7 +177,7 @@ pub record Next (t : List ℕ) (at : ℕ) : Type 0 where
   pub onward : endFrom t at ≡ endFrom t (stepAt t at .next)
 
 next-of : (t : List ℕ) (at m : ℕ) → isRecord (stepAt t at .reading) ≡ true → length t ≡ suc m → Next t at
-unfolding cdbs behind
+unfolding cdbs positionAfter
 next-of t at m h q =
     let i = enough m t (stepAt t at .next) (omega (arith, record-found t at h .next)) in
     record {
@@ -190,8 +190,8 @@ whole-next t at h =
     next-of t at (length t - 1) h (omega (arith, record-found t at h .marked .long, length-drop at t))
 
 -- no record, so none from there on
-none-of : (n : ℕ) (t : List ℕ) (at : ℕ) → isRecord (stepAt t at .reading) ≡ false → (cdbs n t at ≡ []) × (behind n t at ≡ at)
-unfolding cdbs behind
+none-of : (n : ℕ) (t : List ℕ) (at : ℕ) → isRecord (stepAt t at .reading) ≡ false → (cdbs n t at ≡ []) × (positionAfter n t at ≡ at)
+unfolding cdbs positionAfter
 none-of zero t at h = (refl, refl)
 none-of (suc n) t at h = (rw h, rw h)
 

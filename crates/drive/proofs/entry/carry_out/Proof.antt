@@ -1,5 +1,6 @@
-use Rattle.drive.specs.Step.{response, carriedOut}
-use mathlib.Core.Path.{ap}
+use Rattle.drive.specs.Step.{outcome}
+use mathlib.Core.Path.{_≡_, refl, sym, _∙_, ap}
+use native.Mathlib.Omega.{arith}
 use borrow.Author.Needs.{needs}
 use Rattle.drive.proofs.entry.carry_out.Statement.{statement}
 use Rattle.drive.proofs.entry.carry_out.Tie as tie
@@ -8,32 +9,25 @@ use Rattle.drive.proofs.entry.carry_out.Lts as lts
 use Rattle.drive.proofs.reply.send.Reads as send-reads
 use Rattle.drive.proofs.transfer.carry_out.Reads as carry-out-reads
 
--- src/entry.rt:57:9
 send-requires : tie.Need-send-requires
 send-requires c κs = search needs
 
--- src/entry.rt:58:5
 carry-out-requires : tie.Need-carry-out-requires
 carry-out-requires c κs = search needs
 
--- src/entry.rt:43:1
 same-length : tie.Need-same-length
 same-length c = search needs
 
--- src/entry.rt:43:1
 same-length-2 : tie.Need-same-length-2
 same-length-2 c = search needs
 
--- src/entry.rt:43:1
 same-length-3 : tie.Need-same-length-3
 same-length-3 c = search needs
 
--- src/entry.rt:43:1
 returns : tie.Need-returns
-unfolding carriedOut
 returns c =
     record {
-      responds = ap (response (c .before .before .before .before .before .before .before .before .before .before .before .before .before .before .before .before .before .before .before .args .verdict)) (c .before .before .before .before .before .before .before .before .before .before .send .ensures .0);
+      responds = ap (outcome (c .before .before .before .before .before .before .before .before .before .before .before .before .before .before .before .before .before .before .before .args .decision)) (c .before .before .before .before .before .before .before .before .before .before .send .ensures .0);
       recordedMedium = c .before .before .before .before .before .carry-out .ensures .0;
       keptPending = c .before .before .before .before .before .carry-out .ensures .1;
       filledBuffer = c .before .before .before .before .before .before .before .before .before .before .send .ensures .1;

@@ -1,34 +1,29 @@
 use lib.ListN.{length}
-use Rattle.disc.specs.Run.{recordedRun}
+use Rattle.disc.specs.Run.{sentWithin}
 use Rattle.drive.specs.Bytes.{splice}
-use mathlib.Core.Path.{_≡_, _∙_, ap}
+use mathlib.Core.Path.{_≡_, refl, sym, _∙_, ap}
 use native.Mathlib.Omega.{arith}
 use borrow.Author.Needs.{needs}
 use Rattle.drive.proofs.reply.send_run.Statement.{statement}
 use Rattle.drive.proofs.reply.send_run.Tie as tie
 use Rattle.drive.proofs.reply.send_run.Reads as reads
 use Rattle.drive.proofs.reply.send_run.Lts as lts
-use Rattle.disc.proofs.state.Disc.recorded_run.Reads as recorded-run-reads
+use Rattle.disc.proofs.verdict.Transfer.run.Reads as run-reads
 use Rattle.drive.proofs.bytes.put.Reads as put-reads
 
--- src/reply.rt:31:9
-recorded-run-requires : tie.Need-recorded-run-requires
-recorded-run-requires c κs = search needs
+run-requires : tie.Need-run-requires
+run-requires c κs = search needs
 
--- src/reply.rt:32:5
 put-requires : tie.Need-put-requires
 put-requires c κs =
-    let start = c .before .before .before .before .before in
-    let e : length (c .before .recorded-run .result .now) ≡ length (recordedRun (start .args .disc) (start .args .cdb .now) (start .args .medium .now)) = ap length (c .before .recorded-run .ensures .stretch) in
-    omega (arith, e, start .pre)
+    let e : length (c .before .run .result .now) ≡ length (sentWithin (c .before .before .before .before .args .transfer) (c .before .before .before .before .args .medium .now)) = ap length (c .before .run .ensures) in
+    omega (arith, e, c .before .before .before .before .pre)
 
--- src/reply.rt:26:1
 same-length : tie.Need-same-length
 same-length c = search needs
 
--- src/reply.rt:26:1
 returns : tie.Need-returns
-returns c = (ap length (c .before .before .before .before .recorded-run .ensures .stretch), c .before .before .put .ensures ∙ ap (splice (c .before .before .before .before .before .before .before .before .args .reply .now) 0) (c .before .before .before .before .recorded-run .ensures .stretch))
+returns c = (ap length (c .before .before .before .before .run .ensures), c .before .before .put .ensures ∙ ap (splice (c .before .before .before .before .before .before .before .args .reply .now) 0) (c .before .before .before .before .run .ensures))
 
 pub send-run-spec : {M : Type 1} → statement M
-send-run-spec = tie.close (tie.spec recorded-run-requires put-requires same-length returns)
+send-run-spec = tie.close (tie.spec run-requires put-requires same-length returns)

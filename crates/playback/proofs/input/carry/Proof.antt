@@ -16,7 +16,7 @@ sub-count : tie.Need-sub-count Inv-loop μ-loop
 sub-count c = search needs
 
 loop-holds : tie.Need-loop-holds Inv-loop μ-loop
-loop-holds c = record { some = omega arith; same = refl; front = refl; behind = refl }
+loop-holds c = record { some = omega arith; same = refl; front = refl; rest = refl }
 
 add-buffer : tie.Need-add-buffer Inv-loop μ-loop
 add-buffer c = search needs

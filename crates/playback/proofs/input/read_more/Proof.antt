@@ -40,7 +40,7 @@ returns : tie.Need-returns
 returns c =
     let s = c .before .before .before .before .before .before .before .before in
     record {
-      behind = search needs;
+      counted = search needs;
       within = search needs;
       front = take-put (s .args .held) (length (s .args .buffer .now) - s .args .held) (s .args .buffer .now) (c .before .before .before .before .before .read .last .1 .0) (omega arith);
       same = search needs;

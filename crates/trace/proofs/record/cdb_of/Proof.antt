@@ -9,10 +9,10 @@ use Rattle.trace.proofs.record.cdb_of.Statement.{statement}
 use Rattle.trace.proofs.record.cdb_of.Tie as tie
 
 abbrev Inv-loop : tie.InvT-loop
-Inv-loop left block₀ i₀ cdb i = (i ≤ 12) × (length cdb ≡ 12) × (take i cdb ≡ take i (drop 2 left))
+Inv-loop left cdb₀ i₀ cdb i = (i ≤ 12) × (length cdb ≡ 12) × (take i cdb ≡ take i (drop 2 left))
 
 abbrev μ-loop : tie.MeasureT-loop
-μ-loop left block₀ i₀ cdb i = 12 - i
+μ-loop left cdb₀ i₀ cdb i = 12 - i
 
 loop-holds : tie.Need-loop-holds Inv-loop μ-loop
 loop-holds c = (search needs, refl, refl)

@@ -1,46 +1,26 @@
-use borrow.Author.Tests.{ne-eqb}
-use Rattle.disc.specs.Close.{close}
+use Rattle.disc.specs.Decision.{affected}
+use mathlib.Core.Path.{_≡_, refl, sym, _∙_, ap}
+use native.Mathlib.Omega.{arith}
 use borrow.Author.Needs.{needs}
 use Rattle.disc.proofs.state.Disc.close.Statement.{statement}
 use Rattle.disc.proofs.state.Disc.close.Tie as tie
+use Rattle.disc.proofs.state.Disc.close.Reads as reads
+use Rattle.disc.proofs.state.Disc.close.Lts as lts
+use Rattle.disc.proofs.state.Disc.flush.Reads as flush-reads
+use Rattle.disc.proofs.state.Disc.with_entry.Reads as with-entry-reads
 
-close-fragment-requires : tie.Need-close-fragment-requires
-close-fragment-requires c κs = search needs
+flush-requires : tie.Need-flush-requires
+flush-requires c κs = search needs
 
-close-session-requires : tie.Need-close-session-requires
-close-session-requires c κs = search needs
+with-entry-requires : tie.Need-with-entry-requires
+with-entry-requires c κs = search needs
 
-finalize-requires : tie.Need-finalize-requires
-finalize-requires c κs = search needs
-
-refused-requires : tie.Need-refused-requires
-refused-requires c κs = search needs
+with-entry-requires-2 : tie.Need-with-entry-requires-2
+with-entry-requires-2 c κs = search needs
 
 returns : tie.Need-returns
-unfolding close
-returns c = rw (c .close-fragment .ensures, c .before .match .keys1)
-
-returns-2 : tie.Need-returns-2
-unfolding close
-returns-2 c = rw (c .close-session .ensures, c .before .match .keys2)
-
-returns-3 : tie.Need-returns-3
-unfolding close
-returns-3 c = rw (c .finalize .ensures, c .before .match .keys3)
-
-returns-4 : tie.Need-returns-4
-unfolding close
-returns-4 c = rw (c .refused .ensures, ne-eqb _ _ (c .before .match .rest .0 .0 .1), ne-eqb _ _ (c .before .match .rest .0 .1), ne-eqb _ _ (c .before .match .rest .1))
+unfolding affected
+returns c = rw (c .with-entry2 .ensures, c .before .with-entry .ensures, c .before .before .flush .ensures)
 
 pub close-spec : {M : Type 1} → statement M
-close-spec =
-    tie.close
-    (tie.spec
-    close-fragment-requires
-    close-session-requires
-    finalize-requires
-    refused-requires
-    returns
-    returns-2
-    returns-3
-    returns-4)
+close-spec = tie.close (tie.spec flush-requires with-entry-requires with-entry-requires-2 returns)

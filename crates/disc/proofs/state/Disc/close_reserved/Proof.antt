@@ -1,75 +1,82 @@
-use mathlib.Core.Path.{sym}
-use native.Mathlib.Omega.{arith}
-use Rattle.disc.specs.Flush.{flush}
-use Rattle.disc.specs.Close.{closeIncomplete}
-use Rattle.disc.proofs.Laws.Flush.{used-limit, numbers, flush-ready}
+use Prim.Native.Nat.{_+_, _-_}
+use Rattle.disc.specs.Verdict.{accepted, plan}
+use Rattle.disc.specs.Types.{Fill}
+use Rattle.protocol.specs.Reply.{noReply}
+use Rattle.fragments.specs.Fragment.{firstUnrecorded}
+use Rattle.disc.specs.Flush.{flush, flushPlan, flushCount}
+use Rattle.disc.specs.Close.{closeIncomplete, filledRecord}
+use Rattle.disc.specs.Records.{numbered}
+use Rattle.disc.proofs.Laws.Flush.{numbers, flush-ready}
 use Rattle.disc.proofs.Laws.Verdict.{accept-count}
 use Rattle.disc.proofs.Laws.Write.{flush-count-most}
 use Rattle.disc.proofs.Laws.Close.{fill-count}
+use Rattle.disc.proofs.Laws.Decision.{decided-accepted, affected-filled}
+use mathlib.Core.Path.{_≡_, refl, sym, _∙_, ap}
+use native.Mathlib.Omega.{arith}
 use borrow.Author.Needs.{needs}
 use Rattle.disc.proofs.state.Disc.close_reserved.Statement.{statement}
 use Rattle.disc.proofs.state.Disc.close_reserved.Tie as tie
+use Rattle.disc.proofs.state.Disc.close_reserved.Reads as reads
+use Rattle.disc.proofs.state.Disc.close_reserved.Lts as lts
 use Rattle.disc.proofs.change.filled.Reads as filled-reads
 use Rattle.disc.proofs.change.first_unrecorded.Reads as first-unrecorded-reads
-use Rattle.disc.proofs.state.Disc.with_record.Reads as with-record-reads
-use Rattle.disc.proofs.verdict.Plan.new.Reads as new-reads
-use Rattle.disc.proofs.verdict.Verdict.accepted.Reads as accepted-reads
-use Rattle.protocol.proofs.reply.Reply.none.Reads as none-reads
-
-sub-f : tie.Need-sub-f
-sub-f c = search needs
-
-mul-f : tie.Need-mul-f
-mul-f c =
-    let d = flush (c .before .args .self) in
-    let r = flush-ready (c .before .args .self) (c .before .pre .0) in
-    omega (arith, used-limit d r, c .before .pre .1 .1)
-
-element-copy-out-f : tie.Need-element-copy-out-f
-element-copy-out-f c =
-    let d = flush (c .before .args .self) in
-    let r = flush-ready (c .before .args .self) (c .before .pre .0) in
-    omega (arith, used-limit d r, c .before .pre .1 .1)
+use Rattle.disc.proofs.decision.Decision.accepted.Reads as accepted-reads
+use Rattle.disc.proofs.decision.Entry.new.Reads as decision-Entry-new-reads
+use Rattle.disc.proofs.decision.Entry.none.Reads as decision-Entry-none-reads
+use Rattle.disc.proofs.verdict.Plan.new.Reads as verdict-Plan-new-reads
+use Rattle.protocol.proofs.reply.Reply.none.Reads as reply-Reply-none-reads
 
 sub-blocks : tie.Need-sub-blocks
 sub-blocks c =
-    let d = flush (c .before .before .before .args .self) in
-    let r = flush-ready (c .before .before .before .args .self) (c .before .before .before .pre .0) in
-    let m = numbers d (c .before .before .before .args .number) r (c .before .before .before .pre .1 .1 .0) (c .before .before .before .pre .1 .1 .1) in
-    rw (c .before .before .before .pre .1 .0) (m .recorded)
+    let d = c .before .args .self in
+    let n = c .before .args .number in
+    let r = c .before .pre .0 in
+    let first = c .before .pre .1 .0 in
+    let f = c .before .pre .1 .1 .1 in
+    let m = numbers (flush d) n (flush-ready d r) (c .before .pre .1 .1 .0 .0) (c .before .pre .1 .1 .0 .1) in
+    rw f (m .recorded)
 
 first-unrecorded-requires : tie.Need-first-unrecorded-requires
 first-unrecorded-requires c κs =
-    let d = flush (c .before .before .before .args .self) in
-    let r = flush-ready (c .before .before .before .args .self) (c .before .before .before .pre .0) in
-    let m = numbers d (c .before .before .before .args .number) r (c .before .before .before .pre .1 .1 .0) (c .before .before .before .pre .1 .1 .1) in
-    rw (c .before .before .before .pre .1 .0) (omega (arith, m .ends, m .recorded))
+    let d = c .before .args .self in
+    let n = c .before .args .number in
+    let r = c .before .pre .0 in
+    let first = c .before .pre .1 .0 in
+    let f = c .before .pre .1 .1 .1 in
+    let m = numbers (flush d) n (flush-ready d r) (c .before .pre .1 .1 .0 .0) (c .before .pre .1 .1 .0 .1) in
+    rw f (omega (arith, m .ends, m .recorded))
 
 new-requires : tie.Need-new-requires
 new-requires c κs = search needs
 
 filled-requires : tie.Need-filled-requires
 filled-requires c κs =
-    let d = flush (c .before .before .before .before .before .args .self) in
-    let r = flush-ready (c .before .before .before .before .before .args .self) (c .before .before .before .before .before .pre .0) in
-    let m = numbers d (c .before .before .before .before .before .args .number) r (c .before .before .before .before .before .pre .1 .1 .0) (c .before .before .before .before .before .pre .1 .1 .1) in
-    rw (c .before .before .before .before .before .pre .1 .0) (m .recorded, omega (arith, m .ends), m .zeroed)
+    let d = c .before .before .before .before .args .self in
+    let n = c .before .before .before .before .args .number in
+    let r = c .before .before .before .before .pre .0 in
+    let first = c .before .before .before .before .pre .1 .0 in
+    let f = c .before .before .before .before .pre .1 .1 .1 in
+    let m = numbers (flush d) n (flush-ready d r) (c .before .before .before .before .pre .1 .1 .0 .0) (c .before .before .before .before .pre .1 .1 .0 .1) in
+    rw f (m .recorded, omega (arith, m .ends), m .zeroed)
 
-with-record-requires : tie.Need-with-record-requires
-with-record-requires c κs =
-    let d = flush (c .before .before .before .before .before .before .args .self) in
-    let r = flush-ready (c .before .before .before .before .before .before .args .self) (c .before .before .before .before .before .before .pre .0) in
-    (c .before .before .before .before .before .before .pre .1 .1 .0, omega (arith, used-limit d r, c .before .before .before .before .before .before .pre .1 .1))
-
-add-accepted : tie.Need-add-accepted
-add-accepted c =
-    let d = flush (c .before .before .before .before .before .before .before .before .args .self) in
-    let r = flush-ready (c .before .before .before .before .before .before .before .before .args .self) (c .before .before .before .before .before .before .before .before .pre .0) in
-    let m = numbers d (c .before .before .before .before .before .before .before .before .args .number) r (c .before .before .before .before .before .before .before .before .pre .1 .1 .0) (c .before .before .before .before .before .before .before .before .pre .1 .1 .1) in
-    rw (c .before .before .before .before .before .before .before .before .pre .1 .0) (omega (arith, m .ends, m .recorded, flush-count-most (c .before .before .before .before .before .before .before .before .args .self)))
+new-requires-2 : tie.Need-new-requires-2
+new-requires-2 c κs = search needs
 
 none-requires : tie.Need-none-requires
 none-requires c κs = search needs
+
+add-accepted : tie.Need-add-accepted
+add-accepted c =
+    let d = c .before .before .before .before .before .before .before .before .args .self in
+    let n = c .before .before .before .before .before .before .before .before .args .number in
+    let r = c .before .before .before .before .before .before .before .before .pre .0 in
+    let first = c .before .before .before .before .before .before .before .before .pre .1 .0 in
+    let f = c .before .before .before .before .before .before .before .before .pre .1 .1 .1 in
+    let m = numbers (flush d) n (flush-ready d r) (c .before .before .before .before .before .before .before .before .pre .1 .1 .0 .0) (c .before .before .before .before .before .before .before .before .pre .1 .1 .0 .1) in
+    rw (f, first) (omega (arith, m .ends, flush-count-most d))
+
+none-requires-2 : tie.Need-none-requires-2
+none-requires-2 c κs = search needs
 
 accepted-requires : tie.Need-accepted-requires
 accepted-requires c κs = search needs
@@ -77,22 +84,28 @@ accepted-requires c κs = search needs
 returns : tie.Need-returns
 unfolding closeIncomplete
 returns c =
-    rw (c .accepted .ensures, c .before .none .ensures, c .before .before .before .with-record .ensures, c .before .before .before .before .filled .ensures, c .before .before .before .before .before .new .ensures, c .before .before .before .before .before .before .first-unrecorded .ensures, c .before .before .before .before .before .before .before .before .before .before .pre .1 .0)
-    (sym (accept-count (c .before .before .before .before .before .before .before .before .before .before .args .self) _ _ _ _ (fill-count (c .before .before .before .before .before .before .before .before .before .before .args .self) (c .before .before .before .before .before .before .before .before .before .before .args .number) (c .before .before .before .before .before .before .before .before .before .before .pre .0) (c .before .before .before .before .before .before .before .before .before .before .pre .1 .1 .0) (c .before .before .before .before .before .before .before .before .before .before .pre .1 .1 .1))))
+    let d = c .before .before .before .before .before .before .before .before .before .before .args .self in
+    let n = c .before .before .before .before .before .before .before .before .before .before .args .number in
+    let r = c .before .before .before .before .before .before .before .before .before .before .pre .0 in
+    let first = c .before .before .before .before .before .before .before .before .before .before .pre .1 .0 in
+    let f = c .before .before .before .before .before .before .before .before .before .before .pre .1 .1 .1 in
+    let m = numbers (flush d) n (flush-ready d r) (c .before .before .before .before .before .before .before .before .before .before .pre .1 .1 .0 .0) (c .before .before .before .before .before .before .before .before .before .before .pre .1 .1 .0 .1) in
+    let g = numbered (flush d) n in
+    rw (c .accepted .ensures, decided-accepted, c .before .none2 .ensures, c .before .before .before .none .ensures, c .before .before .before .before .new2 .ensures, c .before .before .before .before .before .filled .ensures, c .before .before .before .before .before .before .before .new .ensures, c .before .before .before .before .before .before .before .before .first-unrecorded .ensures, f, first)
+    (ap (λ x. accepted x (flushCount d + (g .length - g .recorded)) noReply (plan (flushPlan d) (Fill (firstUnrecorded g) (g .length - g .recorded)))) (affected-filled d n (filledRecord g) r (c .before .before .before .before .before .before .before .before .before .before .pre .1 .1 .0 .0))
+    ∙ sym (accept-count d _ _ _ _ (fill-count d n r (c .before .before .before .before .before .before .before .before .before .before .pre .1 .1 .0 .0) (c .before .before .before .before .before .before .before .before .before .before .pre .1 .1 .0 .1))))
 
 pub close-reserved-spec : {M : Type 1} → statement M
 close-reserved-spec =
     tie.close
     (tie.spec
-    sub-f
-    mul-f
-    element-copy-out-f
     sub-blocks
     first-unrecorded-requires
     new-requires
     filled-requires
-    with-record-requires
-    add-accepted
+    new-requires-2
     none-requires
+    add-accepted
+    none-requires-2
     accepted-requires
     returns)

@@ -1,24 +1,31 @@
-use mathlib.Core.Path.{_≡_, sym, _∙_, ap}
-use native.Mathlib.Omega.{arith}
-use Rattle.disc.specs.Flush.{flush}
-use Rattle.fragments.specs.List.{lastOf}
-use Rattle.disc.specs.Close.{closeTail}
+use Rattle.fragments.specs.List.{limit}
+use Rattle.disc.specs.Records.{used}
 use Rattle.fragments.proofs.Laws.Address.{wide-number}
-use Rattle.disc.proofs.Laws.Flush.{flush-ready, flush-sound, flush-pending, flush-capacity}
-use Rattle.disc.proofs.Laws.Session.{kept, kept-few, kept-capacity, session-idle, session-incomplete, session-full, session-past, session-done}
+use Rattle.disc.specs.Verdict.{accepted, plan}
+use Rattle.disc.specs.Types.{Nothing}
+use Rattle.protocol.specs.Reply.{noReply}
+use Rattle.disc.specs.Flush.{flush, flushPlan, flushCount}
+use Rattle.disc.specs.Close.{closeTail, closingLast}
+use Rattle.disc.proofs.Laws.Flush.{flush-sound, flush-pending}
+use Rattle.disc.proofs.Laws.Session.{kept, kept-few, session-idle, session-incomplete, session-full, session-past, session-done}
+use Rattle.disc.proofs.Laws.Decision.{decided-refused, decided-accepted, decided-unchanged, affected-session}
+use mathlib.Core.Path.{_≡_, refl, sym, _∙_, ap}
+use native.Mathlib.Omega.{arith}
 use borrow.Author.Needs.{needs}
 use Rattle.disc.proofs.state.Disc.close_session.Statement.{statement}
 use Rattle.disc.proofs.state.Disc.close_session.Tie as tie
+use Rattle.disc.proofs.state.Disc.close_session.Reads as reads
+use Rattle.disc.proofs.state.Disc.close_session.Lts as lts
+use Rattle.disc.proofs.change.tail_from.Reads as tail-from-reads
+use Rattle.disc.proofs.close.close_last.Reads as close-last-reads
+use Rattle.disc.proofs.decision.Decision.refused.Reads as refused-reads
+use Rattle.disc.proofs.decision.Decision.unchanged.Reads as unchanged-reads
+use Rattle.disc.proofs.decision.Entry.new.Reads as new-reads
 use Rattle.disc.proofs.state.Disc.blank_tail_only.Reads as blank-tail-only-reads
-use Rattle.disc.proofs.state.Disc.close_tail.Reads as close-tail-reads
-use Rattle.disc.proofs.state.Disc.flush.Reads as flush-reads
-use Rattle.disc.proofs.state.Disc.has_incomplete_reserved.Reads as has-incomplete-reserved-reads
-use Rattle.disc.proofs.state.Disc.last.Reads as last-reads
-use Rattle.disc.proofs.state.Disc.open_session.Reads as open-session-reads
-use Rattle.disc.proofs.verdict.Plan.new.Reads as new-reads
-use Rattle.disc.proofs.verdict.Verdict.accepted.Reads as accepted-reads
-use Rattle.disc.proofs.verdict.Verdict.refused.Reads as refused-reads
-use Rattle.disc.proofs.verdict.Verdict.unchanged.Reads as unchanged-reads
+use Rattle.disc.proofs.state.Disc.flushing.Reads as flushing-reads
+use Rattle.disc.proofs.state.Disc.last_flushed.Reads as last-flushed-reads
+use Rattle.disc.proofs.state.Disc.last_kept.Reads as last-kept-reads
+use Rattle.disc.proofs.state.Disc.stays_incomplete.Reads as stays-incomplete-reads
 use Rattle.fragments.proofs.fragment.Fragment.next_session_start.Reads as next-session-start-reads
 use Rattle.protocol.proofs.reply.Reply.none.Reads as none-reads
 
@@ -32,25 +39,38 @@ unchanged-requires : tie.Need-unchanged-requires
 unchanged-requires c κs = search needs
 
 returns : tie.Need-returns
-returns c = rw (c .unchanged .ensures, c .before .none .ensures) (sym (session-idle (c .before .before .before .before .before .args .self) (rw (c .before .before .before .before .blank-tail-only .ensures) at (c .before .before .if1 .taken))))
+returns c = rw (c .unchanged .ensures, c .before .none .ensures, decided-unchanged) (sym (session-idle (c .before .before .before .before .before .args .self) (rw (c .before .before .before .before .blank-tail-only .ensures) at (c .before .before .if1 .taken))))
 
-flush-requires : tie.Need-flush-requires
-flush-requires c κs = search needs
+flushing-requires : tie.Need-flushing-requires
+flushing-requires c κs = search needs
 
-has-incomplete-reserved-requires : tie.Need-has-incomplete-reserved-requires
-has-incomplete-reserved-requires c κs = search needs
+stays-incomplete-requires : tie.Need-stays-incomplete-requires
+stays-incomplete-requires c κs =
+    let d = c .before .before .before .before .before .args .self in
+    let fe = ap (λ x. x .entry) (c .before .flushing .ensures) in
+    (c .before .before .before .before .before .pre, fe)
 
 refused-requires : tie.Need-refused-requires
 refused-requires c κs = search needs
 
 returns-2 : tie.Need-returns-2
-returns-2 c = rw (c .refused .ensures) (sym (session-incomplete (c .before .before .before .before .before .before .before .before .args .self) (rw (c .before .before .before .before .before .before .before .blank-tail-only .ensures) at (c .before .before .before .before .before .if1 .left)) (rw (c .before .before .before .before .flush .ensures) at (sym (c .before .before .has-incomplete-reserved .ensures) ∙ c .before .if2 .taken))))
+returns-2 c =
+    let d = c .before .before .before .before .before .before .before .before .args .self in
+    let fe = ap (λ x. x .entry) (c .before .before .before .before .flushing .ensures) in
+    let h = rw (c .before .before .before .before .before .before .before .blank-tail-only .ensures) at (c .before .before .before .before .before .if1 .left) in
+    rw (c .refused .ensures, decided-refused) (sym (session-incomplete d h (sym (c .before .before .stays-incomplete .ensures) ∙ c .before .if2 .taken)))
 
-close-tail-requires : tie.Need-close-tail-requires
-close-tail-requires c κs = rw (c .before .before .before .flush .ensures) (flush-ready (c .before .before .before .before .before .before .before .args .self) (c .before .before .before .before .before .before .before .pre))
+last-flushed-requires : tie.Need-last-flushed-requires
+last-flushed-requires c κs =
+    let d = c .before .before .before .before .before .before .before .args .self in
+    let fe = ap (λ x. x .entry) (c .before .before .before .flushing .ensures) in
+    (c .before .before .before .before .before .before .before .pre, fe)
 
-last-requires : tie.Need-last-requires
-last-requires c κs = search needs
+last-kept-requires : tie.Need-last-kept-requires
+last-kept-requires c κs =
+    let d = c .before .before .before .before .before .before .before .before .args .self in
+    let fe = ap (λ x. x .entry) (c .before .before .before .before .flushing .ensures) in
+    (c .before .before .before .before .before .before .before .before .pre, (fe, c .last-flushed .ensures))
 
 refused-requires-2 : tie.Need-refused-requires-2
 refused-requires-2 c κs = search needs
@@ -58,18 +78,20 @@ refused-requires-2 c κs = search needs
 returns-3 : tie.Need-returns-3
 returns-3 c =
     let d = c .before .before .before .before .before .before .before .before .before .before .before .before .args .self in
-    let k = rw (c .before .before .before .before .before .before .before .before .flush .ensures) at (c .before .before .before .before .close-tail .ensures) in
-    let l : c .before .before .before .last .result ≡ lastOf (closeTail (flush d) .fragments) = rw k at (c .before .before .before .last .ensures) in
-    rw (c .refused2 .ensures) (sym (session-full d (rw (c .before .before .before .before .before .before .before .before .before .before .before .blank-tail-only .ensures) at (c .before .before .before .before .before .before .before .before .before .if1 .left)) (rw (c .before .before .before .before .before .before .before .before .flush .ensures) at (sym (c .before .before .before .before .before .before .has-incomplete-reserved .ensures) ∙ c .before .before .before .before .before .if2 .left)) (sym (ap (λ x. x .number) l) ∙ c .before .if3 .taken)))
-
-cast-if4 : tie.Need-cast-if4
-cast-if4 c = search needs
+    let fe = ap (λ x. x .entry) (c .before .before .before .before .before .before .before .before .flushing .ensures) in
+    let h = rw (c .before .before .before .before .before .before .before .before .before .before .before .blank-tail-only .ensures) at (c .before .before .before .before .before .before .before .before .before .if1 .left) in
+    let i = sym (c .before .before .before .before .before .before .stays-incomplete .ensures) ∙ c .before .before .before .before .before .if2 .left in
+    let l = c .before .before .before .last-kept .ensures in
+    rw (c .refused2 .ensures, decided-refused) (sym (session-full d h i (sym (ap (λ x. x .number) l) ∙ c .before .if3 .taken)))
 
 next-session-start-requires : tie.Need-next-session-start-requires
 next-session-start-requires c κs = search needs
 
+cast-if4 : tie.Need-cast-if4
+cast-if4 c = search needs
+
 add-if4 : tie.Need-add-if4
-add-if4 c = rw (c .before .next-session-start .ensures) (search needs)
+add-if4 c = rw (c .before .before .next-session-start .ensures) (search needs)
 
 refused-requires-3 : tie.Need-refused-requires-3
 refused-requires-3 c κs = search needs
@@ -77,44 +99,51 @@ refused-requires-3 c κs = search needs
 returns-4 : tie.Need-returns-4
 returns-4 c =
     let d = c .before .before .before .before .before .before .before .before .before .before .before .before .before .before .before .before .before .args .self in
-    let k = rw (c .before .before .before .before .before .before .before .before .before .before .before .before .before .flush .ensures) at (c .before .before .before .before .before .before .before .before .before .close-tail .ensures) in
-    let l : c .before .before .before .before .before .before .before .before .last .result ≡ lastOf (closeTail (flush d) .fragments) = rw k at (c .before .before .before .before .before .before .before .before .last .ensures) in
-    let n = rw l at (wide-number (c .before .before .before .next-session-start .ensures)) in
-    rw (c .refused3 .ensures) (sym (session-past d (rw (c .before .before .before .before .before .before .before .before .before .before .before .before .before .before .before .before .blank-tail-only .ensures) at (c .before .before .before .before .before .before .before .before .before .before .before .before .before .before .if1 .left)) (rw (c .before .before .before .before .before .before .before .before .before .before .before .before .before .flush .ensures) at (sym (c .before .before .before .before .before .before .before .before .before .before .before .has-incomplete-reserved .ensures) ∙ c .before .before .before .before .before .before .before .before .before .before .if2 .left)) (λ e. c .before .before .before .before .before .before .if3 .left (ap (λ x. x .number) l ∙ e)) (omega (arith, n, c .before .if4 .taken))))
+    let fe = ap (λ x. x .entry) (c .before .before .before .before .before .before .before .before .before .before .before .before .before .flushing .ensures) in
+    let h = rw (c .before .before .before .before .before .before .before .before .before .before .before .before .before .before .before .before .blank-tail-only .ensures) at (c .before .before .before .before .before .before .before .before .before .before .before .before .before .before .if1 .left) in
+    let i = sym (c .before .before .before .before .before .before .before .before .before .before .before .stays-incomplete .ensures) ∙ c .before .before .before .before .before .before .before .before .before .before .if2 .left in
+    let l = c .before .before .before .before .before .before .before .before .last-kept .ensures in
+    let u : used (closeTail (flush d)) ≡ limit → ⊥ = λ e. c .before .before .before .before .before .before .if3 .left (ap (λ x. x .number) l ∙ e) in
+    let n = wide-number (rw l at (c .before .before .before .before .next-session-start .ensures)) in
+    rw (c .refused3 .ensures, decided-refused) (sym (session-past d h i u (rw n at (c .before .if4 .taken))))
+
+add-tail-from : tie.Need-add-tail-from
+add-tail-from c =
+    let d = c .before .before .before .before .before .before .before .before .before .before .before .before .before .before .before .before .before .args .self in
+    let m = kept (flush d) (flush-sound d (c .before .before .before .before .before .before .before .before .before .before .before .before .before .before .before .before .before .pre)) (flush-pending d) in
+    omega (arith, ap (λ x. x .fragment .session) (c .before .before .before .before .before .before .before .before .last-kept .ensures), m .sessions)
+
+cast-t20 : tie.Need-cast-t20
+cast-t20 c = search needs
+
+tail-from-requires : tie.Need-tail-from-requires
+tail-from-requires c κs = search needs
+
+add-new : tie.Need-add-new
+add-new c =
+    let d = c .before .before .before .before .before .before .before .before .before .before .before .before .before .before .before .before .before .before .before .before .args .self in
+    let l = c .before .before .before .before .before .before .before .before .before .before .before .last-kept .ensures in
+    omega (arith, ap (λ x. x .number) l, kept-few (flush d) (flush-sound d (c .before .before .before .before .before .before .before .before .before .before .before .before .before .before .before .before .before .before .before .before .pre)) (flush-pending d) (λ e. c .before .before .before .before .before .before .before .before .before .if3 .left (ap (λ x. x .number) l ∙ e)))
 
 new-requires : tie.Need-new-requires
 new-requires c κs = search needs
 
-open-session-requires : tie.Need-open-session-requires
-open-session-requires c κs =
-    let d = c .before .before .before .before .before .before .before .before .before .before .before .before .before .before .before .before .before .args .self in
-    let k = rw (c .before .before .before .before .before .before .before .before .before .before .before .before .before .flush .ensures) at (c .before .before .before .before .before .before .before .before .before .close-tail .ensures) in
-    let l : c .before .before .before .before .before .before .before .before .last .result ≡ lastOf (closeTail (flush d) .fragments) = rw k at (c .before .before .before .before .before .before .before .before .last .ensures) in
-    let n = rw l at (wide-number (c .before .before .before .next-session-start .ensures)) in
-    let s = flush-sound d (c .before .before .before .before .before .before .before .before .before .before .before .before .before .before .before .before .before .pre) in
-    let p = flush-pending d in
-    let m = kept (flush d) s p in
-    rw k
-    (record {
-      free = kept-few (flush d) s p (λ e. c .before .before .before .before .before .before .if3 .left (ap (λ x. x .number) l ∙ e));
-      start = omega (arith, n, c .before .if4 .left, kept-capacity (flush d), flush-capacity d);
-      session = omega (arith, m .sessions);
-    })
-
-none-requires-2 : tie.Need-none-requires-2
-none-requires-2 c κs = search needs
-
-accepted-requires : tie.Need-accepted-requires
-accepted-requires c κs = search needs
+close-last-requires : tie.Need-close-last-requires
+close-last-requires c κs = search needs
 
 returns-5 : tie.Need-returns-5
+unfolding closingLast
 returns-5 c =
-    let d = c .before .before .before .before .before .before .before .before .before .before .before .before .before .before .before .before .before .before .before .before .args .self in
-    let k = rw (c .before .before .before .before .before .before .before .before .before .before .before .before .before .before .before .before .flush .ensures) at (c .before .before .before .before .before .before .before .before .before .before .before .before .close-tail .ensures) in
-    let l : c .before .before .before .before .before .before .before .before .before .before .before .last .result ≡ lastOf (closeTail (flush d) .fragments) = rw k at (c .before .before .before .before .before .before .before .before .before .before .before .last .ensures) in
-    let n = rw l at (wide-number (c .before .before .before .before .before .before .next-session-start .ensures)) in
-    rw (c .accepted .ensures, c .before .none2 .ensures, c .before .before .open-session .ensures, c .before .before .before .new .ensures, k, c .before .before .before .before .before .before .before .before .before .before .before .before .before .before .before .before .flush .ensures)
-    (sym (session-done d (rw (c .before .before .before .before .before .before .before .before .before .before .before .before .before .before .before .before .before .before .before .blank-tail-only .ensures) at (c .before .before .before .before .before .before .before .before .before .before .before .before .before .before .before .before .before .if1 .left)) (rw (c .before .before .before .before .before .before .before .before .before .before .before .before .before .before .before .before .flush .ensures) at (sym (c .before .before .before .before .before .before .before .before .before .before .before .before .before .before .has-incomplete-reserved .ensures) ∙ c .before .before .before .before .before .before .before .before .before .before .before .before .before .if2 .left)) (λ e. c .before .before .before .before .before .before .before .before .before .if3 .left (ap (λ x. x .number) l ∙ e)) (c .before .before .before .before .before .before .before .before .before .before .before .before .before .before .before .before .before .before .before .before .pre) (omega (arith, n, c .before .before .before .before .if4 .left))))
+    let d = c .before .before .before .before .before .before .before .before .before .before .before .before .before .before .before .before .before .before .before .before .before .before .args .self in
+    let fe = ap (λ x. x .entry) (c .before .before .before .before .before .before .before .before .before .before .before .before .before .before .before .before .before .before .flushing .ensures) in
+    let h = rw (c .before .before .before .before .before .before .before .before .before .before .before .before .before .before .before .before .before .before .before .before .before .blank-tail-only .ensures) at (c .before .before .before .before .before .before .before .before .before .before .before .before .before .before .before .before .before .before .before .if1 .left) in
+    let i = sym (c .before .before .before .before .before .before .before .before .before .before .before .before .before .before .before .before .stays-incomplete .ensures) ∙ c .before .before .before .before .before .before .before .before .before .before .before .before .before .before .before .if2 .left in
+    let l = c .before .before .before .before .before .before .before .before .before .before .before .before .before .last-kept .ensures in
+    let u : used (closeTail (flush d)) ≡ limit → ⊥ = λ e. c .before .before .before .before .before .before .before .before .before .before .before .if3 .left (ap (λ x. x .number) l ∙ e) in
+    let n = wide-number (rw l at (c .before .before .before .before .before .before .before .before .before .next-session-start .ensures)) in
+    rw (c .close-last .ensures, decided-accepted, c .before .new .ensures, c .before .before .before .before .before .before .before .before .before .before .before .before .before .before .last-flushed .ensures, c .before .before .before .before .before .before .before .before .before .before .before .before .before .before .before .before .before .before .flushing .ensures)
+    (ap (λ x. accepted x (flushCount d) noReply (plan (flushPlan d) Nothing)) (affected-session d (c .before .before .before .before .before .before .before .before .before .before .before .before .before .before .before .before .before .before .before .before .before .before .pre) _ _ (ap (λ x. x .number) l) (rw (c .before .before .before .before .before .before .before .before .before .next-session-start .ensures, l) at (c .before .before .before .tail-from .ensures)))
+    ∙ sym (session-done d h i u (c .before .before .before .before .before .before .before .before .before .before .before .before .before .before .before .before .before .before .before .before .before .before .pre) (rw n at (c .before .before .before .before .before .before .if4 .left))))
 
 pub close-session-spec : {M : Type 1} → statement M
 close-session-spec =
@@ -124,21 +153,23 @@ close-session-spec =
     none-requires
     unchanged-requires
     returns
-    flush-requires
-    has-incomplete-reserved-requires
+    flushing-requires
+    stays-incomplete-requires
     refused-requires
     returns-2
-    close-tail-requires
-    last-requires
+    last-flushed-requires
+    last-kept-requires
     refused-requires-2
     returns-3
-    cast-if4
     next-session-start-requires
+    cast-if4
     add-if4
     refused-requires-3
     returns-4
+    add-tail-from
+    cast-t20
+    tail-from-requires
+    add-new
     new-requires
-    open-session-requires
-    none-requires-2
-    accepted-requires
+    close-last-requires
     returns-5)

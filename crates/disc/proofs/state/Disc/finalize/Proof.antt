@@ -1,19 +1,26 @@
-use mathlib.Core.Path.{sym, _∙_}
-use Rattle.disc.proofs.Laws.Flush.{flush-ready}
+use Rattle.disc.specs.Verdict.{accepted, plan}
+use Rattle.disc.specs.Types.{Nothing}
+use Rattle.protocol.specs.Reply.{noReply}
+use Rattle.disc.specs.Flush.{flushPlan, flushCount}
+use Rattle.disc.specs.Close.{closingLast}
 use Rattle.disc.proofs.Laws.Session.{finalize-idle, finalize-incomplete, finalize-blank, finalize-done}
+use Rattle.disc.proofs.Laws.Decision.{decided-refused, decided-accepted, decided-unchanged, affected-finalized}
+use mathlib.Core.Path.{_≡_, refl, sym, _∙_, ap}
+use native.Mathlib.Omega.{arith}
 use borrow.Author.Needs.{needs}
 use Rattle.disc.proofs.state.Disc.finalize.Statement.{statement}
 use Rattle.disc.proofs.state.Disc.finalize.Tie as tie
-use Rattle.disc.proofs.state.Disc.as_finalized.Reads as as-finalized-reads
-use Rattle.disc.proofs.state.Disc.close_tail.Reads as close-tail-reads
-use Rattle.disc.proofs.state.Disc.flush.Reads as flush-reads
-use Rattle.disc.proofs.state.Disc.has_incomplete_reserved.Reads as has-incomplete-reserved-reads
+use Rattle.disc.proofs.state.Disc.finalize.Reads as reads
+use Rattle.disc.proofs.state.Disc.finalize.Lts as lts
+use Rattle.disc.proofs.close.close_last.Reads as close-last-reads
+use Rattle.disc.proofs.decision.Decision.refused.Reads as refused-reads
+use Rattle.disc.proofs.decision.Decision.unchanged.Reads as unchanged-reads
+use Rattle.disc.proofs.decision.Entry.none.Reads as decision-Entry-none-reads
+use Rattle.disc.proofs.state.Disc.flushing.Reads as flushing-reads
 use Rattle.disc.proofs.state.Disc.is_blank_disc.Reads as is-blank-disc-reads
-use Rattle.disc.proofs.verdict.Plan.new.Reads as new-reads
-use Rattle.disc.proofs.verdict.Verdict.accepted.Reads as accepted-reads
-use Rattle.disc.proofs.verdict.Verdict.refused.Reads as refused-reads
-use Rattle.disc.proofs.verdict.Verdict.unchanged.Reads as unchanged-reads
-use Rattle.protocol.proofs.reply.Reply.none.Reads as none-reads
+use Rattle.disc.proofs.state.Disc.last_flushed.Reads as last-flushed-reads
+use Rattle.disc.proofs.state.Disc.stays_incomplete.Reads as stays-incomplete-reads
+use Rattle.protocol.proofs.reply.Reply.none.Reads as reply-Reply-none-reads
 
 none-requires : tie.Need-none-requires
 none-requires c κs = search needs
@@ -22,19 +29,22 @@ unchanged-requires : tie.Need-unchanged-requires
 unchanged-requires c κs = search needs
 
 returns : tie.Need-returns
-returns c = rw (c .unchanged .ensures, c .before .none .ensures) (sym (finalize-idle (c .before .before .before .args .self) (c .before .before .if1 .taken)))
+returns c = rw (c .unchanged .ensures, c .before .none .ensures, decided-unchanged) (sym (finalize-idle (c .before .before .before .args .self) (c .before .before .if1 .taken)))
 
-flush-requires : tie.Need-flush-requires
-flush-requires c κs = search needs
+flushing-requires : tie.Need-flushing-requires
+flushing-requires c κs = search needs
 
-has-incomplete-reserved-requires : tie.Need-has-incomplete-reserved-requires
-has-incomplete-reserved-requires c κs = search needs
+stays-incomplete-requires : tie.Need-stays-incomplete-requires
+stays-incomplete-requires c κs =
+    let d = c .before .before .before .args .self in
+    let fe = ap (λ x. x .entry) (c .before .flushing .ensures) in
+    (c .before .before .before .pre, fe)
 
 refused-requires : tie.Need-refused-requires
 refused-requires c κs = search needs
 
 returns-2 : tie.Need-returns-2
-returns-2 c = rw (c .refused .ensures) (sym (finalize-incomplete (c .before .before .before .before .before .before .args .self) (c .before .before .before .before .before .if1 .left) (rw (c .before .before .before .before .flush .ensures) at (sym (c .before .before .has-incomplete-reserved .ensures) ∙ c .before .if2 .taken))))
+returns-2 c = rw (c .refused .ensures, decided-refused) (sym (finalize-incomplete (c .before .before .before .before .before .before .args .self) (c .before .before .before .before .before .if1 .left) (sym (c .before .before .stays-incomplete .ensures) ∙ c .before .if2 .taken)))
 
 is-blank-disc-requires : tie.Need-is-blank-disc-requires
 is-blank-disc-requires c κs = search needs
@@ -43,27 +53,27 @@ refused-requires-2 : tie.Need-refused-requires-2
 refused-requires-2 c κs = search needs
 
 returns-3 : tie.Need-returns-3
-returns-3 c = rw (c .refused2 .ensures) (sym (finalize-blank (c .before .before .before .before .before .before .before .before .args .self) (c .before .before .before .before .before .before .before .if1 .left) (rw (c .before .before .before .before .before .before .flush .ensures) at (sym (c .before .before .before .before .has-incomplete-reserved .ensures) ∙ c .before .before .before .if2 .left)) (sym (c .before .before .is-blank-disc .ensures) ∙ c .before .if3 .taken)))
+returns-3 c = rw (c .refused2 .ensures, decided-refused) (sym (finalize-blank (c .before .before .before .before .before .before .before .before .args .self) (c .before .before .before .before .before .before .before .if1 .left) (sym (c .before .before .before .before .stays-incomplete .ensures) ∙ c .before .before .before .if2 .left) (sym (c .before .before .is-blank-disc .ensures) ∙ c .before .if3 .taken)))
 
-new-requires : tie.Need-new-requires
-new-requires c κs = search needs
-
-close-tail-requires : tie.Need-close-tail-requires
-close-tail-requires c κs = rw (c .before .before .before .before .before .before .flush .ensures) (flush-ready (c .before .before .before .before .before .before .before .before .args .self) (c .before .before .before .before .before .before .before .before .pre))
-
-as-finalized-requires : tie.Need-as-finalized-requires
-as-finalized-requires c κs = search needs
+last-flushed-requires : tie.Need-last-flushed-requires
+last-flushed-requires c κs =
+    let d = c .before .before .before .before .before .before .before .args .self in
+    let fe = ap (λ x. x .entry) (c .before .before .before .before .before .flushing .ensures) in
+    (c .before .before .before .before .before .before .before .pre, fe)
 
 none-requires-2 : tie.Need-none-requires-2
 none-requires-2 c κs = search needs
 
-accepted-requires : tie.Need-accepted-requires
-accepted-requires c κs = search needs
+close-last-requires : tie.Need-close-last-requires
+close-last-requires c κs = search needs
 
 returns-4 : tie.Need-returns-4
+unfolding closingLast
 returns-4 c =
-    rw (c .accepted .ensures, c .before .none2 .ensures, c .before .before .as-finalized .ensures, c .before .before .before .close-tail .ensures, c .before .before .before .before .new .ensures, c .before .before .before .before .before .before .before .before .before .before .flush .ensures)
-    (sym (finalize-done (c .before .before .before .before .before .before .before .before .before .before .before .before .args .self) (c .before .before .before .before .before .before .before .before .before .before .before .if1 .left) (rw (c .before .before .before .before .before .before .before .before .before .before .flush .ensures) at (sym (c .before .before .before .before .before .before .before .before .has-incomplete-reserved .ensures) ∙ c .before .before .before .before .before .before .before .if2 .left)) (c .before .before .before .before .before .before .before .before .before .before .before .before .pre) (sym (c .before .before .before .before .before .before .is-blank-disc .ensures) ∙ c .before .before .before .before .before .if3 .left)))
+    let d = c .before .before .before .before .before .before .before .before .before .before .args .self in
+    rw (c .close-last .ensures, decided-accepted, c .before .none2 .ensures, c .before .before .last-flushed .ensures, c .before .before .before .before .before .before .before .before .flushing .ensures)
+    (ap (λ x. accepted x (flushCount d) noReply (plan (flushPlan d) Nothing)) (affected-finalized d (c .before .before .before .before .before .before .before .before .before .before .pre))
+    ∙ sym (finalize-done d (c .before .before .before .before .before .before .before .before .before .if1 .left) (sym (c .before .before .before .before .before .before .stays-incomplete .ensures) ∙ c .before .before .before .before .before .if2 .left) (c .before .before .before .before .before .before .before .before .before .before .pre) (sym (c .before .before .before .before .is-blank-disc .ensures) ∙ c .before .before .before .if3 .left)))
 
 pub finalize-spec : {M : Type 1} → statement M
 finalize-spec =
@@ -72,16 +82,14 @@ finalize-spec =
     none-requires
     unchanged-requires
     returns
-    flush-requires
-    has-incomplete-reserved-requires
+    flushing-requires
+    stays-incomplete-requires
     refused-requires
     returns-2
     is-blank-disc-requires
     refused-requires-2
     returns-3
-    new-requires
-    close-tail-requires
-    as-finalized-requires
+    last-flushed-requires
     none-requires-2
-    accepted-requires
+    close-last-requires
     returns-4)

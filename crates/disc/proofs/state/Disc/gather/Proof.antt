@@ -1,10 +1,15 @@
-use Rattle.disc.specs.Write.{gather}
+use Rattle.disc.proofs.Laws.Decision.{affected-gathered}
+use mathlib.Core.Path.{_≡_, refl, sym, _∙_, ap}
+use native.Mathlib.Omega.{arith}
 use borrow.Author.Needs.{needs}
 use Rattle.disc.proofs.state.Disc.gather.Statement.{statement}
 use Rattle.disc.proofs.state.Disc.gather.Tie as tie
+use Rattle.disc.proofs.state.Disc.gather.Reads as reads
+use Rattle.disc.proofs.state.Disc.gather.Lts as lts
 use Rattle.disc.proofs.change.grown.Reads as grown-reads
+use Rattle.disc.proofs.decision.Entry.new.Reads as new-reads
+use Rattle.disc.proofs.state.Disc.numbered.Reads as numbered-reads
 use Rattle.disc.proofs.state.Disc.pending_in.Reads as pending-in-reads
-use Rattle.disc.proofs.state.Disc.with_record.Reads as with-record-reads
 use Rattle.disc.proofs.write.owner_of.Reads as owner-of-reads
 use Rattle.fragments.proofs.left_over.Reads as left-over-reads
 
@@ -20,30 +25,25 @@ add-held c = search needs
 left-over-requires : tie.Need-left-over-requires
 left-over-requires c κs = search needs
 
-sub-f : tie.Need-sub-f
-sub-f c = search needs
-
-mul-f : tie.Need-mul-f
-mul-f c = search needs
-
-element-copy-out-f : tie.Need-element-copy-out-f
-element-copy-out-f c = search needs
+numbered-requires : tie.Need-numbered-requires
+numbered-requires c κs = search needs
 
 grown-requires : tie.Need-grown-requires
-grown-requires c κs = search needs
+grown-requires c κs = rw (c .numbered .ensures, c .before .before .pending-in .ensures) (omega (arith, c .before .before .before .pre .1 .1 .blocks))
 
-with-record-requires : tie.Need-with-record-requires
-with-record-requires c κs = search needs
+new-requires : tie.Need-new-requires
+new-requires c κs = search needs
 
-cast-after : tie.Need-cast-after
-cast-after c = search needs
+cast-t9 : tie.Need-cast-t9
+cast-t9 c = search needs
 
 owner-of-requires : tie.Need-owner-of-requires
 owner-of-requires c κs = search needs
 
 returns : tie.Need-returns
-unfolding gather
-returns c = rw (c .owner-of .ensures, c .before .with-record .ensures, c .before .before .grown .ensures, c .before .before .before .before .left-over .ensures, c .before .before .before .before .before .pending-in .ensures)
+returns c =
+    rw (c .owner-of .ensures, c .before .new .ensures, c .before .before .grown .ensures, c .before .before .before .numbered .ensures, c .before .before .before .before .left-over .ensures, c .before .before .before .before .before .pending-in .ensures, c .before .before .before .before .before .before .pre .1 .0)
+    (affected-gathered (c .before .before .before .before .before .before .args .self) (c .before .before .before .before .before .before .args .number) (c .before .before .before .before .before .before .pre .0) (c .before .before .before .before .before .before .pre .1 .1 .from) (c .before .before .before .before .before .before .args .sectors))
 
 pub gather-spec : {M : Type 1} → statement M
 gather-spec =
@@ -53,11 +53,9 @@ gather-spec =
     cast-held
     add-held
     left-over-requires
-    sub-f
-    mul-f
-    element-copy-out-f
+    numbered-requires
     grown-requires
-    with-record-requires
-    cast-after
+    new-requires
+    cast-t9
     owner-of-requires
     returns)

@@ -1,17 +1,8 @@
 use mathlib.Core.Path.{_∙_}
-use borrow.Author.Tests.{ne-eqb}
-use Rattle.disc.specs.Judge.{judge}
 use Rattle.disc.proofs.Laws.Judge.{judged}
 use borrow.Author.Needs.{needs}
 use Rattle.disc.proofs.state.Disc.judge_as_asked.Statement.{statement}
 use Rattle.disc.proofs.state.Disc.judge_as_asked.Tie as tie
-
-refused-link-requires : tie.Need-refused-link-requires
-refused-link-requires c κs = search needs
-
-returns : tie.Need-returns
-unfolding judge
-returns c = judged _ _ _ _ _ (rw (c .refused-link .ensures, ne-eqb _ _ (c .before .if1 .taken)))
 
 decode-requires : tie.Need-decode-requires
 decode-requires c κs = search needs
@@ -25,8 +16,8 @@ reply-room-requires c κs = search needs
 judge-requires : tie.Need-judge-requires
 judge-requires c κs = search needs
 
-returns-2 : tie.Need-returns-2
-returns-2 c =
+returns : tie.Need-returns
+returns c =
     judged _ _ _ _ _
     (c .judge .ensures .verdict
     ∙ rw (c .before .reply-room .ensures, c .before .before .data-length .ensures, c .before .before .before .decode .ensures))
@@ -35,10 +26,8 @@ pub judge-as-asked-spec : {M : Type 1} → statement M
 judge-as-asked-spec =
     tie.close
     (tie.spec
-    refused-link-requires
-    returns
     decode-requires
     data-length-requires
     reply-room-requires
     judge-requires
-    returns-2)
+    returns)

@@ -1,3 +1,4 @@
+use Rattle.disc.proofs.Laws.Decision.{decided-refused, decided-unchanged}
 use Rattle.disc.specs.Judge.{perform, testUnitReady}
 use borrow.Author.Needs.{needs}
 use Rattle.disc.proofs.state.Disc.perform.Statement.{statement}
@@ -45,17 +46,17 @@ synchronize-cache-requires c κs = search needs
 enum-known-command-4 : tie.Need-enum-known-command-4
 enum-known-command-4 c = search needs
 
-reserve-requires : tie.Need-reserve-requires
-reserve-requires c κs = search needs
+reserve-track-requires : tie.Need-reserve-track-requires
+reserve-track-requires c κs = search needs
 
 enum-known-command-5 : tie.Need-enum-known-command-5
 enum-known-command-5 c = search needs
 
-cast-close : tie.Need-cast-close
-cast-close c = search needs
+cast-close-track-session : tie.Need-cast-close-track-session
+cast-close-track-session c = search needs
 
-close-requires : tie.Need-close-requires
-close-requires c κs = search needs
+close-track-session-requires : tie.Need-close-track-session-requires
+close-track-session-requires c κs = search needs
 
 enum-known-command-6 : tie.Need-enum-known-command-6
 enum-known-command-6 c = search needs
@@ -77,7 +78,7 @@ refused-requires c κs = search needs
 
 returns : tie.Need-returns
 unfolding perform testUnitReady
-returns c = simp (c .unchanged .ensures, c .before .none .ensures, c .before .before .enum-told .given .1)
+returns c = simp (c .unchanged .ensures, decided-unchanged, c .before .none .ensures, c .before .before .enum-told .given .1)
 
 returns-2 : tie.Need-returns-2
 unfolding perform testUnitReady
@@ -101,11 +102,11 @@ returns-6 c = simp (c .synchronize-cache .ensures, c .before .enum-told3 .given 
 
 returns-7 : tie.Need-returns-7
 unfolding perform testUnitReady
-returns-7 c = simp (c .reserve .ensures, c .before .before .command4 .given .1)
+returns-7 c = simp (c .reserve-track .ensures, c .before .before .command4 .given .1)
 
 returns-8 : tie.Need-returns-8
 unfolding perform testUnitReady
-returns-8 c = simp (c .close .ensures, c .before .before .command5 .given .1)
+returns-8 c = simp (c .close-track-session .ensures, c .before .before .command5 .given .1)
 
 returns-9 : tie.Need-returns-9
 unfolding perform testUnitReady
@@ -117,7 +118,7 @@ returns-10 c = simp (c .read-track-information .ensures, c .before .before .comm
 
 returns-11 : tie.Need-returns-11
 unfolding perform testUnitReady
-returns-11 c = simp (c .refused .ensures, c .before .enum-told4 .given .1)
+returns-11 c = simp (c .refused .ensures, decided-refused, c .before .enum-told4 .given .1)
 
 pub perform-spec : {M : Type 1} → statement M
 perform-spec =
@@ -137,10 +138,10 @@ perform-spec =
     enum-told-3
     synchronize-cache-requires
     enum-known-command-4
-    reserve-requires
+    reserve-track-requires
     enum-known-command-5
-    cast-close
-    close-requires
+    cast-close-track-session
+    close-track-session-requires
     enum-known-command-6
     read-disc-information-requires
     enum-known-command-7

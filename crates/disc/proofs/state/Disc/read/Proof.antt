@@ -1,10 +1,10 @@
+use Rattle.disc.proofs.Laws.Decision.{decided-refused, decided-unchanged}
 use mathlib.Core.Bool.{true, false}
 use Rattle.disc.specs.Read.{allReadable, read}
 use borrow.Author.Tests.{eq-eqb, ne-eqb}
 use mathlib.Core.Path.{_≡_, sym, _∙_}
 use Rattle.disc.proofs.Laws.Rules.{sound-rules}
 use Rattle.disc.proofs.Laws.Read.{run-test}
-use Rattle.disc.proofs.Laws.Verdict.{accept-same}
 use native.Mathlib.Omega.{arith}
 use borrow.Author.Needs.{needs}
 use Rattle.disc.proofs.state.Disc.read.Statement.{statement}
@@ -18,7 +18,7 @@ unchanged-requires c κs = search needs
 
 returns : tie.Need-returns
 unfolding read
-returns c = simp (c .unchanged .ensures, c .before .none .ensures, eq-eqb _ _ (c .before .before .if1 .taken))
+returns c = simp (c .unchanged .ensures, decided-unchanged, c .before .none .ensures, eq-eqb _ _ (c .before .before .if1 .taken))
 
 sectors-in-requires : tie.Need-sectors-in-requires
 sectors-in-requires c κs = search needs
@@ -31,7 +31,7 @@ refused-requires c κs = search needs
 
 returns-2 : tie.Need-returns-2
 unfolding read
-returns-2 c = simp (c .refused .ensures, c .before .if2 .taken, ← c .before .before .passes .ensures, ← c .before .before .before .sectors-in .ensures, ne-eqb _ _ (c .before .before .before .before .if1 .left))
+returns-2 c = simp (c .refused .ensures, decided-refused, c .before .if2 .taken, ← c .before .before .passes .ensures, ← c .before .before .before .sectors-in .ensures, ne-eqb _ _ (c .before .before .before .before .if1 .left))
 
 holds-run-requires : tie.Need-holds-run-requires
 holds-run-requires c κs = search needs
@@ -52,7 +52,7 @@ returns-3 c =
     let some-sectors = c .before .before .before .before .before .before .before .if1 .left in
     let r : allReadable d a n ≡ true =
     sym (run-test d (sound-rules d (start .pre .sound)) a n (omega arith)) ∙ sym (c .before .before .before .holds-run .ensures) ∙ c .before .before .if3 .taken in
-    simp (c .accepted .ensures, c .before .none2 .ensures, r, c .before .before .before .before .if2 .left, ← c .before .before .before .before .before .passes .ensures, ← c .before .before .before .before .before .before .sectors-in .ensures, ne-eqb _ _ some-sectors) (accept-same _ _ _)
+    simp (c .accepted .ensures, decided-unchanged, c .before .none2 .ensures, r, c .before .before .before .before .if2 .left, ← c .before .before .before .before .before .passes .ensures, ← c .before .before .before .before .before .before .sectors-in .ensures, ne-eqb _ _ some-sectors)
 
 refused-requires-2 : tie.Need-refused-requires-2
 refused-requires-2 c κs = search needs
@@ -67,7 +67,7 @@ returns-4 c =
     let some-sectors = c .before .before .before .before .before .before .if1 .left in
     let r : allReadable d a n ≡ false =
     sym (run-test d (sound-rules d (start .pre .sound)) a n (omega arith)) ∙ sym (c .before .before .holds-run .ensures) ∙ c .before .if3 .left in
-    simp (c .refused2 .ensures, r, c .before .before .before .if2 .left, ← c .before .before .before .before .passes .ensures, ← c .before .before .before .before .before .sectors-in .ensures, ne-eqb _ _ some-sectors)
+    simp (c .refused2 .ensures, decided-refused, r, c .before .before .before .if2 .left, ← c .before .before .before .before .passes .ensures, ← c .before .before .before .before .before .sectors-in .ensures, ne-eqb _ _ some-sectors)
 
 pub read-spec : {M : Type 1} → statement M
 read-spec =

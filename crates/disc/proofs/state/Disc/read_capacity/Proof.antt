@@ -1,8 +1,9 @@
+use Rattle.disc.proofs.Laws.Decision.{decided-unchanged}
 use Rattle.disc.specs.Reports.{readCapacity}
 use borrow.Author.Needs.{needs}
 use Rattle.disc.proofs.state.Disc.read_capacity.Statement.{statement}
 use Rattle.disc.proofs.state.Disc.read_capacity.Tie as tie
-use Rattle.disc.proofs.verdict.Verdict.unchanged.Reads as unchanged-reads
+use Rattle.disc.proofs.decision.Decision.unchanged.Reads as unchanged-reads
 use Rattle.fragments.proofs.last_readable.Reads as last-readable-reads
 use Rattle.protocol.proofs.reply.Reply.of_capacity.Reads as of-capacity-reads
 
@@ -17,7 +18,7 @@ unchanged-requires c κs = search needs
 
 returns : tie.Need-returns
 unfolding readCapacity
-returns c = rw (c .unchanged .ensures, c .before .of-capacity .ensures, c .before .before .last-readable .ensures)
+returns c = rw (c .unchanged .ensures, decided-unchanged, c .before .of-capacity .ensures, c .before .before .last-readable .ensures)
 
 pub read-capacity-spec : {M : Type 1} → statement M
 read-capacity-spec =

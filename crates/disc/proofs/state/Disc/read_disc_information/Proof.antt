@@ -1,11 +1,12 @@
+use Rattle.disc.proofs.Laws.Decision.{decided-refused, decided-unchanged}
 use borrow.Author.Tests.{eq-eqb, ne-eqb}
 use Rattle.disc.specs.Reports.{readDiscInformation}
 use borrow.Author.Needs.{needs}
 use Rattle.disc.proofs.state.Disc.read_disc_information.Statement.{statement}
 use Rattle.disc.proofs.state.Disc.read_disc_information.Tie as tie
 use Rattle.disc.proofs.state.Disc.disc_report.Reads as disc-report-reads
-use Rattle.disc.proofs.verdict.Verdict.refused.Reads as refused-reads
-use Rattle.disc.proofs.verdict.Verdict.unchanged.Reads as unchanged-reads
+use Rattle.disc.proofs.decision.Decision.refused.Reads as refused-reads
+use Rattle.disc.proofs.decision.Decision.unchanged.Reads as unchanged-reads
 use Rattle.protocol.proofs.reply.Reply.of_disc.Reads as of-disc-reads
 
 disc-report-requires : tie.Need-disc-report-requires
@@ -19,14 +20,14 @@ unchanged-requires c κs = search needs
 
 returns : tie.Need-returns
 unfolding readDiscInformation
-returns c = simp (c .unchanged .ensures, c .before .of-disc .ensures, c .before .before .disc-report .ensures, eq-eqb _ _ (c .before .before .before .if1 .taken))
+returns c = simp (c .unchanged .ensures, decided-unchanged, c .before .of-disc .ensures, c .before .before .disc-report .ensures, eq-eqb _ _ (c .before .before .before .if1 .taken))
 
 refused-requires : tie.Need-refused-requires
 refused-requires c κs = search needs
 
 returns-2 : tie.Need-returns-2
 unfolding readDiscInformation
-returns-2 c = simp (c .refused .ensures, ne-eqb _ _ (c .before .if1 .left))
+returns-2 c = simp (c .refused .ensures, decided-refused, ne-eqb _ _ (c .before .if1 .left))
 
 pub read-disc-information-spec : {M : Type 1} → statement M
 read-disc-information-spec =

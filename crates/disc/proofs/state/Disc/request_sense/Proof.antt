@@ -1,8 +1,9 @@
+use Rattle.disc.proofs.Laws.Decision.{decided-unchanged}
 use Rattle.disc.specs.Reports.{requestSense}
 use borrow.Author.Needs.{needs}
 use Rattle.disc.proofs.state.Disc.request_sense.Statement.{statement}
 use Rattle.disc.proofs.state.Disc.request_sense.Tie as tie
-use Rattle.disc.proofs.verdict.Verdict.unchanged.Reads as unchanged-reads
+use Rattle.disc.proofs.decision.Decision.unchanged.Reads as unchanged-reads
 use Rattle.protocol.proofs.reply.Reply.of_sense.Reads as of-sense-reads
 
 of-sense-requires : tie.Need-of-sense-requires
@@ -13,7 +14,7 @@ unchanged-requires c κs = search needs
 
 returns : tie.Need-returns
 unfolding requestSense
-returns c = rw (c .unchanged .ensures, c .before .of-sense .ensures)
+returns c = rw (c .unchanged .ensures, decided-unchanged, c .before .of-sense .ensures)
 
 pub request-sense-spec : {M : Type 1} → statement M
 request-sense-spec = tie.close (tie.spec of-sense-requires unchanged-requires returns)

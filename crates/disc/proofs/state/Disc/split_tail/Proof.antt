@@ -1,26 +1,20 @@
+use Rattle.fragments.proofs.Laws.Address.{wide-number}
+use Rattle.disc.proofs.Laws.Decision.{affected-split}
+use mathlib.Core.Path.{_≡_, refl, sym, _∙_, ap}
 use native.Mathlib.Omega.{arith}
-use Rattle.disc.proofs.Laws.Reserve.{split-start}
-use Rattle.disc.specs.Reserve.{splitTail}
 use borrow.Author.Needs.{needs}
 use Rattle.disc.proofs.state.Disc.split_tail.Statement.{statement}
 use Rattle.disc.proofs.state.Disc.split_tail.Tie as tie
+use Rattle.disc.proofs.state.Disc.split_tail.Reads as reads
+use Rattle.disc.proofs.state.Disc.split_tail.Lts as lts
 use Rattle.disc.proofs.change.reserved.Reads as reserved-reads
 use Rattle.disc.proofs.change.tail_from.Reads as tail-from-reads
-use Rattle.disc.proofs.state.Disc.used.Reads as used-reads
-use Rattle.disc.proofs.state.Disc.with_record.Reads as with-record-reads
+use Rattle.disc.proofs.decision.Entry.new.Reads as new-reads
+use Rattle.disc.proofs.state.Disc.last.Reads as last-reads
 use Rattle.fragments.proofs.fragment.Fragment.next_start.Reads as next-start-reads
 
-used-requires : tie.Need-used-requires
-used-requires c κs = search needs
-
-sub-tail : tie.Need-sub-tail
-sub-tail c = search needs
-
-mul-tail : tie.Need-mul-tail
-mul-tail c = search needs
-
-element-copy-out-tail : tie.Need-element-copy-out-tail
-element-copy-out-tail c = search needs
+last-requires : tie.Need-last-requires
+last-requires c κs = search needs
 
 reserved-requires : tie.Need-reserved-requires
 reserved-requires c κs = search needs
@@ -28,42 +22,50 @@ reserved-requires c κs = search needs
 next-start-requires : tie.Need-next-start-requires
 next-start-requires c κs = search needs
 
-cast-tail-from : tie.Need-cast-tail-from
-cast-tail-from c =
-    let k = split-start (c .before .before .before .before .before .args .t1) (c .before .before .before .before .used .result) (c .before .before .before .before .before .args .blocks) (c .before .before .reserved .result) (c .before .next-start .result) (c .before .before .before .before .used .ensures) (c .before .before .reserved .ensures) (c .before .next-start .ensures) in
-    omega (arith, c .before .before .before .before .before .pre .start, c .before .before .before .before .before .good)
+cast-t10 : tie.Need-cast-t10
+cast-t10 c =
+    let d = c .before .before .before .before .args .self in
+    let n = ap (λ l. l .number) (c .before .before .before .last .ensures) in
+    let k = wide-number (rw (c .before .before .reserved .ensures, c .before .before .before .last .ensures) at (c .before .next-start .ensures)) in
+    omega (arith, c .before .before .before .before .pre .start, c .before .before .before .before .good)
 
 tail-from-requires : tie.Need-tail-from-requires
 tail-from-requires c κs =
-    let k = split-start (c .before .before .before .before .before .args .t1) (c .before .before .before .before .used .result) (c .before .before .before .before .before .args .blocks) (c .before .before .reserved .result) (c .before .next-start .result) (c .before .before .before .before .used .ensures) (c .before .before .reserved .ensures) (c .before .next-start .ensures) in
-    omega (arith, c .before .before .before .before .before .pre .start)
+    let d = c .before .before .before .before .args .self in
+    let n = ap (λ l. l .number) (c .before .before .before .last .ensures) in
+    let k = wide-number (rw (c .before .before .reserved .ensures, c .before .before .before .last .ensures) at (c .before .next-start .ensures)) in
+    omega (arith, c .before .before .before .before .pre .start)
 
-with-record-requires : tie.Need-with-record-requires
-with-record-requires c κs = search needs
+new-requires : tie.Need-new-requires
+new-requires c κs = search needs
 
-add-with-record : tie.Need-add-with-record
-add-with-record c = search needs
+add-new : tie.Need-add-new
+add-new c =
+    let d = c .before .before .before .before .before .before .before .args .self in
+    let n = ap (λ l. l .number) (c .before .before .before .before .before .before .last .ensures) in
+    omega (arith, c .before .before .before .before .before .before .before .pre .free)
 
-with-record-requires-2 : tie.Need-with-record-requires-2
-with-record-requires-2 c κs = search needs
+new-requires-2 : tie.Need-new-requires-2
+new-requires-2 c κs = search needs
 
 returns : tie.Need-returns
-unfolding splitTail
-returns c = rw (c .with-record2 .ensures, c .before .with-record .ensures, c .before .before .tail-from .ensures, c .before .before .before .before .next-start .ensures, c .before .before .before .before .before .reserved .ensures, c .before .before .before .before .before .before .before .used .ensures)
+returns c =
+    let d = c .before .before .before .before .before .before .before .before .args .self in
+    let n = ap (λ l. l .number) (c .before .before .before .before .before .before .before .last .ensures) in
+    let f = rw (c .before .before .before .before .before .before .before .last .ensures) at (c .before .before .before .before .before .before .reserved .ensures) in
+    rw (c .new2 .ensures, c .before .before .new .ensures, n)
+    (affected-split d (c .before .before .before .before .before .before .before .before .args .blocks) _ _ (c .before .before .before .before .before .before .before .before .pre .from) f (rw (c .before .before .before .before .before .next-start .ensures) at (c .before .before .before .tail-from .ensures)))
 
 pub split-tail-spec : {M : Type 1} → statement M
 split-tail-spec =
     tie.close
     (tie.spec
-    used-requires
-    sub-tail
-    mul-tail
-    element-copy-out-tail
+    last-requires
     reserved-requires
     next-start-requires
-    cast-tail-from
+    cast-t10
     tail-from-requires
-    with-record-requires
-    add-with-record
-    with-record-requires-2
+    new-requires
+    add-new
+    new-requires-2
     returns)

@@ -1,16 +1,24 @@
-use Rattle.disc.specs.Verdict.{accept}
-use Rattle.disc.specs.Flush.{synchronizeCache}
+use Rattle.disc.specs.Verdict.{accepted, plan}
+use Rattle.disc.specs.Types.{Nothing}
+use Rattle.protocol.specs.Reply.{noReply}
+use Rattle.disc.specs.Flush.{flush, flushPlan, flushCount, synchronizeCache}
 use Rattle.disc.proofs.Laws.Flush.{rise-flush}
+use Rattle.disc.proofs.Laws.Verdict.{accept-count}
+use Rattle.disc.proofs.Laws.Decision.{decided-accepted, affected-settled}
+use mathlib.Core.Path.{_≡_, refl, sym, _∙_, ap}
+use native.Mathlib.Omega.{arith}
 use borrow.Author.Needs.{needs}
 use Rattle.disc.proofs.state.Disc.synchronize_cache.Statement.{statement}
 use Rattle.disc.proofs.state.Disc.synchronize_cache.Tie as tie
-use Rattle.disc.proofs.state.Disc.flush.Reads as flush-reads
+use Rattle.disc.proofs.state.Disc.synchronize_cache.Reads as reads
+use Rattle.disc.proofs.state.Disc.synchronize_cache.Lts as lts
+use Rattle.disc.proofs.decision.Decision.accepted.Reads as accepted-reads
+use Rattle.disc.proofs.state.Disc.flushing.Reads as flushing-reads
 use Rattle.disc.proofs.verdict.Plan.new.Reads as new-reads
-use Rattle.disc.proofs.verdict.Verdict.accepted.Reads as accepted-reads
 use Rattle.protocol.proofs.reply.Reply.none.Reads as none-reads
 
-flush-requires : tie.Need-flush-requires
-flush-requires c κs = search needs
+flushing-requires : tie.Need-flushing-requires
+flushing-requires c κs = search needs
 
 new-requires : tie.Need-new-requires
 new-requires c κs = search needs
@@ -22,9 +30,12 @@ accepted-requires : tie.Need-accepted-requires
 accepted-requires c κs = search needs
 
 returns : tie.Need-returns
-unfolding synchronizeCache accept
-returns c = rw (c .accepted .ensures, c .before .none .ensures, c .before .before .new .ensures, c .before .before .before .before .flush .ensures, rise-flush (c .before .before .before .before .before .args .self) (c .before .before .before .before .before .pre))
+unfolding synchronizeCache
+returns c =
+    let d = c .before .before .before .before .before .args .self in
+    rw (c .accepted .ensures, decided-accepted, c .before .none .ensures, c .before .before .new .ensures, c .before .before .before .before .flushing .ensures)
+    (ap (λ x. accepted x (flushCount d) noReply (plan (flushPlan d) Nothing)) (affected-settled d (c .before .before .before .before .before .pre)) ∙ sym (accept-count d (flush d) _ _ _ (rise-flush d (c .before .before .before .before .before .pre))))
 
 pub synchronize-cache-spec : {M : Type 1} → statement M
 synchronize-cache-spec =
-    tie.close (tie.spec flush-requires new-requires none-requires accepted-requires returns)
+    tie.close (tie.spec flushing-requires new-requires none-requires accepted-requires returns)

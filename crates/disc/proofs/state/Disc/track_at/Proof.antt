@@ -1,3 +1,4 @@
+use Rattle.disc.proofs.Laws.Decision.{decided-refused}
 use Rattle.disc.proofs.Laws.Reports.{address-number}
 use mathlib.Core.Path.{sym, _∙_}
 use Rattle.disc.specs.Reports.{trackFound}
@@ -11,8 +12,8 @@ at-address-requires c κs = search needs
 enum-known-found : tie.Need-enum-known-found
 enum-known-found c = search needs
 
-track-verdict-requires : tie.Need-track-verdict-requires
-track-verdict-requires c κs =
+track-decision-requires : tie.Need-track-decision-requires
+track-decision-requires c κs =
     let b = address-number (c .before .before .before .before .args .self) (c .before .before .before .before .args .address) _ (sym (c .before .before .before .at-address .ensures) ∙ c .before .found .given .1) in
     (c .before .before .before .before .pre, b .0, b .1)
 
@@ -24,11 +25,11 @@ refused-requires c κs = search needs
 
 returns : tie.Need-returns
 unfolding trackFound
-returns c = simp (c .track-verdict .ensures, c .before .before .found .given .1, ← c .before .before .before .before .at-address .ensures)
+returns c = simp (c .track-decision .ensures, c .before .before .found .given .1, ← c .before .before .before .before .at-address .ensures)
 
 returns-2 : tie.Need-returns-2
 unfolding trackFound
-returns-2 c = simp (c .refused .ensures, c .before .enum-told .given .1, ← c .before .before .before .at-address .ensures)
+returns-2 c = simp (c .refused .ensures, decided-refused, c .before .enum-told .given .1, ← c .before .before .before .at-address .ensures)
 
 pub track-at-spec : {M : Type 1} → statement M
 track-at-spec =
@@ -36,7 +37,7 @@ track-at-spec =
     (tie.spec
     at-address-requires
     enum-known-found
-    track-verdict-requires
+    track-decision-requires
     enum-told
     refused-requires
     returns

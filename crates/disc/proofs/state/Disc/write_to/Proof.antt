@@ -1,47 +1,48 @@
-use native.Mathlib.Omega.{arith}
-use borrow.Author.Tests.{le-ltb}
-use Rattle.disc.specs.Verdict.{accept}
+use borrow.Author.Tests.{eq-eqb, ne-eqb, lt-ltb, le-ltb, not-true, not-false}
 use Rattle.disc.specs.Write.{writeTo}
+use Rattle.disc.specs.Verdict.{accept, accepted}
+use Rattle.fragments.specs.Address.{firstSector}
+use Rattle.fragments.specs.Fragment.{end}
 use Rattle.disc.proofs.Laws.Write.{place, fit, gathering, write-count, end-from, end-past, others-count-most}
+use Rattle.disc.proofs.Laws.Decision.{decided-refused, decided-link, decided-accepted, decided-unchanged}
+use mathlib.Core.Path.{_≡_, refl, sym, _∙_, ap}
+use native.Mathlib.Omega.{arith}
 use borrow.Author.Needs.{needs}
 use Rattle.disc.proofs.state.Disc.write_to.Statement.{statement}
 use Rattle.disc.proofs.state.Disc.write_to.Tie as tie
+use Rattle.disc.proofs.state.Disc.write_to.Reads as reads
+use Rattle.disc.proofs.state.Disc.write_to.Lts as lts
 use Rattle.disc.proofs.change.first_unrecorded.Reads as first-unrecorded-reads
-use Rattle.disc.proofs.state.Disc.flush_others.Reads as flush-others-reads
+use Rattle.disc.proofs.decision.Decision.accepted.Reads as accepted-reads
+use Rattle.disc.proofs.decision.Decision.refused.Reads as refused-reads
+use Rattle.disc.proofs.state.Disc.flushing_others.Reads as flushing-others-reads
 use Rattle.disc.proofs.state.Disc.gather.Reads as gather-reads
+use Rattle.disc.proofs.state.Disc.numbered.Reads as numbered-reads
 use Rattle.disc.proofs.state.Disc.pending_in.Reads as pending-in-reads
 use Rattle.disc.proofs.verdict.Plan.new.Reads as new-reads
-use Rattle.disc.proofs.verdict.Verdict.accepted.Reads as accepted-reads
-use Rattle.disc.proofs.verdict.Verdict.refused.Reads as refused-reads
 use Rattle.fragments.proofs.whole_blocks.Reads as whole-blocks-reads
 use Rattle.fragments.proofs.fragment.Fragment.end_address.Reads as end-address-reads
 use Rattle.protocol.proofs.reply.Reply.none.Reads as none-reads
 
-sub-f : tie.Need-sub-f
-sub-f c = search needs
-
-mul-f : tie.Need-mul-f
-mul-f c =
-    let d = c .args .t1 in
+numbered-requires : tie.Need-numbered-requires
+numbered-requires c κs =
+    let d = c .args .self in
     let a = c .args .address in
-    let p = place d a (c .args .number) (c .pre .0) (c .pre .1) in
-    omega (arith, p .slot, c .pre .1 .from)
-
-element-copy-out-f : tie.Need-element-copy-out-f
-element-copy-out-f c =
-    let d = c .args .t1 in
-    let a = c .args .address in
-    let p = place d a (c .args .number) (c .pre .0) (c .pre .1) in
-    omega (arith, p .slot, c .pre .1 .from)
+    let n = c .args .number in
+    let k = c .args .sectors in
+    let p = place d a n (c .pre .0) (c .pre .1) in
+    (c .pre .1 .from, p .slot)
 
 end-address-requires : tie.Need-end-address-requires
 end-address-requires c κs = search needs
 
 add-if1 : tie.Need-add-if1
 add-if1 c =
-    let d = c .before .before .before .args .t1 in
+    let d = c .before .before .before .args .self in
     let a = c .before .before .before .args .address in
-    let p = place d a (c .before .before .before .args .number) (c .before .before .before .pre .0) (c .before .before .before .pre .1) in
+    let n = c .before .before .before .args .number in
+    let k = c .before .before .before .args .sectors in
+    let p = place d a n (c .before .before .before .pre .0) (c .before .before .before .pre .1) in
     omega (arith, p .near, c .before .before .before .fits .sectors)
 
 refused-requires : tie.Need-refused-requires
@@ -49,19 +50,19 @@ refused-requires c κs = search needs
 
 returns : tie.Need-returns
 unfolding writeTo
-returns c = rw (c .refused .ensures, end-past (c .before .before .before .before .before .before .args .t1) (c .before .before .before .before .before .before .args .address) (c .before .before .before .before .before .before .args .number) (c .before .before .before .before .before .before .args .sectors) (c .before .before .before .before .end-address .result) (c .before .before .before .before .end-address .ensures) (c .before .if1 .taken))
+returns c = rw (c .refused .ensures, decided-refused, end-past (c .before .before .before .before .before .before .args .self) (c .before .before .before .before .before .before .args .address) (c .before .before .before .before .before .before .args .number) (c .before .before .before .before .before .before .args .sectors) (c .before .before .before .before .end-address .result) (c .before .before .before .before .end-address .ensures ∙ ap (λ f. firstSector (end f)) (c .before .before .before .before .before .numbered .ensures)) (c .before .if1 .taken))
 
 pending-in-requires : tie.Need-pending-in-requires
 pending-in-requires c κs = search needs
 
 first-unrecorded-requires : tie.Need-first-unrecorded-requires
 first-unrecorded-requires c κs =
-    let d = c .before .before .before .before .before .before .args .t1 in
+    let d = c .before .before .before .before .before .before .args .self in
     let a = c .before .before .before .before .before .before .args .address in
-    let p = place d a (c .before .before .before .before .before .before .args .number) (c .before .before .before .before .before .before .pre .0) (c .before .before .before .before .before .before .pre .1) in
-    let h = end-from d a (c .before .before .before .before .before .before .args .number) (c .before .before .before .before .before .before .args .sectors) (c .before .before .before .before .end-address .result) (c .before .before .before .before .end-address .ensures) (c .before .if1 .left) in
-    let f = fit d a (c .before .before .before .before .before .before .args .number) (c .before .before .before .before .before .before .args .sectors) p (c .before .before .before .before .before .before .pre .1) h in
-    omega (arith, p .ends, p .room)
+    let n = c .before .before .before .before .before .before .args .number in
+    let k = c .before .before .before .before .before .before .args .sectors in
+    let p = place d a n (c .before .before .before .before .before .before .pre .0) (c .before .before .before .before .before .before .pre .1) in
+    rw (c .before .before .before .before .before .numbered .ensures) (omega (arith, p .ends, p .room))
 
 cast-whole-blocks : tie.Need-cast-whole-blocks
 cast-whole-blocks c = search needs
@@ -75,28 +76,33 @@ whole-blocks-requires c κs = search needs
 cast-gathered : tie.Need-cast-gathered
 cast-gathered c = search needs
 
-flush-others-requires : tie.Need-flush-others-requires
-flush-others-requires c κs = search needs
+flushing-others-requires : tie.Need-flushing-others-requires
+flushing-others-requires c κs = search needs
 
 new-requires : tie.Need-new-requires
 new-requires c κs = search needs
 
 gather-requires : tie.Need-gather-requires
 gather-requires c κs =
-    let d = c .before .before .before .before .before .before .before .before .before .before .args .t1 in
-    let a = c .before .before .before .before .before .before .before .before .before .before .args .address in
-    rw (c .before .flush-others .ensures)
-    (gathering d a (c .before .before .before .before .before .before .before .before .before .before .args .number) (c .before .before .before .before .before .before .before .before .before .before .args .sectors) (c .before .before .before .before .before .before .before .before .before .before .pre .0) (c .before .before .before .before .before .before .before .before .before .before .pre .1) (end-from d a (c .before .before .before .before .before .before .before .before .before .before .args .number) (c .before .before .before .before .before .before .before .before .before .before .args .sectors) (c .before .before .before .before .before .before .before .before .end-address .result) (c .before .before .before .before .before .before .before .before .end-address .ensures) (c .before .before .before .before .before .if1 .left)))
+    let d = c .before .before .before .before .before .before .before .before .before .before .before .args .self in
+    let a = c .before .before .before .before .before .before .before .before .before .before .before .args .address in
+    let n = c .before .before .before .before .before .before .before .before .before .before .before .args .number in
+    let k = c .before .before .before .before .before .before .before .before .before .before .before .args .sectors in
+    let p = place d a n (c .before .before .before .before .before .before .before .before .before .before .before .pre .0) (c .before .before .before .before .before .before .before .before .before .before .before .pre .1) in
+    let h = end-from d a n k (c .before .before .before .before .before .before .before .before .before .end-address .result) (c .before .before .before .before .before .before .before .before .before .end-address .ensures ∙ ap (λ f. firstSector (end f)) (c .before .before .before .before .before .before .before .before .before .before .numbered .ensures)) (c .before .before .before .before .before .before .if1 .left) in
+    (c .before .before .before .before .before .before .before .before .before .before .before .pre .0, (ap (λ x. x .entry) (c .before .before .flushing-others .ensures), gathering d a n k (c .before .before .before .before .before .before .before .before .before .before .before .pre .0) (c .before .before .before .before .before .before .before .before .before .before .before .pre .1) h))
 
 add-accepted : tie.Need-add-accepted
 add-accepted c =
-    let d = c .before .before .before .before .before .before .before .before .before .before .before .before .args .t1 in
-    let a = c .before .before .before .before .before .before .before .before .before .before .before .before .args .address in
-    let p = place d a (c .before .before .before .before .before .before .before .before .before .before .before .before .args .number) (c .before .before .before .before .before .before .before .before .before .before .before .before .pre .0) (c .before .before .before .before .before .before .before .before .before .before .before .before .pre .1) in
-    let h = end-from d a (c .before .before .before .before .before .before .before .before .before .before .before .before .args .number) (c .before .before .before .before .before .before .before .before .before .before .before .before .args .sectors) (c .before .before .before .before .before .before .before .before .before .before .end-address .result) (c .before .before .before .before .before .before .before .before .before .before .end-address .ensures) (c .before .before .before .before .before .before .before .if1 .left) in
-    let f = fit d a (c .before .before .before .before .before .before .before .before .before .before .before .before .args .number) (c .before .before .before .before .before .before .before .before .before .before .before .before .args .sectors) p (c .before .before .before .before .before .before .before .before .before .before .before .before .pre .1) h in
-    rw (c .before .before .before .flush-others .ensures, c .before .before .before .before .whole-blocks .ensures)
-    (omega (arith, f .sectors, c .before .before .before .before .before .before .pending-in .ensures, p .few, others-count-most d (c .before .before .before .before .before .before .before .before .before .before .before .before .args .number)))
+    let d = c .before .before .before .before .before .before .before .before .before .before .before .before .before .args .self in
+    let a = c .before .before .before .before .before .before .before .before .before .before .before .before .before .args .address in
+    let n = c .before .before .before .before .before .before .before .before .before .before .before .before .before .args .number in
+    let k = c .before .before .before .before .before .before .before .before .before .before .before .before .before .args .sectors in
+    let p = place d a n (c .before .before .before .before .before .before .before .before .before .before .before .before .before .pre .0) (c .before .before .before .before .before .before .before .before .before .before .before .before .before .pre .1) in
+    let h = end-from d a n k (c .before .before .before .before .before .before .before .before .before .before .before .end-address .result) (c .before .before .before .before .before .before .before .before .before .before .before .end-address .ensures ∙ ap (λ f. firstSector (end f)) (c .before .before .before .before .before .before .before .before .before .before .before .before .numbered .ensures)) (c .before .before .before .before .before .before .before .before .if1 .left) in
+    let f = fit d a n k p (c .before .before .before .before .before .before .before .before .before .before .before .before .before .pre .1) h in
+    rw (c .before .before .before .before .flushing-others .ensures, c .before .before .before .before .before .whole-blocks .ensures)
+    (omega (arith, f .sectors, c .before .before .before .before .before .before .before .pending-in .ensures, p .few, others-count-most d n))
 
 none-requires : tie.Need-none-requires
 none-requires c κs = search needs
@@ -107,19 +113,19 @@ accepted-requires c κs = search needs
 returns-2 : tie.Need-returns-2
 unfolding writeTo accept
 returns-2 c =
-    let d = c .before .before .before .before .before .before .before .before .before .before .before .before .before .before .args .t1 in
-    let a = c .before .before .before .before .before .before .before .before .before .before .before .before .before .before .args .address in
-    let p = place d a (c .before .before .before .before .before .before .before .before .before .before .before .before .before .before .args .number) (c .before .before .before .before .before .before .before .before .before .before .before .before .before .before .pre .0) (c .before .before .before .before .before .before .before .before .before .before .before .before .before .before .pre .1) in
-    let h = end-from d a (c .before .before .before .before .before .before .before .before .before .before .before .before .before .before .args .number) (c .before .before .before .before .before .before .before .before .before .before .before .before .before .before .args .sectors) (c .before .before .before .before .before .before .before .before .before .before .before .before .end-address .result) (c .before .before .before .before .before .before .before .before .before .before .before .before .end-address .ensures) (c .before .before .before .before .before .before .before .before .before .if1 .left) in
-    rw (c .accepted .ensures, c .before .none .ensures, c .before .before .before .gather .ensures, c .before .before .before .before .new .ensures, c .before .before .before .before .before .flush-others .ensures, c .before .before .before .before .before .before .whole-blocks .ensures, c .before .before .before .before .before .before .before .first-unrecorded .ensures, c .before .before .before .before .before .before .before .before .pending-in .ensures, le-ltb _ _ h, write-count d (c .before .before .before .before .before .before .before .before .before .before .before .before .before .before .args .number) (c .before .before .before .before .before .before .before .before .before .before .before .before .before .before .args .sectors) (c .before .before .before .before .before .before .before .before .before .before .before .before .before .before .pre .0) (c .before .before .before .before .before .before .before .before .before .before .before .before .before .before .pre .1 .from) (p .slot))
+    let d = c .before .before .before .before .before .before .before .before .before .before .before .before .before .before .before .args .self in
+    let a = c .before .before .before .before .before .before .before .before .before .before .before .before .before .before .before .args .address in
+    let n = c .before .before .before .before .before .before .before .before .before .before .before .before .before .before .before .args .number in
+    let k = c .before .before .before .before .before .before .before .before .before .before .before .before .before .before .before .args .sectors in
+    let p = place d a n (c .before .before .before .before .before .before .before .before .before .before .before .before .before .before .before .pre .0) (c .before .before .before .before .before .before .before .before .before .before .before .before .before .before .before .pre .1) in
+    let h = end-from d a n k (c .before .before .before .before .before .before .before .before .before .before .before .before .before .end-address .result) (c .before .before .before .before .before .before .before .before .before .before .before .before .before .end-address .ensures ∙ ap (λ f. firstSector (end f)) (c .before .before .before .before .before .before .before .before .before .before .before .before .before .before .numbered .ensures)) (c .before .before .before .before .before .before .before .before .before .before .if1 .left) in
+    rw (c .accepted .ensures, decided-accepted, c .before .before .before .gather .ensures, c .before .none .ensures, c .before .before .before .before .before .new .ensures, c .before .before .before .before .before .before .flushing-others .ensures, c .before .before .before .before .before .before .before .whole-blocks .ensures, c .before .before .before .before .before .before .before .before .first-unrecorded .ensures, c .before .before .before .before .before .before .before .before .before .pending-in .ensures, c .before .before .before .before .before .before .before .before .before .before .before .before .before .before .numbered .ensures, le-ltb _ _ h, write-count d n k (c .before .before .before .before .before .before .before .before .before .before .before .before .before .before .before .pre .0) (c .before .before .before .before .before .before .before .before .before .before .before .before .before .before .before .pre .1 .from) (p .slot))
 
 pub write-to-spec : {M : Type 1} → statement M
 write-to-spec =
     tie.close
     (tie.spec
-    sub-f
-    mul-f
-    element-copy-out-f
+    numbered-requires
     end-address-requires
     add-if1
     refused-requires
@@ -130,7 +136,7 @@ write-to-spec =
     add-whole-blocks
     whole-blocks-requires
     cast-gathered
-    flush-others-requires
+    flushing-others-requires
     new-requires
     gather-requires
     add-accepted

@@ -9,39 +9,30 @@ use Rattle.protocol.proofs.answer.DriveRefusal.sense.Reads as sense-rea
 use Rattle.protocol.proofs.answer.LinkRefusal.number.Reads as answer-LinkRefusal-number-reads
 use Rattle.protocol.proofs.answer.Sense.number.Reads as answer-Sense-number-reads
 
--- src/answer.rt:119:33
 enum-told : tie.Need-enum-told
 enum-told c = search needs
 
--- src/answer.rt:120:26
 enum-known-self : tie.Need-enum-known-self
 enum-known-self c = search needs
 
--- src/answer.rt:120:38
 number-requires : tie.Need-number-requires
 number-requires c κs = search needs
 
--- src/answer.rt:121:27
 enum-known-self-2 : tie.Need-enum-known-self-2
 enum-known-self-2 c = search needs
 
--- src/answer.rt:121:39
 sense-requires : tie.Need-sense-requires
 sense-requires c κs = search needs
 
--- src/answer.rt:121:39
 number-requires-2 : tie.Need-number-requires-2
 number-requires-2 c κs = search needs
 
--- src/answer.rt:115:5
 returns : tie.Need-returns
 returns c = search needs
 
--- src/answer.rt:115:5
 returns-2 : tie.Need-returns-2
 returns-2 c = search needs
 
--- src/answer.rt:115:5
 returns-3 : tie.Need-returns-3
 returns-3 c = rw (c .before .before .before .self2 .given .1) (c .number2 .ensures ∙ ap senseNumber (c .before .sense .ensures))
 

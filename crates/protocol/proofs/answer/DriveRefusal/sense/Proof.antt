@@ -64,43 +64,33 @@ new-requires-10 : tie.Need-new-requires-10
 new-requires-10 c κs = search needs
 
 returns : tie.Need-returns
-unfolding refusalSense
 returns c = simp (c .new .ensures, c .before .enum-told .given .1)
 
 returns-2 : tie.Need-returns-2
-unfolding refusalSense
 returns-2 c = simp (c .new2 .ensures, c .before .enum-told2 .given .1)
 
 returns-3 : tie.Need-returns-3
-unfolding refusalSense
 returns-3 c = simp (c .new3 .ensures, c .before .enum-told3 .given .1)
 
 returns-4 : tie.Need-returns-4
-unfolding refusalSense
 returns-4 c = simp (c .new4 .ensures, c .before .enum-told4 .given .1)
 
 returns-5 : tie.Need-returns-5
-unfolding refusalSense
 returns-5 c = simp (c .new5 .ensures, c .before .enum-told5 .given .1)
 
 returns-6 : tie.Need-returns-6
-unfolding refusalSense
 returns-6 c = simp (c .new6 .ensures, c .before .enum-told6 .given .1)
 
 returns-7 : tie.Need-returns-7
-unfolding refusalSense
 returns-7 c = simp (c .new7 .ensures, c .before .enum-told7 .given .1)
 
 returns-8 : tie.Need-returns-8
-unfolding refusalSense
 returns-8 c = simp (c .new8 .ensures, c .before .enum-told8 .given .1)
 
 returns-9 : tie.Need-returns-9
-unfolding refusalSense
 returns-9 c = simp (c .new9 .ensures, c .before .enum-told9 .given .1)
 
 returns-10 : tie.Need-returns-10
-unfolding refusalSense
 returns-10 c = simp (c .new10 .ensures, c .before .enum-told10 .given .1)
 
 pub sense-spec : {M : Type 1} → statement M

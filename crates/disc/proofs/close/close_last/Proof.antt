@@ -1,0 +1,32 @@
+use Rattle.disc.specs.Close.{closingLast}
+use mathlib.Core.Path.{_≡_, refl, sym, _∙_, ap}
+use native.Mathlib.Omega.{arith}
+use borrow.Author.Needs.{needs}
+use Rattle.disc.proofs.close.close_last.Statement.{statement}
+use Rattle.disc.proofs.close.close_last.Tie as tie
+use Rattle.disc.proofs.close.close_last.Reads as reads
+use Rattle.disc.proofs.close.close_last.Lts as lts
+use Rattle.disc.proofs.close.tail_closed.Reads as tail-closed-reads
+use Rattle.disc.proofs.decision.Decision.accepted.Reads as accepted-reads
+use Rattle.disc.proofs.verdict.Plan.new.Reads as new-reads
+use Rattle.protocol.proofs.reply.Reply.none.Reads as none-reads
+
+new-requires : tie.Need-new-requires
+new-requires c κs = search needs
+
+tail-closed-requires : tie.Need-tail-closed-requires
+tail-closed-requires c κs = search needs
+
+none-requires : tie.Need-none-requires
+none-requires c κs = search needs
+
+accepted-requires : tie.Need-accepted-requires
+accepted-requires c κs = search needs
+
+returns : tie.Need-returns
+unfolding closingLast
+returns c = rw (c .accepted .ensures, c .before .none .ensures, c .before .before .tail-closed .ensures, c .before .before .before .before .new .ensures)
+
+pub close-last-spec : {M : Type 1} → statement M
+close-last-spec =
+    tie.close (tie.spec new-requires tail-closed-requires none-requires accepted-requires returns)

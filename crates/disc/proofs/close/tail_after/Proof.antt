@@ -1,0 +1,62 @@
+use borrow.Author.Tests.{eq-eqb, ne-eqb, lt-ltb, le-ltb, not-true, not-false}
+use Rattle.disc.specs.Close.{tailAfter}
+use Rattle.fragments.proofs.Laws.Address.{wide-number}
+use borrow.Author.Needs.{needs}
+use mathlib.Core.Path.{_≡_, refl, sym, _∙_, ap}
+use native.Mathlib.Omega.{arith}
+use Rattle.disc.proofs.close.tail_after.Statement.{statement}
+use Rattle.disc.proofs.close.tail_after.Tie as tie
+use Rattle.disc.proofs.close.tail_after.Reads as reads
+use Rattle.disc.proofs.close.tail_after.Lts as lts
+use Rattle.disc.proofs.change.tail_from.Reads as tail-from-reads
+use Rattle.disc.proofs.decision.Entry.new.Reads as new-reads
+use Rattle.disc.proofs.decision.Entry.none.Reads as none-reads
+use Rattle.fragments.proofs.fragment.Fragment.next_start.Reads as next-start-reads
+
+next-start-requires : tie.Need-next-start-requires
+next-start-requires c κs = search needs
+
+none-requires : tie.Need-none-requires
+none-requires c κs = search needs
+
+returns : tie.Need-returns
+unfolding tailAfter
+returns c = rw (c .none .ensures, ← wide-number (c .before .before .before .next-start .ensures), le-ltb _ _ (c .before .if1 .taken))
+
+none-requires-2 : tie.Need-none-requires-2
+none-requires-2 c κs = search needs
+
+returns-2 : tie.Need-returns-2
+unfolding tailAfter
+returns-2 c = rw (c .none2 .ensures, ← wide-number (c .before .before .before .before .next-start .ensures), lt-ltb _ _ (c .before .before .if1 .left), le-ltb _ _ (c .before .if2 .taken))
+
+cast-t8 : tie.Need-cast-t8
+cast-t8 c = search needs
+
+tail-from-requires : tie.Need-tail-from-requires
+tail-from-requires c κs = search needs
+
+add-new : tie.Need-add-new
+add-new c = search needs
+
+new-requires : tie.Need-new-requires
+new-requires c κs = search needs
+
+returns-3 : tie.Need-returns-3
+unfolding tailAfter
+returns-3 c = rw (c .new .ensures, c .before .tail-from .ensures, ← wide-number (c .before .before .before .before .before .before .next-start .ensures), lt-ltb _ _ (c .before .before .before .before .if1 .left), lt-ltb _ _ (c .before .before .before .if2 .left))
+
+pub tail-after-spec : {M : Type 1} → statement M
+tail-after-spec =
+    tie.close
+    (tie.spec
+    next-start-requires
+    none-requires
+    returns
+    none-requires-2
+    returns-2
+    cast-t8
+    tail-from-requires
+    add-new
+    new-requires
+    returns-3)

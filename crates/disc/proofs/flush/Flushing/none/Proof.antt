@@ -1,0 +1,17 @@
+use mathlib.Core.Path.{_≡_, refl, sym, _∙_, ap}
+use native.Mathlib.Omega.{arith}
+use borrow.Author.Needs.{needs}
+use Rattle.disc.proofs.flush.Flushing.none.Statement.{statement}
+use Rattle.disc.proofs.flush.Flushing.none.Tie as tie
+use Rattle.disc.proofs.flush.Flushing.none.Reads as reads
+use Rattle.disc.proofs.flush.Flushing.none.Lts as lts
+use Rattle.disc.proofs.decision.Entry.none.Reads as none-reads
+
+none-requires : tie.Need-none-requires
+none-requires c κs = search needs
+
+returns : tie.Need-returns
+returns c = rw (c .none .ensures)
+
+pub none-spec : {M : Type 1} → statement M
+none-spec = tie.close (tie.spec none-requires returns)

@@ -1,0 +1,55 @@
+use borrow.Author.Tests.{eq-eqb, ne-eqb, lt-ltb, le-ltb, not-true, not-false}
+use Rattle.disc.specs.Close.{close}
+use Rattle.disc.proofs.Laws.Decision.{decided-refused}
+use mathlib.Core.Path.{_≡_, refl, sym, _∙_, ap}
+use native.Mathlib.Omega.{arith}
+use borrow.Author.Needs.{needs}
+use Rattle.disc.proofs.state.Disc.close_track_session.Statement.{statement}
+use Rattle.disc.proofs.state.Disc.close_track_session.Tie as tie
+use Rattle.disc.proofs.state.Disc.close_track_session.Reads as reads
+use Rattle.disc.proofs.state.Disc.close_track_session.Lts as lts
+use Rattle.disc.proofs.decision.Decision.refused.Reads as refused-reads
+use Rattle.disc.proofs.state.Disc.close_fragment.Reads as close-fragment-reads
+use Rattle.disc.proofs.state.Disc.close_session.Reads as close-session-reads
+use Rattle.disc.proofs.state.Disc.finalize.Reads as finalize-reads
+
+close-fragment-requires : tie.Need-close-fragment-requires
+close-fragment-requires c κs = search needs
+
+close-session-requires : tie.Need-close-session-requires
+close-session-requires c κs = search needs
+
+finalize-requires : tie.Need-finalize-requires
+finalize-requires c κs = search needs
+
+refused-requires : tie.Need-refused-requires
+refused-requires c κs = search needs
+
+returns : tie.Need-returns
+unfolding close
+returns c = rw (c .close-fragment .ensures, c .before .match .keys1)
+
+returns-2 : tie.Need-returns-2
+unfolding close
+returns-2 c = rw (c .close-session .ensures, c .before .match .keys2)
+
+returns-3 : tie.Need-returns-3
+unfolding close
+returns-3 c = rw (c .finalize .ensures, c .before .match .keys3)
+
+returns-4 : tie.Need-returns-4
+unfolding close
+returns-4 c = rw (c .refused .ensures, decided-refused, ne-eqb _ _ (c .before .match .rest .0 .0 .1), ne-eqb _ _ (c .before .match .rest .0 .1), ne-eqb _ _ (c .before .match .rest .1))
+
+pub close-track-session-spec : {M : Type 1} → statement M
+close-track-session-spec =
+    tie.close
+    (tie.spec
+    close-fragment-requires
+    close-session-requires
+    finalize-requires
+    refused-requires
+    returns
+    returns-2
+    returns-3
+    returns-4)

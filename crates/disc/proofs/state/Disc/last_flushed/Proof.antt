@@ -1,0 +1,28 @@
+use Rattle.disc.proofs.Laws.Rules.{sound-rules}
+use Rattle.disc.proofs.Laws.Decision.{flush-numbered, last-flushed}
+use Rattle.disc.specs.Records.{used}
+use mathlib.Core.Path.{_≡_, refl, sym, _∙_, ap}
+use native.Mathlib.Omega.{arith}
+use borrow.Author.Needs.{needs}
+use Rattle.disc.proofs.state.Disc.last_flushed.Statement.{statement}
+use Rattle.disc.proofs.state.Disc.last_flushed.Tie as tie
+use Rattle.disc.proofs.state.Disc.last_flushed.Reads as reads
+use Rattle.disc.proofs.state.Disc.last_flushed.Lts as lts
+use Rattle.disc.proofs.decision.Entry.over.Reads as over-reads
+use Rattle.disc.proofs.state.Disc.last.Reads as last-reads
+
+last-requires : tie.Need-last-requires
+last-requires c κs = search needs
+
+over-requires : tie.Need-over-requires
+over-requires c κs = search needs
+
+returns : tie.Need-returns
+returns c =
+    let d = c .before .before .args .self in
+    let r = c .before .before .pre .0 in
+    let f = rw (c .before .last .ensures, c .before .before .pre .1) at (c .over .ensures) in
+    last-flushed d r _ (ap (λ l. l .number) (c .before .last .ensures)) (f ∙ flush-numbered d r (used d) (sound-rules d (r .sound) .some))
+
+pub last-flushed-spec : {M : Type 1} → statement M
+last-flushed-spec = tie.close (tie.spec last-requires over-requires returns)

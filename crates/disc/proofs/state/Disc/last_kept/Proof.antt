@@ -1,0 +1,115 @@
+use borrow.Author.Tests.{eq-eqb, ne-eqb, lt-ltb, le-ltb, not-true, not-false}
+use mathlib.Core.Bool.{true, false}
+use Prim.Native.Nat.{_-_}
+use Rattle.fragments.specs.List.{lastOf}
+use Rattle.disc.specs.Flush.{flush}
+use Rattle.disc.specs.Records.{used, lastRecord, hasTail}
+use Rattle.disc.proofs.Laws.Flush.{used-limit, flush-used, flush-sound, flush-pending}
+use Rattle.disc.proofs.Laws.Decision.{flush-numbered, kept-last-same, kept-last-written, kept-last-none, kept-last-before}
+use mathlib.Core.Path.{_≡_, refl, sym, _∙_, ap}
+use native.Mathlib.Omega.{arith}
+use borrow.Author.Needs.{needs}
+use Rattle.disc.proofs.state.Disc.last_kept.Statement.{statement}
+use Rattle.disc.proofs.state.Disc.last_kept.Tie as tie
+use Rattle.disc.proofs.state.Disc.last_kept.Reads as reads
+use Rattle.disc.proofs.state.Disc.last_kept.Lts as lts
+use Rattle.disc.proofs.change.shortened.Reads as shortened-reads
+use Rattle.disc.proofs.decision.Entry.over.Reads as over-reads
+use Rattle.disc.proofs.state.Disc.numbered.Reads as numbered-reads
+use Rattle.fragments.proofs.fragment.Fragment.is_tail.Reads as is-tail-reads
+use Rattle.fragments.proofs.fragment.Fragment.unused.Reads as unused-reads
+
+is-tail-requires : tie.Need-is-tail-requires
+is-tail-requires c κs = search needs
+
+returns : tie.Need-returns
+returns c =
+    let d = c .before .before .before .args .self in
+    let r = c .before .before .before .pre .0 in
+    let e = flush d in
+    let s = flush-sound d r in
+    let p = flush-pending d in
+    let l : c .before .before .before .args .last ≡ lastOf (e .fragments) = c .before .before .before .pre .1 .1 in
+    l ∙ kept-last-same e s p (rw l at (sym (c .before .is-tail .ensures) ∙ not-true _ (c .if1 .taken)))
+
+shortened-requires : tie.Need-shortened-requires
+shortened-requires c κs = search needs
+
+returns-2 : tie.Need-returns-2
+returns-2 c =
+    let d = c .before .before .before .before .before .before .args .self in
+    let r = c .before .before .before .before .before .before .pre .0 in
+    let e = flush d in
+    let s = flush-sound d r in
+    let p = flush-pending d in
+    let l : c .before .before .before .before .before .before .args .last ≡ lastOf (e .fragments) = c .before .before .before .before .before .before .pre .1 .1 in
+    let t : hasTail e ≡ true = rw l at (sym (c .before .before .before .before .is-tail .ensures) ∙ not-false _ (c .before .before .before .if1 .left)) in
+    rw (c .shortened .ensures, l) (kept-last-written e s p t (rw l at (c .before .if2 .taken)))
+
+sub-number : tie.Need-sub-number
+sub-number c =
+    let d = c .before .before .before .before .before .before .args .self in
+    let r = c .before .before .before .before .before .before .pre .0 in
+    let e = flush d in
+    let s = flush-sound d r in
+    let p = flush-pending d in
+    let l : c .before .before .before .before .before .before .args .last ≡ lastOf (e .fragments) = c .before .before .before .before .before .before .pre .1 .1 in
+    omega (arith, s .some, ap (λ x. x .number) l)
+
+unused-requires : tie.Need-unused-requires
+unused-requires c κs = search needs
+
+returns-3 : tie.Need-returns-3
+returns-3 c =
+    let d = c .before .before .before .before .before .before .before .before .args .self in
+    let r = c .before .before .before .before .before .before .before .before .pre .0 in
+    let e = flush d in
+    let s = flush-sound d r in
+    let p = flush-pending d in
+    let l : c .before .before .before .before .before .before .before .before .args .last ≡ lastOf (e .fragments) = c .before .before .before .before .before .before .before .before .pre .1 .1 in
+    let t : hasTail e ≡ true = rw l at (sym (c .before .before .before .before .before .before .is-tail .ensures) ∙ not-false _ (c .before .before .before .before .before .if1 .left)) in
+    let z : lastRecord e .recorded ≡ 0 = rw l at (c .before .before .before .if2 .left) in
+    let n : used e - 1 ≡ 0 = rw l at (c .before .if3 .taken) in
+    rw (c .unused .ensures, l, n) (kept-last-none e s p t z n)
+
+numbered-requires : tie.Need-numbered-requires
+numbered-requires c κs =
+    let d = c .before .before .before .before .before .before .before .args .self in
+    let r = c .before .before .before .before .before .before .before .pre .0 in
+    let e = flush d in
+    let s = flush-sound d r in
+    let p = flush-pending d in
+    let l : c .before .before .before .before .before .before .before .args .last ≡ lastOf (e .fragments) = c .before .before .before .before .before .before .before .pre .1 .1 in
+    (omega (arith, c .if3 .left), omega (arith, ap (λ x. x .number) l, flush-used d r, used-limit d r))
+
+over-requires : tie.Need-over-requires
+over-requires c κs = search needs
+
+returns-4 : tie.Need-returns-4
+returns-4 c =
+    let d = c .before .before .before .before .before .before .before .before .before .args .self in
+    let r = c .before .before .before .before .before .before .before .before .before .pre .0 in
+    let e = flush d in
+    let s = flush-sound d r in
+    let p = flush-pending d in
+    let l : c .before .before .before .before .before .before .before .before .before .args .last ≡ lastOf (e .fragments) = c .before .before .before .before .before .before .before .before .before .pre .1 .1 in
+    let t : hasTail e ≡ true = rw l at (sym (c .before .before .before .before .before .before .before .is-tail .ensures) ∙ not-false _ (c .before .before .before .before .before .before .if1 .left)) in
+    let z : lastRecord e .recorded ≡ 0 = rw l at (c .before .before .before .before .if2 .left) in
+    let n : used e - 1 ≡ 0 → ⊥ = rw l at (c .before .before .if3 .left) in
+    let f = rw (c .before .numbered .ensures, c .before .before .before .before .before .before .before .before .before .pre .1 .0, l) at (c .over .ensures) in
+    rw (f ∙ flush-numbered d r (used e - 1) (omega arith), l) (kept-last-before e s p t z n)
+
+pub last-kept-spec : {M : Type 1} → statement M
+last-kept-spec =
+    tie.close
+    (tie.spec
+    is-tail-requires
+    returns
+    shortened-requires
+    returns-2
+    sub-number
+    unused-requires
+    returns-3
+    numbered-requires
+    over-requires
+    returns-4)

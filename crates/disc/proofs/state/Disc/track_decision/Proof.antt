@@ -1,0 +1,29 @@
+use Rattle.disc.specs.Reports.{trackVerdict}
+use Rattle.disc.proofs.Laws.Decision.{decided-unchanged}
+use mathlib.Core.Path.{_≡_, refl, sym, _∙_, ap}
+use native.Mathlib.Omega.{arith}
+use borrow.Author.Needs.{needs}
+use Rattle.disc.proofs.state.Disc.track_decision.Statement.{statement}
+use Rattle.disc.proofs.state.Disc.track_decision.Tie as tie
+use Rattle.disc.proofs.state.Disc.track_decision.Reads as reads
+use Rattle.disc.proofs.state.Disc.track_decision.Lts as lts
+use Rattle.disc.proofs.decision.Decision.unchanged.Reads as unchanged-reads
+use Rattle.disc.proofs.state.Disc.track_report.Reads as track-report-reads
+use Rattle.protocol.proofs.reply.Reply.of_track.Reads as of-track-reads
+
+track-report-requires : tie.Need-track-report-requires
+track-report-requires c κs = search needs
+
+of-track-requires : tie.Need-of-track-requires
+of-track-requires c κs = search needs
+
+unchanged-requires : tie.Need-unchanged-requires
+unchanged-requires c κs = search needs
+
+returns : tie.Need-returns
+unfolding trackVerdict
+returns c = rw (c .unchanged .ensures, decided-unchanged, c .before .of-track .ensures, c .before .before .track-report .ensures)
+
+pub track-decision-spec : {M : Type 1} → statement M
+track-decision-spec =
+    tie.close (tie.spec track-report-requires of-track-requires unchanged-requires returns)

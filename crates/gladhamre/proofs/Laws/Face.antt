@@ -12,9 +12,8 @@ use Rattle.disc.specs.Blank.{inRange, Blanked}
 use Rattle.fragments.proofs.Laws.Bool.{and-left, and-right, and-both, by-cases}
 use Rattle.disc.specs.Judge.{judge, judgeCommand}
 use Rattle.disc.specs.Sound.{allowedState}
-use Rattle.disc.specs.Verdict.{refuseLink}
-use Rattle.drive.specs.Step.{drive, Request, lent, refused, Answered}
-use Rattle.drive.proofs.Laws.Step.{verdict-judge, refused-answered}
+use Rattle.drive.specs.Step.{drive, Request, lent, declined, responseOf, Answered, Served}
+use Rattle.drive.proofs.Laws.Step.{verdict-judge, declined-served}
 use Rattle.gladhamre.specs.Types.{Blank, Response, LinkRefusal, CommandBlockLength, MediumSize, UnsoundState, Link, Unsound}
 use Rattle.gladhamre.specs.Image.{imageLength, word, encode, decode, isState}
 use Rattle.gladhamre.specs.Used.{wordsOf}
@@ -119,24 +118,23 @@ module _ (l : Lent) (q : Request) where
       state-faced n h told = refused-faced UnsoundState n (rw (eq-eqb (length (q .cdb)) 12 block, lent, h)) told
 
       -- words that are not taken: no state's, or L3 of the entry
-      unsound-answered :
+      unsound-served :
           length (l .state) ≡ imageLength → allowedState (decode (l .state)) ≡ false
-          → Answered (drive (decode (l .state)) (l .medium) (l .pending)) q (refused (decode (l .state)) UnsoundState) (l .medium) (l .pending) (q .buffer)
+          → Served (drive (decode (l .state)) (l .medium) (l .pending)) q (declined (decode (l .state) .sense) UnsoundState) (l .medium) (l .pending) (q .buffer)
       unfolding judge judgeCommand decode
-      unsound-answered whole a =
+      unsound-served whole a =
           let w = l .state in
           let s = drive (decode w) (l .medium) (l .pending) in
           let fits = lent-fits w (length (l .medium)) (length (l .pending)) whole lent in
-          refused-answered s q UnsoundState _
+          declined-served s q UnsoundState _
           (sym (rw (eq-eqb (length (q .cdb)) 12 block, fits .range, a)) ∙ verdict-judge s q block (fits .buffers)) refl
 
       pub unsound-faced :
           (n : ℕ) → wordsOf (l .state) ≡ Unsound → n ≡ number (Link UnsoundState)
           → Faced l q n 0 0 (l .state) (l .medium) (l .pending) (q .buffer)
-      unfolding refuseLink
       unsound-faced n e told =
           by-cases (isState (l .state))
           (λ t.
-          step-faced (refused (decode (l .state)) UnsoundState) n 0 0 (l .state) (l .medium) (l .pending) (q .buffer) t
-          (unsound-answered (state-words (l .state) t .0) (unsound-words (l .state) e t)) told refl refl (rw told))
+          step-faced (responseOf (decode (l .state)) (declined (decode (l .state) .sense) UnsoundState)) n 0 0 (l .state) (l .medium) (l .pending) (q .buffer) t
+          (unsound-served (state-words (l .state) t .0) (unsound-words (l .state) e t)) told refl refl (rw told))
           (λ t. state-faced n t told)

@@ -7,9 +7,6 @@ pub use Rattle.protocol.specs.declared.answer.LinkRefusal.{LinkRefusal}
 pub use Rattle.protocol.specs.declared.answer.LinkRefusal.the-variants.{CommandBlockLength, MediumSize, UnsoundState}
 pub use Rattle.protocol.specs.declared.answer.Answer.the-variants.{Accepted, Link}
 pub use Rattle.disc.specs.declared.decision.Entry.{Entry}
-pub use Rattle.disc.specs.declared.decision.Effect.{Effect}
-pub use Rattle.disc.specs.declared.decision.Effect.the-variants.{Keep, Settle, Reserve, Close, Grow}
-pub use Rattle.disc.specs.declared.decision.Change.{Change}
 pub use Rattle.protocol.specs.declared.answer.Sense.{Sense}
 pub use Rattle.disc.specs.declared.blank.Blank.{Blank}
 pub use Rattle.drive.specs.declared.entry.Response.{Response}

@@ -9,7 +9,7 @@ use Rattle.protocol.specs.Answer.{number}
 use Rattle.disc.specs.Blank.{inRange, made}
 use Rattle.drive.specs.Step.{drive, Request, Result, step}
 use Rattle.gladhamre.specs.Types.{LinkRefusal, CommandBlockLength, MediumSize, UnsoundState, Accepted, Link}
-use Rattle.gladhamre.specs.Image.{word, encode, decode, isState}
+use Rattle.gladhamre.specs.Image.{imageLength, word, encode, decode, isState}
 
 -- what firmware lends with a command, beside the request: the image and the two buffers
 pub record Lent : Type 0 where
@@ -86,10 +86,10 @@ pub record Faced (l : Lent) (q : Request) (n count recorded : ℕ) (state medium
 -- the image that `blank` leaves, and its number: the state that is made; an image of a wrong length stays, and is L3 where C is in
 -- range
 unfoldable pub blankState : ℕ → List ℕ → List ℕ
-blankState c w = cond (eqb (length w) 391) (encode (made c .disc)) w
+blankState c w = cond (eqb (length w) imageLength) (encode (made c .disc)) w
 
 unfoldable pub blankNumber : ℕ → List ℕ → ℕ
-blankNumber c w = cond (inRange c) (cond (eqb (length w) 391) (number Accepted) (number (Link UnsoundState))) (number (Link MediumSize))
+blankNumber c w = cond (inRange c) (cond (eqb (length w) imageLength) (number Accepted) (number (Link UnsoundState))) (number (Link MediumSize))
 
 -- the promise of the function that makes a blank disc
 pub record BlankFaced (c : ℕ) (w : List ℕ) (n : ℕ) (state : List ℕ) : Type 0 where

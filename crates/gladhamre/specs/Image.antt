@@ -1,5 +1,5 @@
--- The image of a disc state: 391 words of 32 bits. C, finalized, key, ASC, ASCQ, pending count, its fragment, then six words a record.
-use Prim.Native.Nat.{ℕ, zero, suc, _<_}
+-- The image of a disc state: words of 32 bits. C, finalized, key, ASC, ASCQ, pending count, its fragment, then six words a record.
+use Prim.Native.Nat.{ℕ, zero, suc, _+_, _*_, _<_}
 use mathlib.Core.Path.{_≡_}
 use mathlib.Core.Bool.{Bool, true, cond, _&&_}
 use mathlib.Core.List.{List, [], _∷_, _++_}
@@ -9,6 +9,10 @@ use Rattle.fragments.specs.Address.{block}
 use Rattle.protocol.specs.Answer.{sense}
 use Rattle.fragments.specs.List.{limit}
 use Rattle.gladhamre.specs.Types.{Kind, Reserved, Appended, Fragment, Disc}
+
+-- seven words of the head, and six a record
+abbrev pub imageLength : ℕ
+imageLength = 7 + 6 * limit
 
 -- 0 for no and for a reserved fragment, 1 for yes and for an appended one
 abbrev pub flagWord : Bool → ℕ
@@ -83,10 +87,10 @@ headFits w =
     ltb (word w 1) 2 && ltb (word w 2) 256 && ltb (word w 3) 256 && ltb (word w 4) 256 && ltb (word w 5) 256 && ltb (word w 6) 256
 
 unfoldable pub isState : List ℕ → Bool
-isState w = eqb (length w) 391 && headFits w && listFits limit (drop 7 w)
+isState w = eqb (length w) imageLength && headFits w && listFits limit (drop 7 w)
 
 -- the same as facts on numbers, which the code that reads a state asks
 abbrev pub StateWords : List ℕ → Type 0
 StateWords w =
-    (length w ≡ 391) × (word w 1 < 2) × (word w 2 < 256) × (word w 3 < 256) × (word w 4 < 256) × (word w 5 < 256) × (word w 6 < 256)
+    (length w ≡ imageLength) × (word w 1 < 2) × (word w 2 < 256) × (word w 3 < 256) × (word w 4 < 256) × (word w 5 < 256) × (word w 6 < 256)
     × (listFits limit (drop 7 w) ≡ true)

@@ -1,9 +1,10 @@
 // The C face: functions that firmware in C or Rust links, on numbers and slices of numbers. include/gladhamre.h declares them.
-// A state travels as an image of 391 words, which the caller keeps. Every function is total: what it cannot work with it refuses by its
+// A state travels as an image of words, which the caller keeps. Every function is total: what it cannot work with it refuses by its
 // number.
 mod image;
 
 use disc::Disc;
+use image::Words;
 use protocol::Answer;
 use protocol::BLOCK_LENGTH;
 use protocol::CDB_LENGTH;
@@ -87,10 +88,11 @@ pub extern "C" fn gladhamre_command(
     if !is_lent(state, medium.len(), pending.len()) {
         return refusal_number(LinkRefusal::MediumSize);
     }
-    if !image::is_state(state) {
+    let words = image::examine(state);
+    let Words::State(used) = words else {
         return refusal_number(LinkRefusal::UnsoundState);
-    }
-    let disc = image::read(state);
+    };
+    let disc = image::read(state, used);
     let response = drive::command(cdb, data, disc, medium, pending, reply);
     *count = response.length as u64;
     *recorded = response.recorded as u64;

@@ -6,17 +6,17 @@ use native.Mathlib.Nat.{not-suc-le-zero, le-of-suc-le-suc}
 use native.Mathlib.Omega.{arith}
 use mathlib.Core.Bool.{Bool, true, false, _&&_}
 use mathlib.Core.List.{List, [], _∷_, _++_, append-nil}
-use lib.ListN.{length, getD, set, take, drop, length-append, drop-of-length-le}
-use lib.Seq.{drop-drop, getD-take, take-all, length-take-le, sets, sets-eq}
-use borrow.Author.Tests.{eq-eqb, ne-eqb, eqb-true, ltb-true, lt-ltb}
+use lib.ListN.{length, getD, set, take, drop, length-append, length-drop, drop-of-length-le}
+use lib.Seq.{drop-cons, drop-drop, getD-take, take-all, length-take-le, sets, sets-eq}
+use borrow.Author.Tests.{eq-eqb, eqb-true, eqb-false, ltb-true, lt-ltb}
 use lib.Dec.{eqb, ltb}
 use Rattle.fragments.specs.Fragment.{unusedRecord}
 use Rattle.fragments.specs.List.{limit}
-use Rattle.fragments.proofs.Laws.Bool.{and-left, and-right, and-both}
+use Rattle.fragments.proofs.Laws.Bool.{and-left, and-right, and-both, by-cases}
 use Rattle.drive.specs.Bytes.{splice}
 use Rattle.drive.proofs.Laws.Bytes.{splice-splice, splice-end}
 use Rattle.gladhamre.specs.Types.{Kind, Reserved, Appended, Fragment, Disc}
-use Rattle.gladhamre.specs.Image.{flagWord, kindWord, kindOf, decode, word, recordOf, recordFits, recordWords, listOf, listFits, listWords, headWords, headFits, encode, isState, StateWords}
+use Rattle.gladhamre.specs.Image.{imageLength, flagWord, kindWord, kindOf, decode, word, recordOf, recordFits, recordWords, listOf, listFits, listWords, headWords, headFits, encode, isState, StateWords}
 
 -- as many words stored as there are: only they are left
 pub fill-all : (xs w : List ℕ) → length w ≡ length xs → sets w 0 xs ≡ xs
@@ -27,9 +27,6 @@ pub part-record : (v : List ℕ) → recordOf (take 6 v) ≡ recordOf v
 part-record v =
     rw (getD-take 6 v 0 0 (omega arith), getD-take 6 v 1 0 (omega arith), getD-take 6 v 2 0 (omega arith), getD-take 6 v 3 0 (omega arith), getD-take 6 v 4 0 (omega arith), getD-take 6 v 5 0 (omega arith))
 
-pub part-fits : (v : List ℕ) → recordFits (take 6 v) ≡ recordFits v
-part-fits v = rw (getD-take 6 v 0 0 (omega arith), getD-take 6 v 5 0 (omega arith))
-
 drop-sum : (v : List ℕ) (a b c : ℕ) → b + a ≡ c → drop a (drop b v) ≡ drop c v
 drop-sum v a b c h = drop-drop a b v ∙ ap (λ (n : ℕ). drop n v) h
 
@@ -37,28 +34,22 @@ drop-sum v a b c h = drop-drop a b v ∙ ap (λ (n : ℕ). drop n v) h
 pub record-at : (w : List ℕ) (i : ℕ) → drop (7 + 6 * i) w ≡ drop (6 * i) (drop 7 w)
 record-at w i = sym (drop-sum w (6 * i) 7 (7 + 6 * i) refl)
 
-next-record : (v : List ℕ) (i : ℕ) → drop 6 (drop (6 * i) v) ≡ drop (6 * (i + 1)) v
+pub next-record : (v : List ℕ) (i : ℕ) → drop 6 (drop (6 * i) v) ≡ drop (6 * (i + 1)) v
 next-record v i = drop-sum v 6 (6 * i) (6 * (i + 1)) (omega arith)
 
-record-after : (v : List ℕ) (i : ℕ) → drop (6 * suc i) v ≡ drop (6 * i) (drop 6 v)
+pub record-after : (v : List ℕ) (i : ℕ) → drop (6 * suc i) v ≡ drop (6 * i) (drop 6 v)
 record-after v i = sym (drop-sum v (6 * i) 6 (6 * suc i) (omega arith))
 
--- one turn of the test, from index i
-pub fits-step :
-    (n i : ℕ) (v : List ℕ) → i < n
-    → listFits (n - i) (drop (6 * i) v) ≡ (recordFits (drop (6 * i) v) && listFits (n - (i + 1)) (drop (6 * (i + 1)) v))
-unfolding listFits
-fits-step n i v h =
-    let k : n - i ≡ suc (n - (i + 1)) = omega arith in
-    rw (k, next-record v i)
-
--- records that all fit, at an index
-pub fits-at : (n i : ℕ) (v : List ℕ) → i < n → listFits n v ≡ true → recordFits (drop (6 * i) v) ≡ true
-unfolding listFits
-fits-at zero i v h t = absurd (not-suc-le-zero h)
-fits-at (suc n) zero v h t = and-left (recordFits v) (listFits n (drop 6 v)) t
-fits-at (suc n) (suc i) v h t =
-    rw (record-after v i) (fits-at n i (drop 6 v) (le-of-suc-le-suc h) (and-right (recordFits v) (listFits n (drop 6 v)) t))
+-- words one by one
+pub six-words :
+    (v : List ℕ) → 6 ≤ length v → v ≡ word v 0 ∷ word v 1 ∷ word v 2 ∷ word v 3 ∷ word v 4 ∷ word v 5 ∷ drop 6 v
+six-words [] h = absurd (omega arith)
+six-words (x₀ ∷ []) h = absurd (omega arith)
+six-words (x₀ ∷ x₁ ∷ []) h = absurd (omega arith)
+six-words (x₀ ∷ x₁ ∷ x₂ ∷ []) h = absurd (omega arith)
+six-words (x₀ ∷ x₁ ∷ x₂ ∷ x₃ ∷ []) h = absurd (omega arith)
+six-words (x₀ ∷ x₁ ∷ x₂ ∷ x₃ ∷ x₄ ∷ []) h = absurd (omega arith)
+six-words (x₀ ∷ x₁ ∷ x₂ ∷ x₃ ∷ x₄ ∷ x₅ ∷ v) h = refl
 
 -- one turn of the reading
 read-suc :
@@ -93,36 +84,17 @@ pub words-more :
 words-more i fs d h = rw add-one (words-suc i fs d h)
 
 -- the same for the part that is lent
-lent-part : (w : List ℕ) (i : ℕ) → take (7 + 6 * i + 6 - (7 + 6 * i)) (drop (7 + 6 * i) w) ≡ take 6 (drop (6 * i) (drop 7 w))
+pub lent-part : (w : List ℕ) (i : ℕ) → take (7 + 6 * i + 6 - (7 + 6 * i)) (drop (7 + 6 * i) w) ≡ take 6 (drop (6 * i) (drop 7 w))
 lent-part w i =
     let k : 7 + 6 * i + 6 - (7 + 6 * i) ≡ 6 = omega arith in
     rw (k, record-at w i)
 
-pub lent-fits : (w : List ℕ) (i : ℕ) → recordFits (take (7 + 6 * i + 6 - (7 + 6 * i)) (drop (7 + 6 * i) w)) ≡ recordFits (drop (6 * i) (drop 7 w))
-lent-fits w i = ap recordFits (lent-part w i) ∙ part-fits (drop (6 * i) (drop 7 w))
-
 pub lent-record : (w : List ℕ) (i : ℕ) → recordOf (take (7 + 6 * i + 6 - (7 + 6 * i)) (drop (7 + 6 * i) w)) ≡ recordOf (drop (6 * i) (drop 7 w))
 lent-record w i = ap recordOf (lent-part w i) ∙ part-record (drop (6 * i) (drop 7 w))
 
--- the walk that tests the records: a says whether the first i of them fit
-pub fits-none : (v : List ℕ) → listFits 64 v ≡ (true && listFits (64 - 0) (drop (6 * 0) v))
-fits-none v = refl
-
-pub fits-more :
-    (v : List ℕ) (i : ℕ) (a b : Bool) → i < 64 → listFits 64 v ≡ (a && listFits (64 - i) (drop (6 * i) v))
-    → b ≡ recordFits (drop (6 * i) v) → listFits 64 v ≡ ((a && b) && listFits (64 - (i + 1)) (drop (6 * (i + 1)) v))
-fits-more v i true b h so e =
-    so ∙ (fits-step 64 i v h ∙ ap (λ (t : Bool). t && listFits (64 - (i + 1)) (drop (6 * (i + 1)) v)) (sym e))
-fits-more v i false b h so e = so
-
-pub fits-all : (v : List ℕ) (i : ℕ) (a : Bool) → 64 ≤ i → listFits 64 v ≡ (a && listFits (64 - i) (drop (6 * i) v)) → a ≡ listFits 64 v
-unfolding listFits
-fits-all v i true h so = let k : 64 - i ≡ 0 = omega arith in sym (so ∙ rw k)
-fits-all v i false h so = sym so
-
 -- one turn of the writing
 pub write-more :
-    (w words words₁ : List ℕ) (fs : List Fragment) (i : ℕ) (d : Fragment) → length w ≡ 391 → i < length fs
+    (w words words₁ : List ℕ) (fs : List Fragment) (i : ℕ) (d : Fragment) → length w ≡ imageLength → i < length fs
     → words ≡ splice w 7 (listWords (take i fs)) → words₁ ≡ splice words (7 + 6 * i) (recordWords (getD fs i d))
     → words₁ ≡ splice w 7 (listWords (take (i + 1) fs))
 write-more w words words₁ fs i d hw h e f =
@@ -132,22 +104,15 @@ write-more w words words₁ fs i d hw h e f =
     ∙ (splice-splice w 7 (7 + 6 * i) (listWords (take i fs)) (recordWords (getD fs i d)) (omega arith) (omega (arith, l))
     ∙ ap (splice w 7) (words-more i fs d h)))
 
--- all are read
-pub read-all : (v : List ℕ) (fs z : List Fragment) (i : ℕ) → length z ≡ 64 → i ≤ 64 → 64 ≤ i → fs ≡ listOf i v ++ drop i z → fs ≡ listOf 64 v
-read-all v fs z i h l m e =
-    let k : i ≡ 64 = omega arith in
-    let s : fs ≡ listOf 64 v ++ drop 64 z = rw k at e in
-    s ∙ rw (drop-of-length-le z {i = 64} (omega arith), append-nil)
-
 -- all are written
 pub write-all :
-    (w words : List ℕ) (fs : List Fragment) (i : ℕ) → length fs ≡ 64 → i ≤ 64 → 64 ≤ i → words ≡ splice w 7 (listWords (take i fs))
+    (w words : List ℕ) (fs : List Fragment) (i : ℕ) → length fs ≡ limit → i ≤ limit → limit ≤ i → words ≡ splice w 7 (listWords (take i fs))
     → words ≡ splice w 7 (listWords fs)
 write-all w words fs i h l m e = e ∙ ap (λ (x : List Fragment). splice w 7 (listWords x)) (take-all i fs (omega arith))
 
 -- head and records are the image
 pub write-both :
-    (w : List ℕ) (d : Disc) (words words₁ : List ℕ) → length w ≡ 391 → length (d .fragments) ≡ 64 → words ≡ splice w 0 (headWords d)
+    (w : List ℕ) (d : Disc) (words words₁ : List ℕ) → length w ≡ imageLength → length (d .fragments) ≡ limit → words ≡ splice w 0 (headWords d)
     → words₁ ≡ splice words 7 (listWords (d .fragments)) → words₁ ≡ encode d
 unfolding encode
 write-both w d words words₁ hw hf e f =
@@ -157,20 +122,12 @@ write-both w d words words₁ hw hf e f =
     ∙ (splice-splice w 0 7 (headWords d) (listWords (d .fragments)) (omega arith) refl
     ∙ splice-end w 0 (headWords d ++ listWords (d .fragments)) (omega (arith, l, length-append (headWords d) (listWords (d .fragments))))))
 
--- the test of an image, and what it gives
-pub not-state : (w : List ℕ) → (length w ≡ 391 → ⊥) → false ≡ isState w
-unfolding isState
-not-state w h = rw (ne-eqb (length w) 391 h)
-
-pub is-state : (w : List ℕ) (a b : Bool) → length w ≡ 391 → a ≡ headFits w → b ≡ listFits limit (drop 7 w) → (a && b) ≡ isState w
-unfolding isState
-is-state w a b h e f = rw (eq-eqb (length w) 391 h, e, f)
-
+-- what an image that is a state's gives
 pub state-words : (w : List ℕ) → isState w ≡ true → StateWords w
 unfolding isState
 state-words w t =
-    let l : eqb (length w) 391 ≡ true = and-left _ (headFits w) (and-left _ (listFits limit (drop 7 w)) t) in
-    let h : headFits w ≡ true = and-right (eqb (length w) 391) _ (and-left _ (listFits limit (drop 7 w)) t) in
+    let l : eqb (length w) imageLength ≡ true = and-left _ (headFits w) (and-left _ (listFits limit (drop 7 w)) t) in
+    let h : headFits w ≡ true = and-right (eqb (length w) imageLength) _ (and-left _ (listFits limit (drop 7 w)) t) in
     let t₁ = ltb (word w 1) 2 in
     let t₂ = t₁ && ltb (word w 2) 256 in
     let t₃ = t₂ && ltb (word w 3) 256 in
@@ -187,7 +144,7 @@ state-words w t =
       ltb-true _ _ (and-right t₃ (ltb (word w 4) 256) h₄),
       ltb-true _ _ (and-right t₄ (ltb (word w 5) 256) h₅),
       ltb-true _ _ (and-right t₅ (ltb (word w 6) 256) h),
-      and-right (eqb (length w) 391 && headFits w) _ t,
+      and-right (eqb (length w) imageLength && headFits w) _ t,
     )
 
 -- an encoded state is read back
@@ -243,7 +200,7 @@ list-fits (suc n) (f ∷ fs) h s =
 pub encode-state : (d : Disc) → length (d .fragments) ≡ limit → Bytes d → isState (encode d) ≡ true
 unfolding isState encode
 encode-state d h b =
-    let l : length (headWords d ++ listWords (d .fragments)) ≡ 391 = omega (arith, length-list (d .fragments), length-append (headWords d) (listWords (d .fragments))) in
+    let l : length (headWords d ++ listWords (d .fragments)) ≡ imageLength = omega (arith, length-list (d .fragments), length-append (headWords d) (listWords (d .fragments))) in
     and-both
     (and-both (eq-eqb _ _ l)
     (and-both
@@ -254,3 +211,37 @@ encode-state d h b =
     (lt-ltb _ _ (b .pending)))
     (lt-ltb _ _ (b .owner))))
     (list-fits limit (d .fragments) h (b .sessions))
+
+-- a state's words are the image of what they stand for
+flag-same : (n : ℕ) → n < 2 → flagWord (eqb n 1) ≡ n
+flag-same n h =
+    by-cases (eqb n 1)
+    (λ t. let e = eqb-true n 1 t in rw t (sym e))
+    (λ t. let e = eqb-false n 1 t in rw t (omega arith))
+
+kind-same : (n : ℕ) → n < 2 → kindWord (kindOf n) ≡ n
+kind-same n h =
+    by-cases (eqb n 1)
+    (λ t. let e = eqb-true n 1 t in rw t (sym e))
+    (λ t. let e = eqb-false n 1 t in rw t (omega arith))
+
+list-same : (n : ℕ) (v : List ℕ) → length v ≡ 6 * n → listFits n v ≡ true → listWords (listOf n v) ≡ v
+unfolding listFits listOf listWords
+list-same zero [] h t = refl
+list-same zero (x ∷ v) h t = absurd (omega arith)
+list-same (suc n) v h t =
+    let k = ltb-true (word v 5) 2 (and-right (ltb (word v 0) 256) _ (and-left (recordFits v) (listFits n (drop 6 v)) t)) in
+    let r = list-same n (drop 6 v) (simp length-drop (omega arith)) (and-right (recordFits v) (listFits n (drop 6 v)) t) in
+    rw (kind-same (word v 5) k, r) (sym (six-words v (omega arith)))
+
+pub length-list-of : (n : ℕ) (v : List ℕ) → length (listOf n v) ≡ n
+unfolding listOf
+length-list-of zero v = refl
+length-list-of (suc n) v = ap suc (length-list-of n (drop 6 v))
+
+pub encode-decode : (w : List ℕ) → StateWords w → encode (decode w) ≡ w
+unfolding encode decode
+encode-decode w s =
+    let r = list-same limit (drop 7 w) (simp length-drop (omega arith)) (s .7) in
+    let seven = six-words w (omega arith) ∙ ap (λ (l : List ℕ). word w 0 ∷ word w 1 ∷ word w 2 ∷ word w 3 ∷ word w 4 ∷ word w 5 ∷ l) (drop-cons w 6 0 (omega arith)) in
+    rw (flag-same (word w 1) (s .1), r) (sym seven)

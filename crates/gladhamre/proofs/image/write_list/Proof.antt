@@ -4,7 +4,8 @@ use Rattle.gladhamre.proofs.Laws.Image.{write-all, write-more}
 use lib.ListN.{take, length}
 use Rattle.drive.specs.Bytes.{splice}
 use Rattle.drive.proofs.Laws.Bytes.{splice-nil, put-splice}
-use Rattle.gladhamre.specs.Image.{listWords}
+use Rattle.gladhamre.specs.Image.{imageLength, listWords}
+use Rattle.fragments.specs.List.{limit}
 use borrow.Author.Needs.{needs}
 use mathlib.Core.Path.{_≡_, refl, sym}
 use native.Mathlib.Omega.{arith}
@@ -17,10 +18,10 @@ use Rattle.gladhamre.proofs.image.write_record.Reads as write-record-re
 
 abbrev Inv-loop : tie.InvT-loop
 Inv-loop words₀ disc i₀ words i =
-    (i ≤ 64) × (length (disc .fragments) ≡ 64) × (length words ≡ 391) × (words ≡ splice words₀ 7 (listWords (take i (disc .fragments))))
+    (i ≤ limit) × (length (disc .fragments) ≡ limit) × (length words ≡ imageLength) × (words ≡ splice words₀ 7 (listWords (take i (disc .fragments))))
 
 abbrev μ-loop : tie.MeasureT-loop
-μ-loop words₀ disc i₀ words i = 64 - i
+μ-loop words₀ disc i₀ words i = limit - i
 
 -- src/image.rt:194:5
 loop-holds : tie.Need-loop-holds Inv-loop μ-loop

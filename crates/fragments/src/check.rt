@@ -6,10 +6,9 @@ use crate::list::LIMIT;
 ghost use mathlib.Core.Path.{_≡_};
 ghost use Prim.Native.Nat.{_≤_};
 ghost use lib.ListN.{drop};
-ghost use mathlib.Core.Bool.{not};
-ghost use Rattle.fragments.specs.Fragment.{isZero, complete};
+ghost use Rattle.fragments.specs.Fragment.{isZero};
 ghost use Rattle.fragments.specs.List.{limit, every};
-ghost use Rattle.fragments.specs.Check.{within, beginsList, continues, openAfter, endsList, walk, listSound};
+ghost use Rattle.fragments.specs.Check.{within, beginsList, continues, openAfter, endsList, listSound};
 
 impl Fragment {
     // Every field is zero.
@@ -92,15 +91,14 @@ fn unused_from(fragments: [Fragment; LIMIT], from: usize) -> bool
     true
 }
 
-// The rules from the second record on.
-fn continues_from(
-    capacity: u32,
-    finalized: bool,
-    fragments: [Fragment; LIMIT],
-    first: Fragment,
-) -> bool
-    ensures { λ r. ⌜ r ≡ walk capacity finalized (not (complete first)) first (drop 1 fragments) ⌝ }
+// The rules that speak of the records alone, for a disc of a capacity that is finalized or not.
+pub fn list_is_sound(capacity: u32, finalized: bool, fragments: [Fragment; LIMIT]) -> bool
+    ensures { λ r. ⌜ r ≡ listSound capacity finalized fragments ⌝ }
 {
+    let first = fragments[0];
+    if !(first.begins_list() & first.is_within(capacity)) {
+        return false;
+    }
     let mut before = first;
     let mut incomplete = !first.is_complete();
     let mut i: usize = 1;
@@ -118,14 +116,4 @@ fn continues_from(
         i += 1;
     }
     before.ends_list(capacity, finalized, true, incomplete)
-}
-
-// The rules that speak of the records alone, for a disc of a capacity that is finalized or not.
-pub fn list_is_sound(capacity: u32, finalized: bool, fragments: [Fragment; LIMIT]) -> bool
-    ensures { λ r. ⌜ r ≡ listSound capacity finalized fragments ⌝ }
-{
-    let first = fragments[0];
-    first.begins_list()
-        & first.is_within(capacity)
-        & continues_from(capacity, finalized, fragments, first)
 }

@@ -2,6 +2,7 @@
 use crate::address::Lba;
 use crate::fragment::Fragment;
 ghost use mathlib.Core.Path.{_≡_};
+ghost use Prim.Native.Nat.{_-_};
 ghost use lib.ListN.{length};
 ghost use Rattle.fragments.specs.Address.{later};
 ghost use Rattle.fragments.specs.Fragment.{isIncompleteReserved, holdsRun};
@@ -37,16 +38,23 @@ pub fn used(fragments: [Fragment; LIMIT]) -> usize
     i
 }
 
+// The index of the record with a number; of number 0, that of the first.
+fn index_of(number: usize) -> usize
+    ensures { λ r. ⌜ r ≡ number - 1 ⌝ }
+{
+    if number == 0 {
+        return 0;
+    }
+    number - 1
+}
+
 // The last record with its number.
 pub fn last_record(fragments: [Fragment; LIMIT]) -> Last
     ensures { λ r. ⌜ r ≡ lastOf fragments ⌝ }
 {
     let number = used(fragments);
-    if number == 0 {
-        let fragment = fragments[0];
-        return Last { number, fragment };
-    }
-    let fragment = fragments[number - 1];
+    let index = index_of(number);
+    let fragment = fragments[index];
     Last { number, fragment }
 }
 

@@ -93,14 +93,15 @@ pub extern "C" fn gladhamre_command(
         return refusal_number(LinkRefusal::UnsoundState);
     };
     let disc = image::read(state, used);
-    let response = drive::command(cdb, data, disc, medium, pending, reply);
-    *count = response.length as u64;
-    *recorded = response.recorded as u64;
-    let answer = response.answer;
+    let outcome = drive::serve(cdb, data, disc, medium, pending, reply);
+    *count = outcome.length as u64;
+    *recorded = outcome.recorded as u64;
+    let answer = outcome.answer;
     let number = answer.number();
     if is_link(number) {
         return number;
     }
-    image::write(state, response.disc);
+    let change = outcome.change;
+    image::update(state, change);
     number
 }

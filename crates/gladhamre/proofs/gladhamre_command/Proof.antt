@@ -1,5 +1,6 @@
 use borrow.Author.Tests.{not-true, not-false}
-use Rattle.drive.specs.Step.{request}
+use Rattle.drive.specs.Step.{request, responseOf}
+use Rattle.gladhamre.specs.Image.{decode}
 use Rattle.gladhamre.specs.Face.{lending}
 use Rattle.gladhamre.proofs.Laws.Used.{taken, taken-state}
 use Rattle.gladhamre.proofs.Laws.Face.{block-faced, lent-faced, unsound-faced, step-faced}
@@ -9,10 +10,10 @@ use Rattle.gladhamre.proofs.gladhamre_command.Statement.{statement}
 use Rattle.gladhamre.proofs.gladhamre_command.Tie as tie
 use Rattle.gladhamre.proofs.gladhamre_command.Reads as reads
 use Rattle.gladhamre.proofs.gladhamre_command.Lts as lts
-use Rattle.drive.proofs.command.Reads as command-reads
+use Rattle.drive.proofs.serve.Reads as serve-reads
 use Rattle.gladhamre.proofs.image.examine.Reads as examine-reads
 use Rattle.gladhamre.proofs.image.read.Reads as read-reads
-use Rattle.gladhamre.proofs.image.write.Reads as write-reads
+use Rattle.gladhamre.proofs.image.update.Reads as update-reads
 use Rattle.gladhamre.proofs.is_lent.Reads as is-lent-reads
 use Rattle.gladhamre.proofs.is_link.Reads as is-link-reads
 use Rattle.gladhamre.proofs.refusal_number.Reads as refusal-number-reads
@@ -80,8 +81,8 @@ read-requires : tie.Need-read-requires
 read-requires c κs = taken (c .before .before .before .before .before .before .before .before .before .before .before .before .before .before .before .before .args .state .now) _ (sym (c .before .before .before .before .examine .ensures) ∙ c .before .before .words .given .1)
 
 -- src/lib.rt:96:9
-command-requires : tie.Need-command-requires
-command-requires c κs = search needs
+serve-requires : tie.Need-serve-requires
+serve-requires c κs = search needs
 
 -- src/lib.rt:98:17
 cast-recorded : tie.Need-cast-recorded
@@ -116,14 +117,14 @@ returns-4 : tie.Need-returns-4
 returns-4 c =
     let l = lending (c .before .before .before .before .before .before .before .before .before .before .before .before .before .before .before .before .before .before .before .before .before .before .before .before .before .before .before .before .before .before .before .args .state .now) (c .before .before .before .before .before .before .before .before .before .before .before .before .before .before .before .before .before .before .before .before .before .before .before .before .before .before .before .before .before .before .before .args .medium .now) (c .before .before .before .before .before .before .before .before .before .before .before .before .before .before .before .before .before .before .before .before .before .before .before .before .before .before .before .before .before .before .before .args .pending .now) in
     let q = request (c .before .before .before .before .before .before .before .before .before .before .before .before .before .before .before .before .before .before .before .before .before .before .before .before .before .before .before .before .before .before .before .args .cdb .now) (c .before .before .before .before .before .before .before .before .before .before .before .before .before .before .before .before .before .before .before .before .before .before .before .before .before .before .before .before .before .before .before .args .«data» .now) (c .before .before .before .before .before .before .before .before .before .before .before .before .before .before .before .before .before .before .before .before .before .before .before .before .before .before .before .before .before .before .before .args .reply .now) in
-    let answered = rw (c .before .before .before .before .before .before .before .before .before .before .before .before .before .before .read .ensures) at (c .before .before .before .before .before .before .before .before .before .before .command .ensures) in
+    let served = rw (c .before .before .before .before .before .before .before .before .before .before .before .before .before .before .read .ensures) at (c .before .before .before .before .before .before .before .before .before .before .serve .ensures) in
     let link = sym (c .before .is-link .ensures) ∙ c .if3 .taken in
-    step-faced l q (c .before .before .before .before .before .before .before .before .before .before .before .before .before .before .before .before .before .before .before .before .before .before .before .before .if1 .left) (sym (c .before .before .before .before .before .before .before .before .before .before .before .before .before .before .before .before .before .before .before .before .before .before .is-lent .ensures) ∙ not-false _ (c .before .before .before .before .before .before .before .before .before .before .before .before .before .before .before .before .before .before .before .before .before .if2 .left)) (c .before .before .before .before .before .before .before .before .before .before .command .result) (c .before .before .number .result) (c .before .before .before .before .before .before .before .before .before .before .command .result .length) (c .before .before .before .before .before .before .before .before .before .before .command .result .recorded) (l .state) (c .before .before .before .before .before .before .before .before .before .before .command .last .1 .1 .1 .0) (c .before .before .before .before .before .before .before .before .before .before .command .last .1 .1 .1 .1 .0) (c .before .before .before .before .before .before .before .before .before .before .command .last .1 .1 .1 .1 .1 .0)
-    (taken-state (l .state) _ (sym (c .before .before .before .before .before .before .before .before .before .before .before .before .before .before .before .before .before .before .before .examine .ensures) ∙ c .before .before .before .before .before .before .before .before .before .before .before .before .before .before .before .before .before .words .given .1)) answered (c .before .before .number .ensures) refl refl (rw link)
+    step-faced l q (c .before .before .before .before .before .before .before .before .before .before .before .before .before .before .before .before .before .before .before .before .before .before .before .before .if1 .left) (sym (c .before .before .before .before .before .before .before .before .before .before .before .before .before .before .before .before .before .before .before .before .before .before .is-lent .ensures) ∙ not-false _ (c .before .before .before .before .before .before .before .before .before .before .before .before .before .before .before .before .before .before .before .before .before .if2 .left)) (responseOf (decode (l .state)) (c .before .before .before .before .before .before .before .before .before .before .serve .result)) (c .before .before .number .result) (c .before .before .before .before .before .before .before .before .before .before .serve .result .length) (c .before .before .before .before .before .before .before .before .before .before .serve .result .recorded) (l .state) (c .before .before .before .before .before .before .before .before .before .before .serve .last .1 .1 .1 .0) (c .before .before .before .before .before .before .before .before .before .before .serve .last .1 .1 .1 .1 .0) (c .before .before .before .before .before .before .before .before .before .before .serve .last .1 .1 .1 .1 .1 .0)
+    (taken-state (l .state) _ (sym (c .before .before .before .before .before .before .before .before .before .before .before .before .before .before .before .before .before .before .before .examine .ensures) ∙ c .before .before .before .before .before .before .before .before .before .before .before .before .before .before .before .before .before .words .given .1)) served (c .before .before .number .ensures) refl refl (rw link)
 
--- src/lib.rt:104:5
-write-requires : tie.Need-write-requires
-write-requires c κs = taken (c .before .before .before .before .before .before .before .before .before .before .before .before .before .before .before .before .before .before .before .before .before .before .before .before .before .before .before .before .before .before .before .before .args .state .now) _ (sym (c .before .before .before .before .before .before .before .before .before .before .before .before .before .before .before .before .before .before .before .before .examine .ensures) ∙ c .before .before .before .before .before .before .before .before .before .before .before .before .before .before .before .before .before .before .words .given .1) .state .0
+-- src/lib.rt:105:5
+update-requires : tie.Need-update-requires
+update-requires c κs = taken (c .before .before .before .before .before .before .before .before .before .before .before .before .before .before .before .before .before .before .before .before .before .before .before .before .before .before .before .before .before .before .before .before .before .args .state .now) _ (sym (c .before .before .before .before .before .before .before .before .before .before .before .before .before .before .before .before .before .before .before .before .before .examine .ensures) ∙ c .before .before .before .before .before .before .before .before .before .before .before .before .before .before .before .before .before .before .before .words .given .1) .state
 
 -- src/lib.rt:66:1
 same-length-7 : tie.Need-same-length-7
@@ -144,12 +145,12 @@ same-length-10 c = search needs
 -- src/lib.rt:66:1
 returns-5 : tie.Need-returns-5
 returns-5 c =
-    let l = lending (c .before .before .before .before .before .before .before .before .before .before .before .before .before .before .before .before .before .before .before .before .before .before .before .before .before .before .before .before .before .before .before .before .before .before .before .args .state .now) (c .before .before .before .before .before .before .before .before .before .before .before .before .before .before .before .before .before .before .before .before .before .before .before .before .before .before .before .before .before .before .before .before .before .before .before .args .medium .now) (c .before .before .before .before .before .before .before .before .before .before .before .before .before .before .before .before .before .before .before .before .before .before .before .before .before .before .before .before .before .before .before .before .before .before .before .args .pending .now) in
-    let q = request (c .before .before .before .before .before .before .before .before .before .before .before .before .before .before .before .before .before .before .before .before .before .before .before .before .before .before .before .before .before .before .before .before .before .before .before .args .cdb .now) (c .before .before .before .before .before .before .before .before .before .before .before .before .before .before .before .before .before .before .before .before .before .before .before .before .before .before .before .before .before .before .before .before .before .before .before .args .«data» .now) (c .before .before .before .before .before .before .before .before .before .before .before .before .before .before .before .before .before .before .before .before .before .before .before .before .before .before .before .before .before .before .before .before .before .before .before .args .reply .now) in
-    let answered = rw (c .before .before .before .before .before .before .before .before .before .before .before .before .before .before .before .before .before .before .read .ensures) at (c .before .before .before .before .before .before .before .before .before .before .before .before .before .before .command .ensures) in
-    let link = sym (c .before .before .before .before .before .is-link .ensures) ∙ c .before .before .before .before .if3 .left in
-    step-faced l q (c .before .before .before .before .before .before .before .before .before .before .before .before .before .before .before .before .before .before .before .before .before .before .before .before .before .before .before .before .if1 .left) (sym (c .before .before .before .before .before .before .before .before .before .before .before .before .before .before .before .before .before .before .before .before .before .before .before .before .before .before .is-lent .ensures) ∙ not-false _ (c .before .before .before .before .before .before .before .before .before .before .before .before .before .before .before .before .before .before .before .before .before .before .before .before .before .if2 .left)) (c .before .before .before .before .before .before .before .before .before .before .before .before .before .before .command .result) (c .before .before .before .before .before .before .number .result) (c .before .before .before .before .before .before .before .before .before .before .before .before .before .before .command .result .length) (c .before .before .before .before .before .before .before .before .before .before .before .before .before .before .command .result .recorded) (c .before .before .write .last .0) (c .before .before .before .before .before .before .before .before .before .before .before .before .before .before .command .last .1 .1 .1 .0) (c .before .before .before .before .before .before .before .before .before .before .before .before .before .before .command .last .1 .1 .1 .1 .0) (c .before .before .before .before .before .before .before .before .before .before .before .before .before .before .command .last .1 .1 .1 .1 .1 .0)
-    (taken-state (l .state) _ (sym (c .before .before .before .before .before .before .before .before .before .before .before .before .before .before .before .before .before .before .before .before .before .before .before .examine .ensures) ∙ c .before .before .before .before .before .before .before .before .before .before .before .before .before .before .before .before .before .before .before .before .before .words .given .1)) answered (c .before .before .before .before .before .before .number .ensures) refl refl (c .before .before .write .ensures ∙ rw link)
+    let l = lending (c .before .before .before .before .before .before .before .before .before .before .before .before .before .before .before .before .before .before .before .before .before .before .before .before .before .before .before .before .before .before .before .before .before .before .before .before .args .state .now) (c .before .before .before .before .before .before .before .before .before .before .before .before .before .before .before .before .before .before .before .before .before .before .before .before .before .before .before .before .before .before .before .before .before .before .before .before .args .medium .now) (c .before .before .before .before .before .before .before .before .before .before .before .before .before .before .before .before .before .before .before .before .before .before .before .before .before .before .before .before .before .before .before .before .before .before .before .before .args .pending .now) in
+    let q = request (c .before .before .before .before .before .before .before .before .before .before .before .before .before .before .before .before .before .before .before .before .before .before .before .before .before .before .before .before .before .before .before .before .before .before .before .before .args .cdb .now) (c .before .before .before .before .before .before .before .before .before .before .before .before .before .before .before .before .before .before .before .before .before .before .before .before .before .before .before .before .before .before .before .before .before .before .before .before .args .«data» .now) (c .before .before .before .before .before .before .before .before .before .before .before .before .before .before .before .before .before .before .before .before .before .before .before .before .before .before .before .before .before .before .before .before .before .before .before .before .args .reply .now) in
+    let served = rw (c .before .before .before .before .before .before .before .before .before .before .before .before .before .before .before .before .before .before .before .read .ensures) at (c .before .before .before .before .before .before .before .before .before .before .before .before .before .before .before .serve .ensures) in
+    let link = sym (c .before .before .before .before .before .before .is-link .ensures) ∙ c .before .before .before .before .before .if3 .left in
+    step-faced l q (c .before .before .before .before .before .before .before .before .before .before .before .before .before .before .before .before .before .before .before .before .before .before .before .before .before .before .before .before .before .if1 .left) (sym (c .before .before .before .before .before .before .before .before .before .before .before .before .before .before .before .before .before .before .before .before .before .before .before .before .before .before .before .is-lent .ensures) ∙ not-false _ (c .before .before .before .before .before .before .before .before .before .before .before .before .before .before .before .before .before .before .before .before .before .before .before .before .before .before .if2 .left)) (responseOf (decode (l .state)) (c .before .before .before .before .before .before .before .before .before .before .before .before .before .before .before .serve .result)) (c .before .before .before .before .before .before .before .number .result) (c .before .before .before .before .before .before .before .before .before .before .before .before .before .before .before .serve .result .length) (c .before .before .before .before .before .before .before .before .before .before .before .before .before .before .before .serve .result .recorded) (c .before .before .update .last .0) (c .before .before .before .before .before .before .before .before .before .before .before .before .before .before .before .serve .last .1 .1 .1 .0) (c .before .before .before .before .before .before .before .before .before .before .before .before .before .before .before .serve .last .1 .1 .1 .1 .0) (c .before .before .before .before .before .before .before .before .before .before .before .before .before .before .before .serve .last .1 .1 .1 .1 .1 .0)
+    (taken-state (l .state) _ (sym (c .before .before .before .before .before .before .before .before .before .before .before .before .before .before .before .before .before .before .before .before .before .before .before .before .examine .ensures) ∙ c .before .before .before .before .before .before .before .before .before .before .before .before .before .before .before .before .before .before .before .before .before .before .words .given .1)) served (c .before .before .before .before .before .before .before .number .ensures) refl refl (c .before .before .update .ensures ∙ rw link)
 
 pub gladhamre-command-spec : {M : Type 1} → statement M
 gladhamre-command-spec =
@@ -168,7 +169,7 @@ gladhamre-command-spec =
     same-length-2
     returns-3
     read-requires
-    command-requires
+    serve-requires
     cast-recorded
     number-requires
     is-link-requires
@@ -177,7 +178,7 @@ gladhamre-command-spec =
     same-length-5
     same-length-6
     returns-4
-    write-requires
+    update-requires
     same-length-7
     same-length-8
     same-length-9

@@ -7,9 +7,11 @@ use Rattle.fragments.specs.Address.{sectorsIn}
 use Rattle.fragments.specs.Fragment.{unusedRecord, end, firstUnrecorded, complete, isTail, isIncompleteReserved, nextFragmentStart, nextSessionStart, tailFrom}
 use Rattle.disc.specs.Records.{isBlank, records, used, isListed, numbered, lastRecord, withRecord, hasTail, hasBlankTail, blankTailOnly, isBlankDisc}
 use Rattle.fragments.specs.List.{limit, some}
-use Rattle.disc.specs.Verdict.{accept, refuse, noPlan, plan}
+use Rattle.decisions.specs.Plan.{noPlan, plan}
+use Rattle.disc.specs.Verdict.{accept, refuse}
 use Rattle.protocol.specs.Reply.{noReply}
-use Rattle.disc.specs.Decision.{entry, noEntry, accepting}
+use Rattle.decisions.specs.Change.{entry, noEntry}
+use Rattle.decisions.specs.Decision.{accepting}
 use Rattle.disc.specs.Flush.{flush, flushPlan}
 
 -- every block not yet recorded is recorded as zeros

@@ -7,8 +7,9 @@ use Rattle.disc.specs.Types.{Fragment, Disc, Flush, Skip, Record, Nothin
 use Rattle.fragments.specs.Address.{missing}
 use Rattle.fragments.specs.Fragment.{firstUnrecorded}
 use Rattle.disc.specs.Records.{numbered}
-use Rattle.disc.specs.Verdict.{accept, plan}
-use Rattle.disc.specs.Decision.{entry, noEntry}
+use Rattle.decisions.specs.Plan.{plan}
+use Rattle.disc.specs.Verdict.{accept}
+use Rattle.decisions.specs.Change.{entry, noEntry}
 use Rattle.protocol.specs.Reply.{noReply}
 
 -- the record whose pending block, n sectors of it given, is recorded with zeros for the missing ones

@@ -11,7 +11,8 @@ use Rattle.protocol.specs.Command.{decode}
 use Rattle.disc.specs.Sound.{allowedState}
 use Rattle.disc.specs.Blank.{inRange}
 use Rattle.protocol.specs.Lengths.{dataLength, replyRoom, lengthsFit}
-use Rattle.disc.specs.Verdict.{accept, refuse, refuseLink, noPlan}
+use Rattle.decisions.specs.Plan.{noPlan}
+use Rattle.disc.specs.Verdict.{accept, refuse, refuseLink}
 use Rattle.protocol.specs.Reply.{noReply}
 use Rattle.disc.specs.Flush.{synchronizeCache}
 use Rattle.disc.specs.Read.{read}

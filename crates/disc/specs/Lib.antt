@@ -6,7 +6,7 @@ pub mod Rules
 pub mod Blank
 pub mod Ready
 pub mod Verdict
-pub mod Decision
+pub mod Apply
 pub mod Flush
 pub mod Read
 pub mod Write

@@ -5,7 +5,8 @@ use lib.Dec.{eqb, ltb}
 use Rattle.disc.specs.Types.{Lba, Disc, Skip, Send, Verdict, AddressOutOfRange, BlankCheck}
 use Rattle.fragments.specs.Address.{lba, sectorsIn}
 use Rattle.disc.specs.Records.{readable}
-use Rattle.disc.specs.Verdict.{accept, refuse, noPlan, plan}
+use Rattle.decisions.specs.Plan.{noPlan, plan}
+use Rattle.disc.specs.Verdict.{accept, refuse}
 use Rattle.protocol.specs.Reply.{noReply}
 
 -- every one of n sectors from an address on is readable

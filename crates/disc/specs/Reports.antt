@@ -8,7 +8,8 @@ use Rattle.fragments.specs.Fragment.{end, complete, isReserved, lastRecorded}
 use Rattle.disc.specs.Records.{isBlank, nextWritable, records, used, isListed, numbered, lastRecord, hasTail, atAddress, blankTailOnly, isBlankDisc}
 use Rattle.fragments.specs.List.{lastReadable, firstOfSession}
 use Rattle.protocol.specs.Lengths.{capacityLength}
-use Rattle.disc.specs.Verdict.{accept, refuse, noPlan}
+use Rattle.decisions.specs.Plan.{noPlan}
+use Rattle.disc.specs.Verdict.{accept, refuse}
 use Rattle.protocol.specs.Reply.{report}
 use Rattle.protocol.specs.Reports.{senseBytes, capacityBytes, discBytes, trackBytes}
 

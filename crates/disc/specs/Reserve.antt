@@ -7,7 +7,8 @@ use Rattle.fragments.specs.Address.{blocksFor}
 use Rattle.fragments.specs.Fragment.{end, nextFragmentStart, tailFrom}
 use Rattle.fragments.specs.List.{limit}
 use Rattle.disc.specs.Records.{used, lastRecord, withRecord, hasBlankTail}
-use Rattle.disc.specs.Verdict.{accept, refuse, noPlan}
+use Rattle.decisions.specs.Plan.{noPlan}
+use Rattle.disc.specs.Verdict.{accept, refuse}
 use Rattle.protocol.specs.Reply.{noReply}
 
 -- the reserved fragment of b blocks in the place of the tail f

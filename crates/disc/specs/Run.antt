@@ -4,33 +4,16 @@ use Prim.Native.Nat.{ℕ, _+_, _*_, _<_}
 use mathlib.Core.Path.{_≡_}
 use mathlib.Core.Bool.{Bool, true, cond, _&&_}
 use mathlib.Core.List.{List, []}
-use lib.ListN.{length, take, drop}
-use lib.Dec.{eqb, ltb}
-use Rattle.disc.specs.Types.{Lba, Disc, Transfer, Nothing, Send, Gather, Fill, Read}
+use lib.ListN.{length}
+use lib.Dec.{eqb}
+use Rattle.disc.specs.Types.{Lba, Disc, Read}
+use Rattle.decisions.specs.Run.{sent}
 use Rattle.fragments.specs.Address.{lba}
 use Rattle.protocol.specs.Command.{decode}
 use Rattle.disc.specs.Records.{readable}
 use Rattle.disc.specs.Sound.{allowedState}
 use Rattle.disc.specs.Blank.{inRange}
 use Rattle.disc.specs.Judge.{perform}
-
--- the bytes of n sectors from an address on
-abbrev pub stretch : Lba → ℕ → List ℕ → List ℕ
-stretch a n medium = take (2048 * n) (drop (2048 * a .0) medium)
-
--- what a transfer sends of the medium
-unfoldable pub sent : Transfer → List ℕ → List ℕ
-sent Nothing medium = []
-sent (Send a n) medium = stretch a n medium
-sent (Gather b p n) medium = []
-sent (Fill b n) medium = []
-
--- the same of a medium of any length: nothing where the sectors do not lie in it
-unfoldable pub sentWithin : Transfer → List ℕ → List ℕ
-sentWithin Nothing medium = []
-sentWithin (Send a n) medium = cond (ltb (length medium) (2048 * (a .0 + n))) [] (stretch a n medium)
-sentWithin (Gather b p n) medium = []
-sentWithin (Fill b n) medium = []
 
 -- what L1 to L3 test of command block, medium and state: twelve bytes, a capacity in range with a medium of so many whole blocks, a state
 -- that is allowed

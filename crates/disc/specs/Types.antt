@@ -23,16 +23,16 @@ pub use Rattle.disc.specs.declared.blank.Blank.{Blank}
 pub use Rattle.protocol.specs.declared.reply.Reply.{Reply}
 pub use Rattle.protocol.specs.declared.reports.DiscReport.{DiscReport}
 pub use Rattle.protocol.specs.declared.reports.TrackReport.{TrackReport}
-pub use Rattle.disc.specs.declared.verdict.Flush.{Flush}
-pub use Rattle.disc.specs.declared.verdict.Flush.the-variants.{Skip, Record}
-pub use Rattle.disc.specs.declared.verdict.Transfer.{Transfer}
-pub use Rattle.disc.specs.declared.verdict.Transfer.the-variants.{Nothing, Send, Gather, Fill}
-pub use Rattle.disc.specs.declared.verdict.Plan.{Plan}
+pub use Rattle.decisions.specs.declared.plan.Flush.{Flush}
+pub use Rattle.decisions.specs.declared.plan.Flush.the-variants.{Skip, Record}
+pub use Rattle.decisions.specs.declared.plan.Transfer.{Transfer}
+pub use Rattle.decisions.specs.declared.plan.Transfer.the-variants.{Nothing, Send, Gather, Fill}
+pub use Rattle.decisions.specs.declared.plan.Plan.{Plan}
 pub use Rattle.disc.specs.declared.verdict.Verdict.{Verdict}
 pub use Rattle.fragments.specs.declared.list.Last.{Last}
 pub use Rattle.disc.specs.declared.flush.Flushing.{Flushing}
-pub use Rattle.disc.specs.declared.decision.Entry.{Entry}
-pub use Rattle.disc.specs.declared.decision.Effect.{Effect}
-pub use Rattle.disc.specs.declared.decision.Effect.the-variants.{Keep, Settle, Reserve, Close, Grow}
-pub use Rattle.disc.specs.declared.decision.Change.{Change}
-pub use Rattle.disc.specs.declared.decision.Decision.{Decision}
+pub use Rattle.decisions.specs.declared.change.Entry.{Entry}
+pub use Rattle.decisions.specs.declared.change.Effect.{Effect}
+pub use Rattle.decisions.specs.declared.change.Effect.the-variants.{Keep, Settle, Reserve, Close, Grow}
+pub use Rattle.decisions.specs.declared.change.Change.{Change}
+pub use Rattle.decisions.specs.declared.decision.Decision.{Decision}

@@ -1,16 +1,11 @@
 -- The three kinds of verdict: accepted, refused by the drive, refused on the link.
 use Prim.Native.Nat.{ℕ, _-_}
-use Rattle.disc.specs.Types.{Disc, DriveRefusal, LinkRefusal, Accepted, Link, Drive, Reply, Flush, Skip, Transfer, Nothing, Plan, Verdict}
+use Rattle.disc.specs.Types.{Disc, DriveRefusal, LinkRefusal, Accepted, Link, Drive, Reply, Plan, Verdict}
 use Rattle.protocol.specs.Answer.{noSense, refusalSense}
 use Rattle.protocol.specs.Reply.{noReply}
 use Rattle.fragments.specs.List.{sumRecorded}
+use Rattle.decisions.specs.Plan.{noPlan}
 use Rattle.disc.specs.Records.{withSense}
-
-abbrev pub plan : Flush → Transfer → Plan
-plan f t = record { flush = f; transfer = t }
-
-abbrev pub noPlan : Plan
-noPlan = plan Skip Nothing
 
 -- the number of blocks recorded: by how much the recorded blocks of all fragments rise
 abbrev pub rise : Disc → Disc → ℕ

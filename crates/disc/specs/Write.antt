@@ -9,10 +9,11 @@ use Rattle.fragments.specs.Address.{firstSector, wholeBlocks, leftOver}
 use Rattle.fragments.specs.Fragment.{end, firstUnrecorded, complete}
 use Rattle.disc.specs.Records.{pendingIn, nextWritable, used, numbered, writableAt}
 use Rattle.fragments.specs.List.{limit}
-use Rattle.disc.specs.Verdict.{accept, refuse, noPlan, plan}
+use Rattle.decisions.specs.Plan.{noPlan, plan}
+use Rattle.disc.specs.Verdict.{accept, refuse}
 use Rattle.protocol.specs.Reply.{noReply}
 use Rattle.disc.specs.Flush.{flush, flushPlan, flushCount, flushEntry}
-use Rattle.disc.specs.Decision.{noEntry}
+use Rattle.decisions.specs.Change.{noEntry}
 
 -- sectors pending in another fragment are flushed first: the disc after that, and the plan for it
 unfoldable pub flushOthers : Disc → ℕ → Disc

@@ -1,12 +1,12 @@
 // CLOSE TRACK/SESSION (5Bh): of a fragment (001), of the session (010) or of the disc (110).
 use crate::change;
-use crate::decision::Decision;
-use crate::decision::Effect;
-use crate::decision::Entry;
 use crate::flush::Flushing;
 use crate::state::Disc;
-use crate::verdict::Plan;
-use crate::verdict::Transfer;
+use decisions::Decision;
+use decisions::Effect;
+use decisions::Entry;
+use decisions::Plan;
+use decisions::Transfer;
 use fragments::Fragment;
 use fragments::Kind;
 use fragments::Last;
@@ -18,7 +18,7 @@ ghost use Rattle.disc.specs.Types.{Reserved, Appended};
 ghost use Rattle.fragments.specs.List.{lastOf};
 ghost use Rattle.disc.specs.Records.{used, numbered};
 ghost use Rattle.disc.specs.Ready.{Ready};
-ghost use Rattle.disc.specs.Decision.{decided};
+ghost use Rattle.disc.specs.Apply.{decided};
 ghost use Rattle.disc.specs.Flush.{flush, flushEntry, flushing};
 ghost use Rattle.disc.specs.Close.{tailAfter, closeIncomplete, closeFragment, hasIncompleteReserved, closeTail, tailClosed, closingLast, closeSession, finalize, close};
 

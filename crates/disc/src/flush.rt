@@ -1,16 +1,16 @@
 // The flush, and SYNCHRONIZE CACHE (35h), which flushes and does nothing else.
 use crate::change;
-use crate::decision::Decision;
-use crate::decision::Effect;
-use crate::decision::Entry;
 use crate::state::Disc;
-use crate::verdict::Flush;
-use crate::verdict::Plan;
-use crate::verdict::Transfer;
+use decisions::Decision;
+use decisions::Effect;
+use decisions::Entry;
+use decisions::Flush;
+use decisions::Plan;
+use decisions::Transfer;
 use protocol::Reply;
 ghost use mathlib.Core.Path.{_≡_};
 ghost use Rattle.disc.specs.Ready.{Ready};
-ghost use Rattle.disc.specs.Decision.{decided};
+ghost use Rattle.disc.specs.Apply.{decided};
 ghost use Rattle.disc.specs.Flush.{noFlushing, flushing, synchronizeCache};
 
 // What a flush comes to: the record that it leaves, what it does to the bytes, and how many blocks it records.

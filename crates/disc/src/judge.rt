@@ -1,14 +1,14 @@
 // What the drive decides about a command, from the disc, the command block and the lengths of data and reply buffer alone.
-use crate::decision::Decision;
 use crate::state::Disc;
 use crate::verdict::Verdict;
+use decisions::Decision;
 use protocol::Command;
 use protocol::DriveRefusal;
 use protocol::LinkRefusal;
 use protocol::Reply;
 ghost use mathlib.Core.Path.{_≡_};
 ghost use Rattle.disc.specs.Ready.{Ready};
-ghost use Rattle.disc.specs.Decision.{decided};
+ghost use Rattle.disc.specs.Apply.{decided};
 ghost use Rattle.disc.specs.Judge.{perform, Judged, JudgedAsAsked};
 
 impl Disc {

@@ -1,11 +1,11 @@
 // The lower layer of the drive: the disc state, and every decision that a command needs.
 // It knows what is on the disc by the disc state alone and never sees a sector's bytes. Every value goes in and comes back by value.
 // Document 01 is the specification; specs/ restates it as definitions, and every contract cites those.
+mod apply;
 mod blank;
 mod change;
 mod check;
 mod close;
-mod decision;
 mod find;
 mod flush;
 mod judge;
@@ -18,13 +18,6 @@ mod verdict;
 mod write;
 
 pub use blank::Blank;
-pub use decision::Change;
-pub use decision::Decision;
-pub use decision::Effect;
-pub use decision::Entry;
 pub use state::Disc;
 pub use state::TailNext;
-pub use verdict::Flush;
-pub use verdict::Plan;
-pub use verdict::Transfer;
 pub use verdict::Verdict;

@@ -1,10 +1,10 @@
 // READ (28h): the run must end within the disc and be recorded.
-use crate::decision::Decision;
-use crate::decision::Effect;
 use crate::state::Disc;
-use crate::verdict::Flush;
-use crate::verdict::Plan;
-use crate::verdict::Transfer;
+use decisions::Decision;
+use decisions::Effect;
+use decisions::Flush;
+use decisions::Plan;
+use decisions::Transfer;
 use fragments::Block;
 use fragments::Lba;
 use protocol::DriveRefusal;
@@ -13,7 +13,7 @@ ghost use mathlib.Core.Path.{_≡_};
 ghost use Rattle.fragments.specs.List.{some};
 ghost use Rattle.disc.specs.Records.{records};
 ghost use Rattle.disc.specs.Ready.{Ready};
-ghost use Rattle.disc.specs.Decision.{decided};
+ghost use Rattle.disc.specs.Apply.{decided};
 ghost use Rattle.disc.specs.Read.{read};
 ghost use Rattle.fragments.specs.Fragment.{holdsRun};
 

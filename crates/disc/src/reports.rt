@@ -1,7 +1,7 @@
 // The reports: REQUEST SENSE (03h), READ CAPACITY (25h), READ DISC INFORMATION (51h), READ TRACK INFORMATION (52h). What each says of
 // the disc; where the bytes stand is the protocol's.
-use crate::decision::Decision;
 use crate::state::Disc;
+use decisions::Decision;
 use fragments::Found;
 use fragments::Lba;
 use protocol::DiscReport;
@@ -12,7 +12,7 @@ ghost use mathlib.Core.Path.{_≡_};
 ghost use Prim.Native.Nat.{_≤_};
 ghost use Rattle.disc.specs.Records.{used, atAddress};
 ghost use Rattle.disc.specs.Ready.{Ready};
-ghost use Rattle.disc.specs.Decision.{decided};
+ghost use Rattle.disc.specs.Apply.{decided};
 ghost use Rattle.disc.specs.Reports.{requestSense, readCapacity, sessionState, discStatus, discReport, readDiscInformation, nextWritableOrZero, freeSectors, trackReport, trackVerdict, trackFound, trackNumbered, readTrackInformation};
 
 // The number that stands for the tail in READ TRACK INFORMATION.

@@ -1,15 +1,15 @@
 // RESERVE TRACK (53h): the blank tail becomes a reserved fragment and a tail after it.
 use crate::change;
-use crate::decision::Decision;
-use crate::decision::Effect;
-use crate::decision::Entry;
 use crate::state::Disc;
-use crate::verdict::Plan;
+use decisions::Decision;
+use decisions::Effect;
+use decisions::Entry;
+use decisions::Plan;
 use protocol::DriveRefusal;
 use protocol::Reply;
 ghost use mathlib.Core.Path.{_≡_};
 ghost use Rattle.disc.specs.Ready.{Ready};
-ghost use Rattle.disc.specs.Decision.{affected, decided};
+ghost use Rattle.disc.specs.Apply.{affected, decided};
 ghost use Rattle.disc.specs.Reserve.{Splitting, splitTail, reserve};
 
 impl Disc {

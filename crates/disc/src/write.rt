@@ -1,12 +1,12 @@
 // WRITE (2Ah): the decision, the new list and the plan.
 use crate::change;
-use crate::decision::Decision;
-use crate::decision::Effect;
-use crate::decision::Entry;
 use crate::flush::Flushing;
 use crate::state::Disc;
-use crate::verdict::Plan;
-use crate::verdict::Transfer;
+use decisions::Decision;
+use decisions::Effect;
+use decisions::Entry;
+use decisions::Plan;
+use decisions::Transfer;
 use fragments::Found;
 use fragments::Lba;
 use protocol::DriveRefusal;
@@ -17,7 +17,7 @@ ghost use lib.Dec.{eqb};
 ghost use Prim.Native.Nat.{_≤_};
 ghost use Rattle.disc.specs.Ready.{Ready};
 ghost use Rattle.fragments.specs.List.{limit};
-ghost use Rattle.disc.specs.Decision.{affected, decided};
+ghost use Rattle.disc.specs.Apply.{affected, decided};
 ghost use Rattle.disc.specs.Write.{flushingOthers, flushOthers, flushOthersEntry, gather, Gathering, writeTo, Writable, write};
 
 // The number beside a pending count: the fragment's, or 0 with none pending.

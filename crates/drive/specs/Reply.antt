@@ -3,7 +3,7 @@ use Prim.Native.Nat.{ℕ, _+_, _*_, _≤_}
 use mathlib.Core.Path.{_≡_}
 use mathlib.Core.List.{List}
 use lib.ListN.{length, take}
-use Rattle.disc.specs.Run.{stretch}
+use Rattle.decisions.specs.Run.{stretch}
 use Rattle.drive.specs.Types.{Lba, Reply, Transfer, Nothing, Send, Gather, Fill}
 
 -- a READ's sectors, or a report cut to its length

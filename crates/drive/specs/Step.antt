@@ -9,7 +9,7 @@ use Rattle.drive.specs.Types.{Lba, Disc, Sense, Answer, Link, LinkRefusa
 use Rattle.protocol.specs.Answer.{number}
 use Rattle.protocol.specs.Command.{decode}
 use Rattle.disc.specs.Verdict.{refuseLink, rise}
-use Rattle.disc.specs.Decision.{changed}
+use Rattle.disc.specs.Apply.{changed}
 use Rattle.disc.specs.Judge.{judge}
 use Rattle.disc.specs.Lent.{FlushFits, TransferFits}
 use Rattle.drive.specs.Bytes.{splice}

@@ -1,10 +1,10 @@
 // One command: the link's tests of what is lent, the decision, and the bytes moved by its plan.
 use crate::reply;
 use crate::transfer;
-use disc::Change;
-use disc::Decision;
+use decisions::Change;
+use decisions::Decision;
+use decisions::Effect;
 use disc::Disc;
-use disc::Effect;
 use protocol::Answer;
 use protocol::BLOCK_LENGTH;
 use protocol::CDB_LENGTH;

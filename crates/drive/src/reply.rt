@@ -1,11 +1,11 @@
 // The reply's bytes, copied to the beginning of the lent reply buffer; the bytes past them stay.
 use crate::bytes;
-use disc::Transfer;
+use decisions::Transfer;
 use protocol::Reply;
 ghost use mathlib.Core.Path.{_≡_};
 ghost use Prim.Native.Nat.{_≤_};
 ghost use lib.ListN.{length, take};
-ghost use Rattle.disc.specs.Run.{sentWithin};
+ghost use Rattle.decisions.specs.Run.{sentWithin};
 ghost use Rattle.drive.specs.Bytes.{splice};
 ghost use Rattle.drive.specs.Reply.{sentBytes, Sendable};
 

@@ -1,8 +1,8 @@
 // The state image: a disc state as words of 32 bits.
-use disc::Change;
+use decisions::Change;
+use decisions::Effect;
+use decisions::Entry;
 use disc::Disc;
-use disc::Effect;
-use disc::Entry;
 use fragments::Block;
 use fragments::Fragment;
 use fragments::Kind;
@@ -14,7 +14,7 @@ ghost use lib.ListN.{length, drop};
 ghost use Rattle.gladhamre.specs.Image.{imageLength, kindOf, kindWord, flagWord, recordOf, recordWords, recordFits, listOf, listWords, headFits, headWords, decode, encode, StateWords};
 ghost use Rattle.gladhamre.specs.Used.{recordUsed, usedIn, allZero, wordsOf, Taken};
 ghost use Rattle.gladhamre.specs.Update.{Turned};
-ghost use Rattle.disc.specs.Decision.{withEntry, withPending, settled, affected, changed};
+ghost use Rattle.disc.specs.Apply.{withEntry, withPending, settled, affected, changed};
 ghost use Rattle.fragments.specs.List.{limit};
 ghost use Rattle.drive.specs.Bytes.{splice};
 

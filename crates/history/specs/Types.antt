@@ -14,10 +14,10 @@ pub use Rattle.fragments.specs.declared.fragment.Fragment.{Fragment}
 pub use Rattle.disc.specs.declared.state.Disc.{Disc}
 pub use Rattle.fragments.specs.declared.list.Found.{Found}
 pub use Rattle.fragments.specs.declared.list.Found.the-variants.{Number, Nowhere}
-pub use Rattle.disc.specs.declared.verdict.Flush.{Flush}
-pub use Rattle.disc.specs.declared.verdict.Flush.the-variants.{Skip, Record}
-pub use Rattle.disc.specs.declared.verdict.Transfer.{Transfer}
-pub use Rattle.disc.specs.declared.verdict.Transfer.the-variants.{Nothing, Send, Gather, Fill}
+pub use Rattle.decisions.specs.declared.plan.Flush.{Flush}
+pub use Rattle.decisions.specs.declared.plan.Flush.the-variants.{Skip, Record}
+pub use Rattle.decisions.specs.declared.plan.Transfer.{Transfer}
+pub use Rattle.decisions.specs.declared.plan.Transfer.the-variants.{Nothing, Send, Gather, Fill}
 pub use Rattle.protocol.specs.declared.reply.Reply.{Reply}
-pub use Rattle.disc.specs.declared.verdict.Plan.{Plan}
+pub use Rattle.decisions.specs.declared.plan.Plan.{Plan}
 pub use Rattle.disc.specs.declared.verdict.Verdict.{Verdict}

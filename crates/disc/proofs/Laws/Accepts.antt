@@ -15,7 +15,8 @@ use Rattle.disc.specs.Records.{nextWritable, pendingIn, records, used, n
 use Rattle.fragments.specs.List.{find}
 use Rattle.disc.specs.Rules.{at}
 use Rattle.disc.specs.Ready.{Ready}
-use Rattle.disc.specs.Verdict.{accepted, accept, refuse, noPlan, plan}
+use Rattle.decisions.specs.Plan.{noPlan, plan}
+use Rattle.disc.specs.Verdict.{accepted, accept, refuse}
 use Rattle.protocol.specs.Reply.{noReply}
 use Rattle.disc.specs.Read.{allReadable, read}
 use Rattle.disc.specs.Write.{flushOthersCount, Writable, writeTo, writeFound, write}

@@ -13,7 +13,8 @@ use Rattle.disc.specs.Records.{pendingIn, nextWritable, used, numbered, 
 use Rattle.fragments.specs.Address.{lba, firstSector, block}
 use Rattle.protocol.specs.Answer.{noSense}
 use Rattle.disc.specs.Ready.{Ready}
-use Rattle.disc.specs.Verdict.{accepted, accept, plan}
+use Rattle.decisions.specs.Plan.{plan}
+use Rattle.disc.specs.Verdict.{accepted, accept}
 use Rattle.protocol.specs.Reply.{noReply}
 use Rattle.disc.specs.Write.{flushOthers, flushOthersPlan, flushOthersCount, grownRecord, gather, writeTo, writeFound, write}
 use Rattle.fragments.proofs.Laws.Bool.{cond-yes, cond-no, by-cases, contradiction}

@@ -15,7 +15,9 @@ use Rattle.disc.specs.Records.{pendingIn, used, numbered, lastRecord, wi
 use Rattle.disc.specs.Rules.{Sound}
 use Rattle.disc.specs.Ready.{Ready}
 use Rattle.disc.specs.Verdict.{accepted, accept, refuse, refuseLink}
-use Rattle.disc.specs.Decision.{entry, noEntry, withEntry, withPending, withFinalized, settled, affected, changed, decided, accepting, refusing, refusingLink}
+use Rattle.decisions.specs.Change.{entry, noEntry}
+use Rattle.decisions.specs.Decision.{accepting, refusing, refusingLink}
+use Rattle.disc.specs.Apply.{withEntry, withPending, withFinalized, settled, affected, changed, decided}
 use Rattle.disc.specs.Flush.{flushedRecord, flush, flushEntry}
 use Rattle.disc.specs.Write.{flushOthers, flushOthersEntry, grownRecord, gather}
 use Rattle.disc.specs.Reserve.{reservedAt, splitTail}

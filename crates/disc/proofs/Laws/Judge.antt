@@ -18,7 +18,8 @@ use Rattle.disc.specs.Sound.{sound, allowedState}
 use Rattle.disc.specs.Blank.{inRange}
 use Rattle.disc.specs.Ready.{Ready}
 use Rattle.protocol.specs.Lengths.{lengthsFit, replyRoom, capacityLength, dataLength}
-use Rattle.disc.specs.Verdict.{refuseLink, noPlan, refuse, accepted, accept, rise}
+use Rattle.decisions.specs.Plan.{noPlan}
+use Rattle.disc.specs.Verdict.{refuseLink, refuse, accepted, accept, rise}
 use Rattle.protocol.specs.Reply.{report}
 use Rattle.disc.specs.Read.{allReadable, read}
 use Rattle.disc.specs.Reports.{requestSense, readCapacity, discReport, readDiscInformation, trackReport, trackVerdict, trackFound, trackNumbered, readTrackInformation}

@@ -16,7 +16,8 @@ use Rattle.protocol.specs.Lengths.{dataLength, replyRoom, lengthsFit}
 use Rattle.disc.specs.Lent.{FlushFits, TransferFits, RunFits, Fits}
 use Rattle.disc.specs.Verdict.{refuseLink}
 use Rattle.disc.specs.Judge.{perform, judge}
-use Rattle.disc.specs.Run.{stretch, sent, served, recordedRun}
+use Rattle.decisions.specs.Run.{stretch, sent}
+use Rattle.disc.specs.Run.{served, recordedRun}
 use Rattle.fragments.proofs.Laws.Bool.{and-both, and-left, and-right}
 use Rattle.disc.proofs.Laws.Rules.{sound-rules}
 use Rattle.disc.proofs.Laws.Plan.{Flushed, skips, records, Moved, nothing, sends, gathers, fills, unrecorded-inside}

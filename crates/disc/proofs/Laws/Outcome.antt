@@ -15,7 +15,8 @@ use Rattle.fragments.specs.List.{limit}
 use Rattle.disc.specs.Rules.{Sound}
 use Rattle.disc.specs.Ready.{Ready}
 use Rattle.protocol.specs.Lengths.{replyRoom}
-use Rattle.disc.specs.Verdict.{rise, accepted, accept, refuse, noPlan, plan}
+use Rattle.decisions.specs.Plan.{noPlan, plan}
+use Rattle.disc.specs.Verdict.{rise, accepted, accept, refuse}
 use Rattle.protocol.specs.Reply.{noReply}
 use Rattle.disc.specs.Flush.{flush, flushPlan, synchronizeCache}
 use Rattle.disc.specs.Write.{flushOthers, gather, writeTo, writeFound, write, Writable, flushOthersPlan, grownRecord}

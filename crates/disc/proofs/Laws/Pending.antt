@@ -12,7 +12,7 @@ use Rattle.fragments.specs.Fragment.{unusedRecord, firstUnrecorded}
 use Rattle.disc.specs.Records.{pendingIn, isBlank, used, numbered, lastRecord, hasTail, hasBlankTail}
 use Rattle.fragments.specs.List.{limit}
 use Rattle.disc.specs.Ready.{Ready}
-use Rattle.disc.specs.Verdict.{plan, noPlan}
+use Rattle.decisions.specs.Plan.{plan, noPlan}
 use Rattle.disc.specs.Recorded.{flushedCount, transferredCount, pendingBlock, transferredBlock}
 use Rattle.disc.specs.Flush.{flush, flushPlan}
 use Rattle.disc.specs.Write.{flushOthers, flushOthersPlan, grownRecord, gather}

@@ -11,7 +11,7 @@ use Rattle.fragments.specs.Fragment.{end, firstUnrecorded}
 use Rattle.disc.specs.Records.{pendingIn, used, numbered, readable}
 use Rattle.disc.specs.Rules.{at, Sound}
 use Rattle.disc.specs.Ready.{Ready}
-use Rattle.disc.specs.Verdict.{noPlan, plan}
+use Rattle.decisions.specs.Plan.{noPlan, plan}
 use Rattle.disc.specs.Read.{allReadable}
 use Rattle.disc.specs.Flush.{flush, flushPlan}
 use Rattle.disc.specs.Write.{flushOthersPlan, Writable}

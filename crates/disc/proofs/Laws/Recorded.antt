@@ -14,7 +14,7 @@ use Rattle.fragments.specs.Fragment.{unusedRecord, firstUnrecorded}
 use Rattle.disc.specs.Records.{used, numbered}
 use Rattle.disc.specs.Rules.{at, Sound}
 use Rattle.disc.specs.Ready.{Ready}
-use Rattle.disc.specs.Verdict.{plan, noPlan}
+use Rattle.decisions.specs.Plan.{plan, noPlan}
 use Rattle.disc.specs.Recorded.{among, flushes, transfers, recordsBlock}
 use Rattle.disc.specs.Flush.{flushedRecord, flush, flushPlan}
 use Rattle.disc.specs.Write.{flushOthers, flushOthersPlan}

@@ -12,7 +12,8 @@ use Rattle.fragments.specs.Fragment.{unusedRecord, end, nextFragmentStart, tail
 use Rattle.disc.specs.Records.{pendingIn, isBlank, used, lastRecord, withRecord, hasTail, hasBlankTail}
 use Rattle.fragments.specs.List.{limit, sumRecorded}
 use Rattle.disc.specs.Rules.{Sound}
-use Rattle.disc.specs.Verdict.{rise, accepted, refuse, noPlan}
+use Rattle.decisions.specs.Plan.{noPlan}
+use Rattle.disc.specs.Verdict.{rise, accepted, refuse}
 use Rattle.protocol.specs.Reply.{noReply}
 use Rattle.fragments.specs.Address.{blocksFor}
 use Rattle.disc.specs.Reserve.{reservedAt, splitTail, reserve}

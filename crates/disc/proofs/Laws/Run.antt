@@ -5,11 +5,8 @@ use mathlib.Core.Bool.{true, _&&_}
 use mathlib.Core.List.{List, [], _∷_}
 use native.Mathlib.Omega.{arith}
 use borrow.Author.Tests.{eqb-true, le-ltb}
-use types.Run.{OneOf, miss}
-use denote.Enum.Declared.{tagOf}
 use lib.Dec.{eqb, ltb}
 use lib.ListN.{length, drop, length-take}
-use Rattle.disc.proofs.verdict.Transfer as transfer
 use Rattle.disc.specs.Types.{Lba, Disc, Transfer, Nothing, Send, Gather, Fill, Command}
 use Rattle.fragments.specs.Address.{lba}
 use Rattle.disc.specs.Records.{readable}
@@ -19,18 +16,11 @@ use Rattle.disc.specs.Blank.{inRange}
 use Rattle.disc.specs.Ready.{Ready}
 use Rattle.disc.specs.Read.{read}
 use Rattle.disc.specs.Judge.{perform}
-use Rattle.disc.specs.Run.{stretch, sent, sentWithin, served, recordedRun, RunOf}
+use Rattle.decisions.specs.Run.{stretch, sent, sentWithin}
+use Rattle.disc.specs.Run.{served, recordedRun, RunOf}
 use Rattle.fragments.proofs.Laws.Bool.{and-left, and-right, by-cases, cond-no}
 use Rattle.disc.proofs.Laws.Read.{all-readable-at, transfer-cases}
 use Rattle.disc.proofs.Laws.Plan.{Moved, nothing, sends, gathers, fills}
-
--- transfers that send nothing, by their places among the variants
-pub no-sectors : (t : Transfer) (medium : List ℕ) → OneOf (0 ∷ 2 ∷ 3 ∷ []) (tagOf transfer.the-type t) → sentWithin t medium ≡ []
-unfolding sentWithin
-no-sectors Nothing medium h = refl
-no-sectors (Send a n) medium h = absurd (miss (0 ∷ 2 ∷ 3 ∷ []) 1 tt h)
-no-sectors (Gather b p n) medium h = refl
-no-sectors (Fill b n) medium h = refl
 
 -- what a plan sends lies in a medium of whole blocks
 pub moved-within :

@@ -14,7 +14,8 @@ use Rattle.disc.specs.Records.{isBlank, used, lastRecord, withRecord, ha
 use Rattle.fragments.specs.List.{limit, sumRecorded}
 use Rattle.disc.specs.Rules.{at, Sound}
 use Rattle.disc.specs.Ready.{Ready}
-use Rattle.disc.specs.Verdict.{rise, accepted, accept, refuse, noPlan, plan}
+use Rattle.decisions.specs.Plan.{noPlan, plan}
+use Rattle.disc.specs.Verdict.{rise, accepted, accept, refuse}
 use Rattle.protocol.specs.Reply.{noReply}
 use Rattle.disc.specs.Flush.{flush, flushPlan, flushCount}
 use Rattle.disc.specs.Close.{shortenedRecord, hasIncompleteReserved, closeTail, openSession, closeSession, finalized, finalize}

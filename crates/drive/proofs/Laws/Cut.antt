@@ -12,7 +12,8 @@ use Rattle.disc.specs.Blank.{inRange}
 use Rattle.disc.specs.Lent.{FlushFits, TransferFits, Fits}
 use Rattle.disc.specs.Ready.{Ready}
 use Rattle.disc.specs.Sound.{allowedState}
-use Rattle.disc.specs.Verdict.{refuseLink, plan}
+use Rattle.decisions.specs.Plan.{plan}
+use Rattle.disc.specs.Verdict.{refuseLink}
 use Rattle.disc.specs.Write.{write}
 use Rattle.disc.proofs.Laws.Accepts.{takes-accepted, write-takes}
 use Rattle.disc.proofs.Laws.Cut.{cut-accepted, cut-plans, parts-takes}

@@ -7,7 +7,7 @@ use lib.ListN.{length, take, drop, length-append, length-drop}
 use lib.Seq.{drop-drop, take-add, take-append-le, drop-append-le, length-take-le}
 use types.Run.{OneOf, miss}
 use denote.Enum.Declared.{tagOf}
-use Rattle.disc.proofs.verdict.Transfer.{the-type}
+use Rattle.decisions.proofs.plan.Transfer.{the-type}
 use Rattle.drive.specs.Types.{Block, Flush, Record, Transfer, Nothing, Send, Gather, Fill, Plan}
 use Rattle.drive.specs.Bytes.{zeros, splice, padded}
 use Rattle.drive.specs.Moves.{transferredMedium, transferredPending, movedMedium, movedPending, flushedMedium, flushedPending, stream, gatheredMedium, gatheredPending}

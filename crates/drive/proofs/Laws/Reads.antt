@@ -9,8 +9,9 @@ use Rattle.protocol.specs.Command.{decode}
 use Rattle.disc.specs.Judge.{judge, perform}
 use Rattle.disc.specs.Read.{read}
 use Rattle.disc.specs.Records.{readable}
-use Rattle.disc.specs.Run.{stretch}
-use Rattle.disc.specs.Verdict.{accept, accepted, noPlan}
+use Rattle.decisions.specs.Run.{stretch}
+use Rattle.decisions.specs.Plan.{noPlan}
+use Rattle.disc.specs.Verdict.{accept, accepted}
 use Rattle.protocol.specs.Reply.{noReply}
 use Rattle.disc.proofs.Laws.Accepts.{read-accepted, accepted-read, read-sends, read-none}
 use Rattle.disc.proofs.Laws.Judge.{judge-reads, perform-read, decided-performed}

@@ -7,8 +7,8 @@ use lib.ListN.{length, take}
 use lib.Seq.{length-take-le}
 use types.Run.{OneOf, miss}
 use denote.Enum.Declared.{tagOf}
-use Rattle.disc.proofs.verdict.Transfer.{the-type}
-use Rattle.disc.specs.Run.{sentWithin}
+use Rattle.decisions.proofs.plan.Transfer.{the-type}
+use Rattle.decisions.specs.Run.{sentWithin}
 use borrow.Author.Tests.{le-ltb}
 use Rattle.drive.specs.Types.{Lba, Reply, Transfer, Nothing, Send, Gather, Fill}
 use Rattle.drive.specs.Bytes.{splice}

@@ -12,7 +12,7 @@ use Rattle.protocol.specs.Command.{decode}
 use Rattle.disc.specs.Judge.{judge}
 use Rattle.disc.specs.Lent.{TransferFits, RunFits, Fits}
 use Rattle.disc.specs.Verdict.{refuseLink, rise}
-use Rattle.disc.specs.Decision.{affected, changed, decided}
+use Rattle.disc.specs.Apply.{affected, changed, decided}
 use Rattle.fragments.proofs.Laws.Bool.{and-left, and-right, cond-cases, by-cases}
 use Rattle.disc.proofs.Laws.Judge.{Decided, onLink, judge-decided, decided-rise, decided-most, judge-block}
 use Rattle.disc.proofs.Laws.Lent.{judge-fits}

@@ -9,7 +9,7 @@ use lib.ListN.{length, set, take, drop, length-set}
 use lib.Seq.{take-append-add, drop-append-add, set-out}
 use Rattle.fragments.specs.List.{limit}
 use Rattle.fragments.proofs.Laws.Bool.{cond-yes, cond-no}
-use Rattle.disc.specs.Decision.{withEntry, withPending, withFinalized}
+use Rattle.disc.specs.Apply.{withEntry, withPending, withFinalized}
 use Rattle.disc.specs.Records.{withRecord, withSense}
 use Rattle.drive.specs.Bytes.{splice}
 use Rattle.gladhamre.specs.Types.{Fragment, Disc, Sense, Entry}

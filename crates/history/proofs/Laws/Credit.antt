@@ -15,7 +15,8 @@ use Rattle.fragments.specs.List.{limit}
 use Rattle.disc.specs.Recorded.{among}
 use Rattle.disc.specs.Ready.{Ready}
 use Rattle.disc.specs.Lent.{FlushFits, TransferFits}
-use Rattle.disc.specs.Verdict.{accepted, accept, refuse, noPlan, plan}
+use Rattle.decisions.specs.Plan.{noPlan, plan}
+use Rattle.disc.specs.Verdict.{accepted, accept, refuse}
 use Rattle.protocol.specs.Reply.{noReply}
 use Rattle.disc.specs.Flush.{flush, flushPlan, synchronizeCache}
 use Rattle.disc.specs.Read.{allReadable, read}

@@ -11,7 +11,8 @@ use Rattle.disc.specs.Records.{isBlank, pendingIn, used, isListed, numbered, la
 use Rattle.fragments.specs.List.{limit}
 use Rattle.disc.specs.Rules.{at, Sound}
 use Rattle.disc.specs.Ready.{Ready}
-use Rattle.disc.specs.Verdict.{accepted, accept, refuse, noPlan}
+use Rattle.decisions.specs.Plan.{noPlan}
+use Rattle.disc.specs.Verdict.{accepted, accept, refuse}
 use Rattle.protocol.specs.Reply.{noReply}
 use Rattle.disc.specs.Flush.{flush, synchronizeCache}
 use Rattle.disc.specs.Read.{allReadable, read}

@@ -7,8 +7,6 @@ use Rattle.disc.proofs.close.close_last.Tie as tie
 use Rattle.disc.proofs.close.close_last.Reads as reads
 use Rattle.disc.proofs.close.close_last.Lts as lts
 use Rattle.disc.proofs.close.tail_closed.Reads as tail-closed-reads
-use Rattle.disc.proofs.decision.Decision.accepted.Reads as accepted-reads
-use Rattle.disc.proofs.verdict.Plan.new.Reads as new-reads
 use Rattle.protocol.proofs.reply.Reply.none.Reads as none-reads
 
 new-requires : tie.Need-new-requires

@@ -9,8 +9,6 @@ use Rattle.disc.proofs.close.tail_after.Tie as tie
 use Rattle.disc.proofs.close.tail_after.Reads as reads
 use Rattle.disc.proofs.close.tail_after.Lts as lts
 use Rattle.disc.proofs.change.tail_from.Reads as tail-from-reads
-use Rattle.disc.proofs.decision.Entry.new.Reads as new-reads
-use Rattle.disc.proofs.decision.Entry.none.Reads as none-reads
 use Rattle.fragments.proofs.fragment.Fragment.next_start.Reads as next-start-reads
 
 next-start-requires : tie.Need-next-start-requires

@@ -8,8 +8,6 @@ use Rattle.disc.proofs.close.tail_closed.Tie as tie
 use Rattle.disc.proofs.close.tail_closed.Reads as reads
 use Rattle.disc.proofs.close.tail_closed.Lts as lts
 use Rattle.disc.proofs.change.shortened.Reads as shortened-reads
-use Rattle.disc.proofs.decision.Entry.new.Reads as new-reads
-use Rattle.disc.proofs.decision.Entry.none.Reads as none-reads
 use Rattle.fragments.proofs.fragment.Fragment.is_tail.Reads as is-tail-reads
 use Rattle.fragments.proofs.fragment.Fragment.unused.Reads as unused-reads
 

@@ -1,5 +1,5 @@
 use lib.ListN.{length}
-use Rattle.disc.specs.Run.{sentWithin}
+use Rattle.decisions.specs.Run.{sentWithin}
 use Rattle.drive.specs.Bytes.{splice}
 use mathlib.Core.Path.{_≡_, refl, sym, _∙_, ap}
 use native.Mathlib.Omega.{arith}
@@ -8,7 +8,7 @@ use Rattle.drive.proofs.reply.send_run.Statement.{statement}
 use Rattle.drive.proofs.reply.send_run.Tie as tie
 use Rattle.drive.proofs.reply.send_run.Reads as reads
 use Rattle.drive.proofs.reply.send_run.Lts as lts
-use Rattle.disc.proofs.verdict.Transfer.run.Reads as run-reads
+use Rattle.decisions.proofs.plan.Transfer.run.Reads as run-reads
 use Rattle.drive.proofs.bytes.put.Reads as put-reads
 
 run-requires : tie.Need-run-requires

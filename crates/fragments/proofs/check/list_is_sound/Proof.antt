@@ -104,8 +104,7 @@ loop-less c = search needs
 loop-again : tie.Need-loop-again Inv-loop μ-loop
 loop-again c =
     let w = c .before .before .before .before .before .before .before .before .loop in
-    let d = c .before .before .before .before .before .before .before .before .before .before .before .before .before .before .args in
-    (
+    let d = c .before .before .before .before .before .before .before .before .before .before .before .before .before .before .args in (
       omega arith,
       w .inv .1,
       w .inv .2

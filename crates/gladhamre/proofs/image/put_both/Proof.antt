@@ -1,4 +1,4 @@
-use Rattle.disc.specs.Decision.{withEntry}
+use Rattle.disc.specs.Apply.{withEntry}
 use borrow.Author.Needs.{needs}
 use Rattle.gladhamre.proofs.image.put_both.Statement.{statement}
 use Rattle.gladhamre.proofs.image.put_both.Tie as tie

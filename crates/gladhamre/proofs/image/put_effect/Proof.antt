@@ -1,5 +1,5 @@
 use Rattle.gladhamre.proofs.Laws.Update.{finalized-put}
-use Rattle.disc.specs.Decision.{affected}
+use Rattle.disc.specs.Apply.{affected}
 use lib.ListN.{length-set}
 use native.Mathlib.Omega.{arith}
 use borrow.Author.Needs.{needs}

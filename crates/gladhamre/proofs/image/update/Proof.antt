@@ -1,6 +1,6 @@
 use Rattle.gladhamre.proofs.Laws.Update.{sense-put, state-image}
 use Rattle.gladhamre.specs.Image.{decode}
-use Rattle.disc.specs.Decision.{changed}
+use Rattle.disc.specs.Apply.{changed}
 use lib.ListN.{length-set}
 use native.Mathlib.Omega.{arith}
 use borrow.Author.Needs.{needs}

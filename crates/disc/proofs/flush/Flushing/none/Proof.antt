@@ -5,7 +5,6 @@ use Rattle.disc.proofs.flush.Flushing.none.Statement.{statement}
 use Rattle.disc.proofs.flush.Flushing.none.Tie as tie
 use Rattle.disc.proofs.flush.Flushing.none.Reads as reads
 use Rattle.disc.proofs.flush.Flushing.none.Lts as lts
-use Rattle.disc.proofs.decision.Entry.none.Reads as none-reads
 
 none-requires : tie.Need-none-requires
 none-requires c κs = search needs

@@ -1,4 +1,4 @@
-use Rattle.disc.specs.Decision.{changed}
+use Rattle.disc.specs.Apply.{changed}
 use mathlib.Core.Path.{_≡_, refl, sym, _∙_, ap}
 use native.Mathlib.Omega.{arith}
 use borrow.Author.Needs.{needs}

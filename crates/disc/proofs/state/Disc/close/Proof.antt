@@ -1,4 +1,4 @@
-use Rattle.disc.specs.Decision.{affected}
+use Rattle.disc.specs.Apply.{affected}
 use mathlib.Core.Path.{_≡_, refl, sym, _∙_, ap}
 use native.Mathlib.Omega.{arith}
 use borrow.Author.Needs.{needs}

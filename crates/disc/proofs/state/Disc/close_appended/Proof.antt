@@ -1,4 +1,5 @@
-use Rattle.disc.specs.Verdict.{accepted, plan}
+use Rattle.decisions.specs.Plan.{plan}
+use Rattle.disc.specs.Verdict.{accepted}
 use Rattle.disc.specs.Types.{Nothing}
 use Rattle.protocol.specs.Reply.{noReply}
 use Rattle.disc.specs.Flush.{flush, flushPlan, flushCount}
@@ -17,9 +18,6 @@ use Rattle.disc.proofs.state.Disc.close_appended.Reads as reads
 use Rattle.disc.proofs.state.Disc.close_appended.Lts as lts
 use Rattle.disc.proofs.change.shortened.Reads as shortened-reads
 use Rattle.disc.proofs.close.tail_after.Reads as tail-after-reads
-use Rattle.disc.proofs.decision.Decision.accepted.Reads as accepted-reads
-use Rattle.disc.proofs.decision.Entry.new.Reads as decision-Entry-new-reads
-use Rattle.disc.proofs.verdict.Plan.new.Reads as verdict-Plan-new-reads
 use Rattle.protocol.proofs.reply.Reply.none.Reads as none-reads
 
 new-requires : tie.Need-new-requires

@@ -13,8 +13,6 @@ use Rattle.disc.proofs.state.Disc.close_fragment.Statement.{statement}
 use Rattle.disc.proofs.state.Disc.close_fragment.Tie as tie
 use Rattle.disc.proofs.state.Disc.close_fragment.Reads as reads
 use Rattle.disc.proofs.state.Disc.close_fragment.Lts as lts
-use Rattle.disc.proofs.decision.Decision.refused.Reads as refused-reads
-use Rattle.disc.proofs.decision.Entry.over.Reads as over-reads
 use Rattle.disc.proofs.state.Disc.close_appended.Reads as close-appended-reads
 use Rattle.disc.proofs.state.Disc.close_reserved.Reads as close-reserved-reads
 use Rattle.disc.proofs.state.Disc.flushing.Reads as flushing-reads

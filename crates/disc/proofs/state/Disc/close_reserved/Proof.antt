@@ -1,5 +1,6 @@
 use Prim.Native.Nat.{_+_, _-_}
-use Rattle.disc.specs.Verdict.{accepted, plan}
+use Rattle.decisions.specs.Plan.{plan}
+use Rattle.disc.specs.Verdict.{accepted}
 use Rattle.disc.specs.Types.{Fill}
 use Rattle.protocol.specs.Reply.{noReply}
 use Rattle.fragments.specs.Fragment.{firstUnrecorded}
@@ -20,10 +21,6 @@ use Rattle.disc.proofs.state.Disc.close_reserved.Reads as reads
 use Rattle.disc.proofs.state.Disc.close_reserved.Lts as lts
 use Rattle.disc.proofs.change.filled.Reads as filled-reads
 use Rattle.disc.proofs.change.first_unrecorded.Reads as first-unrecorded-reads
-use Rattle.disc.proofs.decision.Decision.accepted.Reads as accepted-reads
-use Rattle.disc.proofs.decision.Entry.new.Reads as decision-Entry-new-reads
-use Rattle.disc.proofs.decision.Entry.none.Reads as decision-Entry-none-reads
-use Rattle.disc.proofs.verdict.Plan.new.Reads as verdict-Plan-new-reads
 use Rattle.protocol.proofs.reply.Reply.none.Reads as reply-Reply-none-reads
 
 sub-blocks : tie.Need-sub-blocks

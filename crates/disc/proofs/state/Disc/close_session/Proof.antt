@@ -1,5 +1,6 @@
 use Rattle.fragments.proofs.Laws.Address.{wide-number}
-use Rattle.disc.specs.Verdict.{accepted, plan}
+use Rattle.decisions.specs.Plan.{plan}
+use Rattle.disc.specs.Verdict.{accepted}
 use Rattle.disc.specs.Types.{Nothing}
 use Rattle.protocol.specs.Reply.{noReply}
 use Rattle.disc.specs.Flush.{flush, flushPlan, flushCount}
@@ -18,9 +19,6 @@ use Rattle.disc.proofs.state.Disc.close_session.Reads as reads
 use Rattle.disc.proofs.state.Disc.close_session.Lts as lts
 use Rattle.disc.proofs.change.tail_from.Reads as tail-from-reads
 use Rattle.disc.proofs.close.close_last.Reads as close-last-reads
-use Rattle.disc.proofs.decision.Decision.refused.Reads as refused-reads
-use Rattle.disc.proofs.decision.Decision.unchanged.Reads as unchanged-reads
-use Rattle.disc.proofs.decision.Entry.new.Reads as new-reads
 use Rattle.disc.proofs.state.Disc.blank_tail_only.Reads as blank-tail-only-reads
 use Rattle.disc.proofs.state.Disc.flushing.Reads as flushing-reads
 use Rattle.disc.proofs.state.Disc.last_flushed.Reads as last-flushed-reads

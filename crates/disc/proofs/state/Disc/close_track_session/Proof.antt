@@ -8,7 +8,6 @@ use Rattle.disc.proofs.state.Disc.close_track_session.Statement.{statem
 use Rattle.disc.proofs.state.Disc.close_track_session.Tie as tie
 use Rattle.disc.proofs.state.Disc.close_track_session.Reads as reads
 use Rattle.disc.proofs.state.Disc.close_track_session.Lts as lts
-use Rattle.disc.proofs.decision.Decision.refused.Reads as refused-reads
 use Rattle.disc.proofs.state.Disc.close_fragment.Reads as close-fragment-reads
 use Rattle.disc.proofs.state.Disc.close_session.Reads as close-session-reads
 use Rattle.disc.proofs.state.Disc.finalize.Reads as finalize-reads

@@ -9,7 +9,6 @@ use Rattle.disc.proofs.state.Disc.decide.Statement.{statement}
 use Rattle.disc.proofs.state.Disc.decide.Tie as tie
 use Rattle.disc.proofs.state.Disc.decide.Reads as reads
 use Rattle.disc.proofs.state.Disc.decide.Lts as lts
-use Rattle.disc.proofs.decision.Decision.refused_link.Reads as refused-link-reads
 use Rattle.disc.proofs.state.Disc.in_range.Reads as in-range-reads
 use Rattle.disc.proofs.state.Disc.is_allowed.Reads as is-allowed-reads
 use Rattle.disc.proofs.state.Disc.perform.Reads as perform-reads

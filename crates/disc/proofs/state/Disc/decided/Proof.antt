@@ -1,4 +1,4 @@
-use Rattle.disc.specs.Decision.{decided}
+use Rattle.disc.specs.Apply.{decided}
 use mathlib.Core.Path.{_≡_, refl, sym, _∙_, ap}
 use native.Mathlib.Omega.{arith}
 use borrow.Author.Needs.{needs}

@@ -1,4 +1,5 @@
-use Rattle.disc.specs.Verdict.{accepted, plan}
+use Rattle.decisions.specs.Plan.{plan}
+use Rattle.disc.specs.Verdict.{accepted}
 use Rattle.disc.specs.Types.{Nothing}
 use Rattle.protocol.specs.Reply.{noReply}
 use Rattle.disc.specs.Flush.{flushPlan, flushCount}
@@ -13,9 +14,6 @@ use Rattle.disc.proofs.state.Disc.finalize.Tie as tie
 use Rattle.disc.proofs.state.Disc.finalize.Reads as reads
 use Rattle.disc.proofs.state.Disc.finalize.Lts as lts
 use Rattle.disc.proofs.close.close_last.Reads as close-last-reads
-use Rattle.disc.proofs.decision.Decision.refused.Reads as refused-reads
-use Rattle.disc.proofs.decision.Decision.unchanged.Reads as unchanged-reads
-use Rattle.disc.proofs.decision.Entry.none.Reads as decision-Entry-none-reads
 use Rattle.disc.proofs.state.Disc.flushing.Reads as flushing-reads
 use Rattle.disc.proofs.state.Disc.is_blank_disc.Reads as is-blank-disc-reads
 use Rattle.disc.proofs.state.Disc.last_flushed.Reads as last-flushed-reads

@@ -10,7 +10,6 @@ use Rattle.disc.proofs.state.Disc.flushing.Reads as reads
 use Rattle.disc.proofs.state.Disc.flushing.Lts as lts
 use Rattle.disc.proofs.change.first_unrecorded.Reads as first-unrecorded-reads
 use Rattle.disc.proofs.change.flushed.Reads as flushed-reads
-use Rattle.disc.proofs.decision.Entry.new.Reads as new-reads
 use Rattle.disc.proofs.flush.Flushing.none.Reads as none-reads
 use Rattle.disc.proofs.state.Disc.numbered.Reads as numbered-reads
 

@@ -7,7 +7,6 @@ use Rattle.disc.proofs.state.Disc.gather.Tie as tie
 use Rattle.disc.proofs.state.Disc.gather.Reads as reads
 use Rattle.disc.proofs.state.Disc.gather.Lts as lts
 use Rattle.disc.proofs.change.grown.Reads as grown-reads
-use Rattle.disc.proofs.decision.Entry.new.Reads as new-reads
 use Rattle.disc.proofs.state.Disc.numbered.Reads as numbered-reads
 use Rattle.disc.proofs.state.Disc.pending_in.Reads as pending-in-reads
 use Rattle.disc.proofs.write.owner_of.Reads as owner-of-reads

@@ -8,7 +8,6 @@ use Rattle.disc.proofs.state.Disc.last_flushed.Statement.{statement}
 use Rattle.disc.proofs.state.Disc.last_flushed.Tie as tie
 use Rattle.disc.proofs.state.Disc.last_flushed.Reads as reads
 use Rattle.disc.proofs.state.Disc.last_flushed.Lts as lts
-use Rattle.disc.proofs.decision.Entry.over.Reads as over-reads
 use Rattle.disc.proofs.state.Disc.last.Reads as last-reads
 
 last-requires : tie.Need-last-requires

@@ -14,7 +14,6 @@ use Rattle.disc.proofs.state.Disc.last_kept.Tie as tie
 use Rattle.disc.proofs.state.Disc.last_kept.Reads as reads
 use Rattle.disc.proofs.state.Disc.last_kept.Lts as lts
 use Rattle.disc.proofs.change.shortened.Reads as shortened-reads
-use Rattle.disc.proofs.decision.Entry.over.Reads as over-reads
 use Rattle.disc.proofs.state.Disc.numbered.Reads as numbered-reads
 use Rattle.fragments.proofs.fragment.Fragment.is_tail.Reads as is-tail-reads
 use Rattle.fragments.proofs.fragment.Fragment.unused.Reads as unused-reads

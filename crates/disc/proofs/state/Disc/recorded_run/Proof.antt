@@ -1,7 +1,8 @@
 use lib.ListN.{length}
 use mathlib.Core.Bool.{true}
-use Rattle.disc.specs.Decision.{decided}
-use Rattle.disc.specs.Run.{served, sentWithin, recordedRun}
+use Rattle.disc.specs.Apply.{decided}
+use Rattle.decisions.specs.Run.{sentWithin}
+use Rattle.disc.specs.Run.{served, recordedRun}
 use Rattle.disc.specs.Judge.{perform}
 use Rattle.protocol.specs.Command.{decode}
 use Rattle.disc.proofs.Laws.Run.{served-ready, served-medium, moved-within, run-of}
@@ -16,7 +17,6 @@ use Rattle.disc.proofs.state.Disc.recorded_run.Reads as reads
 use Rattle.disc.proofs.state.Disc.recorded_run.Lts as lts
 use Rattle.disc.proofs.state.Disc.perform.Reads as perform-reads
 use Rattle.disc.proofs.state.Disc.serves.Reads as serves-reads
-use Rattle.disc.proofs.verdict.Transfer.run.Reads as run-reads
 use Rattle.protocol.proofs.command.Command.decode.Reads as decode-reads
 
 serves-requires : tie.Need-serves-requires

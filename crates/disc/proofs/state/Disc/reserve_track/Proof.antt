@@ -16,12 +16,9 @@ use Rattle.disc.proofs.state.Disc.reserve_track.Tie as tie
 use Rattle.disc.proofs.state.Disc.reserve_track.Reads as reads
 use Rattle.disc.proofs.state.Disc.reserve_track.Lts as lts
 use Rattle.disc.proofs.change.reserved.Reads as reserved-reads
-use Rattle.disc.proofs.decision.Decision.accepted.Reads as accepted-reads
-use Rattle.disc.proofs.decision.Decision.refused.Reads as refused-reads
 use Rattle.disc.proofs.state.Disc.has_blank_tail.Reads as has-blank-tail-reads
 use Rattle.disc.proofs.state.Disc.last.Reads as last-reads
 use Rattle.disc.proofs.state.Disc.split_tail.Reads as split-tail-reads
-use Rattle.disc.proofs.verdict.Plan.none.Reads as verdict-Plan-none-reads
 use Rattle.fragments.proofs.blocks_for.Reads as blocks-for-reads
 use Rattle.fragments.proofs.fragment.Fragment.next_start.Reads as next-start-reads
 use Rattle.protocol.proofs.reply.Reply.none.Reads as reply-Reply-none-reads

@@ -9,7 +9,6 @@ use Rattle.disc.proofs.state.Disc.split_tail.Reads as reads
 use Rattle.disc.proofs.state.Disc.split_tail.Lts as lts
 use Rattle.disc.proofs.change.reserved.Reads as reserved-reads
 use Rattle.disc.proofs.change.tail_from.Reads as tail-from-reads
-use Rattle.disc.proofs.decision.Entry.new.Reads as new-reads
 use Rattle.disc.proofs.state.Disc.last.Reads as last-reads
 use Rattle.fragments.proofs.fragment.Fragment.next_start.Reads as next-start-reads
 

@@ -1,4 +1,5 @@
-use Rattle.disc.specs.Verdict.{accepted, plan}
+use Rattle.decisions.specs.Plan.{plan}
+use Rattle.disc.specs.Verdict.{accepted}
 use Rattle.disc.specs.Types.{Nothing}
 use Rattle.protocol.specs.Reply.{noReply}
 use Rattle.disc.specs.Flush.{flush, flushPlan, flushCount, synchronizeCache}
@@ -12,9 +13,7 @@ use Rattle.disc.proofs.state.Disc.synchronize_cache.Statement.{statemen
 use Rattle.disc.proofs.state.Disc.synchronize_cache.Tie as tie
 use Rattle.disc.proofs.state.Disc.synchronize_cache.Reads as reads
 use Rattle.disc.proofs.state.Disc.synchronize_cache.Lts as lts
-use Rattle.disc.proofs.decision.Decision.accepted.Reads as accepted-reads
 use Rattle.disc.proofs.state.Disc.flushing.Reads as flushing-reads
-use Rattle.disc.proofs.verdict.Plan.new.Reads as new-reads
 use Rattle.protocol.proofs.reply.Reply.none.Reads as none-reads
 
 flushing-requires : tie.Need-flushing-requires

@@ -7,7 +7,6 @@ use Rattle.disc.proofs.state.Disc.track_decision.Statement.{statement}
 use Rattle.disc.proofs.state.Disc.track_decision.Tie as tie
 use Rattle.disc.proofs.state.Disc.track_decision.Reads as reads
 use Rattle.disc.proofs.state.Disc.track_decision.Lts as lts
-use Rattle.disc.proofs.decision.Decision.unchanged.Reads as unchanged-reads
 use Rattle.disc.proofs.state.Disc.track_report.Reads as track-report-reads
 use Rattle.protocol.proofs.reply.Reply.of_track.Reads as of-track-reads
 

@@ -1,5 +1,5 @@
 use borrow.Author.Tests.{eq-eqb, ne-eqb, lt-ltb, le-ltb, not-true, not-false}
-use Rattle.disc.specs.Decision.{withEntry}
+use Rattle.disc.specs.Apply.{withEntry}
 use Rattle.disc.proofs.Laws.Decision.{with-entry, past-entry}
 use lib.ListN.{length}
 use Rattle.fragments.specs.List.{limit}

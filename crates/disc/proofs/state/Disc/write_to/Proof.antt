@@ -16,13 +16,10 @@ use Rattle.disc.proofs.state.Disc.write_to.Tie as tie
 use Rattle.disc.proofs.state.Disc.write_to.Reads as reads
 use Rattle.disc.proofs.state.Disc.write_to.Lts as lts
 use Rattle.disc.proofs.change.first_unrecorded.Reads as first-unrecorded-reads
-use Rattle.disc.proofs.decision.Decision.accepted.Reads as accepted-reads
-use Rattle.disc.proofs.decision.Decision.refused.Reads as refused-reads
 use Rattle.disc.proofs.state.Disc.flushing_others.Reads as flushing-others-reads
 use Rattle.disc.proofs.state.Disc.gather.Reads as gather-reads
 use Rattle.disc.proofs.state.Disc.numbered.Reads as numbered-reads
 use Rattle.disc.proofs.state.Disc.pending_in.Reads as pending-in-reads
-use Rattle.disc.proofs.verdict.Plan.new.Reads as new-reads
 use Rattle.fragments.proofs.address.Lba.passes.Reads as passes-reads
 use Rattle.fragments.proofs.whole_blocks.Reads as whole-blocks-reads
 use Rattle.fragments.proofs.fragment.Fragment.end_address.Reads as end-address-reads

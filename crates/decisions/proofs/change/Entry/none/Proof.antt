@@ -1,0 +1,21 @@
+use mathlib.Core.Path.{_≡_, refl, sym, _∙_, ap}
+use native.Mathlib.Omega.{arith}
+use borrow.Author.Needs.{needs}
+use Rattle.decisions.proofs.change.Entry.none.Statement.{statement}
+use Rattle.decisions.proofs.change.Entry.none.Tie as tie
+use Rattle.decisions.proofs.change.Entry.none.Reads as reads
+use Rattle.decisions.proofs.change.Entry.none.Lts as lts
+use Rattle.decisions.proofs.change.Entry.new.Reads as new-reads
+use Rattle.fragments.proofs.fragment.Fragment.unused.Reads as unused-reads
+
+unused-requires : tie.Need-unused-requires
+unused-requires c κs = search needs
+
+new-requires : tie.Need-new-requires
+new-requires c κs = search needs
+
+returns : tie.Need-returns
+returns c = rw (c .new .ensures, c .before .unused .ensures)
+
+pub none-spec : {M : Type 1} → statement M
+none-spec = tie.close (tie.spec unused-requires new-requires returns)

@@ -1,5 +1,5 @@
 -- CLOSE TRACK/SESSION (5Bh): 001 fragment, 010 session, 110 finalize. An accepted one flushes first, a refused one never.
-use Prim.Native.Nat.{ℕ, _+_, _-_, _≤_, _<_}
+use Prim.Native.Nat.{ℕ, _+_, _-_}
 use mathlib.Core.Bool.{Bool, true, cond, not, _&&_, _||_}
 use lib.Dec.{eqb, ltb}
 use Rattle.disc.specs.Types.{Kind, Reserved, Appended, Fragment, Disc, Nothing, Fill, Last, Flushing, Entry, Close, Decision, Verdict, InvalidFieldInCommand, IncompleteTrackInSession, EmptyTrack, NoMoreReservations, EndOfUserArea}
@@ -12,6 +12,7 @@ use Rattle.disc.specs.Verdict.{accept, refuse}
 use Rattle.protocol.specs.Reply.{noReply}
 use Rattle.decisions.specs.Change.{entry, noEntry}
 use Rattle.decisions.specs.Decision.{accepting}
+use Rattle.disc.specs.Apply.{withFinalized}
 use Rattle.disc.specs.Flush.{flush, flushPlan}
 
 -- every block not yet recorded is recorded as zeros
@@ -105,15 +106,7 @@ closeSession d =
     (accept d (openSession kept) noReply (plan (flushPlan d) Nothing)))))
 
 abbrev pub finalized : Disc → Disc
-finalized d =
-    record {
-      capacity = d .capacity;
-      finalized = true;
-      sense = d .sense;
-      pending = d .pending;
-      owner = d .owner;
-      fragments = d .fragments;
-    }
+finalized d = withFinalized d true
 
 -- 110: nothing is done on a finalized disc. Else no reserved fragment may be incomplete, as after the flush, and the disc must
 -- not be blank; the tail is closed as by 010, and no session is opened

@@ -5,11 +5,11 @@ use mathlib.Core.Bool.{Bool, true, false, cond, _&&_}
 use native.Mathlib.Omega.{arith}
 use borrow.Author.Tests.{eq-eqb, ne-eqb, eqb-true, eqb-false}
 use lib.Dec.{eqb, ltb}
-use lib.ListN.{length, getD, set}
+use lib.ListN.{length}
 use lib.Seq.{set-out, getD-set-same, getD-set-other}
 use Rattle.disc.specs.Types.{Fragment, Disc, Last, DriveRefusal, LinkRefusal, Reply, Plan, Entry, Effect, Keep, Settle, Reserve, Close, Grow}
 use Rattle.fragments.specs.Address.{wholeBlocks, leftOver}
-use Rattle.fragments.specs.Fragment.{unusedRecord, end, isTail, nextFragmentStart, nextSessionStart, tailFrom}
+use Rattle.fragments.specs.Fragment.{unusedRecord, end, nextFragmentStart, nextSessionStart, tailFrom}
 use Rattle.fragments.specs.List.{limit, lastOf}
 use Rattle.disc.specs.Records.{pendingIn, used, numbered, lastRecord, withRecord, hasTail, hasBlankTail}
 use Rattle.disc.specs.Rules.{Sound}
@@ -22,8 +22,7 @@ use Rattle.disc.specs.Flush.{flushedRecord, flush, flushEntry}
 use Rattle.disc.specs.Write.{flushOthers, flushOthersEntry, grownRecord, gather}
 use Rattle.disc.specs.Reserve.{reservedAt, splitTail}
 use Rattle.disc.specs.Close.{shortenedRecord, appendTail, tailAfter, closeTail, tailClosed, openSession, finalized}
-use Rattle.fragments.proofs.Laws.Bool.{and-both, by-cases, cond-yes, cond-no}
-use Rattle.fragments.proofs.Laws.Numbers.{equal-cases}
+use Rattle.fragments.proofs.Laws.Bool.{and-both, by-cases, cond-no}
 use Rattle.fragments.proofs.Laws.List.{listed-le}
 use Rattle.disc.proofs.Laws.Rules.{sound-rules}
 use Rattle.disc.proofs.Laws.Sound.{none-pending}
@@ -31,7 +30,7 @@ use Rattle.disc.proofs.Laws.Verdict.{accept-same}
 use Rattle.disc.proofs.Laws.Flush.{owner, flush-used, flush-finalized, flush-capacity, flush-sound, flush-pending}
 use Rattle.disc.proofs.Laws.Write.{others-numbered, others-pending}
 use Rattle.disc.proofs.Laws.Order.{drop-used, last-used}
-use Rattle.disc.proofs.Laws.Session.{kept-blank, kept-tail, kept-same, kept-capacity, kept-finalized, tail-written}
+use Rattle.disc.proofs.Laws.Session.{kept-blank, kept-tail, kept-same, kept-capacity, kept-finalized}
 
 -- refused and accepted decisions come to refused and accepted verdicts
 pub decided-refused : (d : Disc) (r : DriveRefusal) → decided d (refusing r) ≡ refuse d r

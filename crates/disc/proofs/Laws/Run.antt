@@ -7,7 +7,7 @@ use native.Mathlib.Omega.{arith}
 use borrow.Author.Tests.{eqb-true, le-ltb}
 use lib.Dec.{eqb, ltb}
 use lib.ListN.{length, drop, length-take}
-use Rattle.disc.specs.Types.{Lba, Disc, Transfer, Nothing, Send, Gather, Fill, Command}
+use Rattle.disc.specs.Types.{Lba, Disc, Transfer, Command}
 use Rattle.fragments.specs.Address.{lba}
 use Rattle.disc.specs.Records.{readable}
 use Rattle.disc.specs.Sound.{sound, allowedState}

@@ -2,12 +2,6 @@ use Rattle.gladhamre.proofs.Laws.Face.{blank-whole, blank-bad, blank-sh
 use borrow.Author.Needs.{needs}
 use Rattle.gladhamre.proofs.gladhamre_blank.Statement.{statement}
 use Rattle.gladhamre.proofs.gladhamre_blank.Tie as tie
-use Rattle.gladhamre.proofs.gladhamre_blank.Reads as reads
-use Rattle.gladhamre.proofs.gladhamre_blank.Lts as lts
-use Rattle.protocol.proofs.answer.Answer.number.Reads as number-reads
-use Rattle.disc.proofs.state.Disc.blank.Reads as blank-reads
-use Rattle.gladhamre.proofs.image.write.Reads as write-reads
-use Rattle.gladhamre.proofs.refusal_number.Reads as refusal-number-reads
 
 blank-requires : tie.Need-blank-requires
 blank-requires c κs = search needs

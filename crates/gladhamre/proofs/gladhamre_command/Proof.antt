@@ -8,16 +8,6 @@ use mathlib.Core.Path.{refl, sym, _∙_}
 use borrow.Author.Needs.{needs}
 use Rattle.gladhamre.proofs.gladhamre_command.Statement.{statement}
 use Rattle.gladhamre.proofs.gladhamre_command.Tie as tie
-use Rattle.gladhamre.proofs.gladhamre_command.Reads as reads
-use Rattle.gladhamre.proofs.gladhamre_command.Lts as lts
-use Rattle.drive.proofs.serve.Reads as serve-reads
-use Rattle.gladhamre.proofs.image.examine.Reads as examine-reads
-use Rattle.gladhamre.proofs.image.read.Reads as read-reads
-use Rattle.gladhamre.proofs.image.update.Reads as update-reads
-use Rattle.gladhamre.proofs.is_lent.Reads as is-lent-reads
-use Rattle.gladhamre.proofs.is_link.Reads as is-link-reads
-use Rattle.gladhamre.proofs.refusal_number.Reads as refusal-number-reads
-use Rattle.protocol.proofs.answer.Answer.number.Reads as number-reads
 
 refusal-number-requires : tie.Need-refusal-number-requires
 refusal-number-requires c κs = search needs

@@ -4,8 +4,6 @@ use native.Mathlib.Omega.{arith}
 use borrow.Author.Needs.{needs}
 use Rattle.gladhamre.proofs.is_lent.Statement.{statement}
 use Rattle.gladhamre.proofs.is_lent.Tie as tie
-use Rattle.gladhamre.proofs.is_lent.Reads as reads
-use Rattle.gladhamre.proofs.is_lent.Lts as lts
 
 returns : tie.Need-returns
 returns c = rw (eq-eqb (length (c .before .args .state .now)) 0 (c .if1 .taken))

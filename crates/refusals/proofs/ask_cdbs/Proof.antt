@@ -4,9 +4,6 @@ use Prim.Native.Nat.{_-_, _≤_}
 use lib.ListN.{length}
 use Rattle.refusals.proofs.ask_cdbs.Statement.{statement}
 use Rattle.refusals.proofs.ask_cdbs.Tie as tie
-use Rattle.refusals.proofs.ask_cdbs.Reads as reads
-use Rattle.refusals.proofs.ask_cdbs.Lts as lts
-use Rattle.refusals.proofs.ask_tiny.Reads as ask-tiny-reads
 
 abbrev Inv-loop : tie.InvT-loop
 Inv-loop disc bytes length₀ length = length ≤ 21

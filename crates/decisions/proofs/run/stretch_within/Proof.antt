@@ -4,15 +4,11 @@ use lib.Dec.{ltb}
 use lib.ListN.{length}
 use Prim.Native.Nat.{_+_, _*_, _/_}
 use Rattle.decisions.specs.Run.{sentWithin}
-use mathlib.Core.Path.{_≡_, refl, sym, _∙_, ap}
+use mathlib.Core.Path.{_≡_, sym, _∙_}
 use native.Mathlib.Omega.{arith}
 use borrow.Author.Needs.{needs}
 use Rattle.decisions.proofs.run.stretch_within.Statement.{statement}
 use Rattle.decisions.proofs.run.stretch_within.Tie as tie
-use Rattle.decisions.proofs.run.stretch_within.Reads as reads
-use Rattle.decisions.proofs.run.stretch_within.Lts as lts
-use Rattle.decisions.proofs.run.stretch.Reads as stretch-reads
-use Rattle.fragments.proofs.address.Lba.passes.Reads as passes-reads
 
 passes-requires : tie.Need-passes-requires
 passes-requires c κs = search needs

@@ -1,13 +1,7 @@
 use Rattle.disc.specs.Close.{closingLast}
-use mathlib.Core.Path.{_≡_, refl, sym, _∙_, ap}
-use native.Mathlib.Omega.{arith}
 use borrow.Author.Needs.{needs}
 use Rattle.disc.proofs.close.close_last.Statement.{statement}
 use Rattle.disc.proofs.close.close_last.Tie as tie
-use Rattle.disc.proofs.close.close_last.Reads as reads
-use Rattle.disc.proofs.close.close_last.Lts as lts
-use Rattle.disc.proofs.close.tail_closed.Reads as tail-closed-reads
-use Rattle.protocol.proofs.reply.Reply.none.Reads as none-reads
 
 new-requires : tie.Need-new-requires
 new-requires c κs = search needs

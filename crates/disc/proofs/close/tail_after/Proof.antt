@@ -1,15 +1,9 @@
-use borrow.Author.Tests.{eq-eqb, ne-eqb, lt-ltb, le-ltb, not-true, not-false}
+use borrow.Author.Tests.{lt-ltb, le-ltb}
 use Rattle.disc.specs.Close.{tailAfter}
 use Rattle.fragments.proofs.Laws.Address.{wide-number}
-use mathlib.Core.Path.{_≡_, refl, sym, _∙_, ap}
-use native.Mathlib.Omega.{arith}
 use borrow.Author.Needs.{needs}
 use Rattle.disc.proofs.close.tail_after.Statement.{statement}
 use Rattle.disc.proofs.close.tail_after.Tie as tie
-use Rattle.disc.proofs.close.tail_after.Reads as reads
-use Rattle.disc.proofs.close.tail_after.Lts as lts
-use Rattle.disc.proofs.change.tail_from.Reads as tail-from-reads
-use Rattle.fragments.proofs.fragment.Fragment.next_start.Reads as next-start-reads
 
 next-start-requires : tie.Need-next-start-requires
 next-start-requires c κs = search needs

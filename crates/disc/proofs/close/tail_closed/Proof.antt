@@ -1,15 +1,9 @@
-use borrow.Author.Tests.{eq-eqb, ne-eqb, lt-ltb, le-ltb, not-true, not-false}
+use borrow.Author.Tests.{eq-eqb, ne-eqb, not-true, not-false}
 use Rattle.disc.specs.Close.{tailClosed}
-use mathlib.Core.Path.{_≡_, refl, sym, _∙_, ap}
-use native.Mathlib.Omega.{arith}
+use mathlib.Core.Path.{sym, _∙_}
 use borrow.Author.Needs.{needs}
 use Rattle.disc.proofs.close.tail_closed.Statement.{statement}
 use Rattle.disc.proofs.close.tail_closed.Tie as tie
-use Rattle.disc.proofs.close.tail_closed.Reads as reads
-use Rattle.disc.proofs.close.tail_closed.Lts as lts
-use Rattle.disc.proofs.change.shortened.Reads as shortened-reads
-use Rattle.fragments.proofs.fragment.Fragment.is_tail.Reads as is-tail-reads
-use Rattle.fragments.proofs.fragment.Fragment.unused.Reads as unused-reads
 
 is-tail-requires : tie.Need-is-tail-requires
 is-tail-requires c κs = search needs

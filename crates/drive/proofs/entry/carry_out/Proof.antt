@@ -1,13 +1,8 @@
 use Rattle.drive.specs.Step.{outcome}
-use mathlib.Core.Path.{_≡_, refl, sym, _∙_, ap}
-use native.Mathlib.Omega.{arith}
+use mathlib.Core.Path.{ap}
 use borrow.Author.Needs.{needs}
 use Rattle.drive.proofs.entry.carry_out.Statement.{statement}
 use Rattle.drive.proofs.entry.carry_out.Tie as tie
-use Rattle.drive.proofs.entry.carry_out.Reads as reads
-use Rattle.drive.proofs.entry.carry_out.Lts as lts
-use Rattle.drive.proofs.reply.send.Reads as send-reads
-use Rattle.drive.proofs.transfer.carry_out.Reads as carry-out-reads
 
 send-requires : tie.Need-send-requires
 send-requires c κs = search needs

@@ -1,12 +1,6 @@
-use mathlib.Core.Path.{_≡_, refl, sym, _∙_, ap}
-use native.Mathlib.Omega.{arith}
 use borrow.Author.Needs.{needs}
 use Rattle.drive.proofs.entry.command.Statement.{statement}
 use Rattle.drive.proofs.entry.command.Tie as tie
-use Rattle.drive.proofs.entry.command.Reads as reads
-use Rattle.drive.proofs.entry.command.Lts as lts
-use Rattle.disc.proofs.state.Disc.changed.Reads as changed-reads
-use Rattle.drive.proofs.entry.serve.Reads as serve-reads
 
 serve-requires : tie.Need-serve-requires
 serve-requires c κs = search needs

@@ -4,17 +4,10 @@ use lib.ListN.{length}
 use Rattle.drive.specs.Types.{CommandBlockLength, MediumSize}
 use Rattle.drive.specs.Step.{drive, request, lent}
 use Rattle.drive.proofs.Laws.Step.{verdict-block, verdict-lent, verdict-judge, decided-feasible, decided-served, declined-served}
-use mathlib.Core.Path.{_≡_, refl, sym, _∙_, ap}
-use native.Mathlib.Omega.{arith}
+use mathlib.Core.Path.{_≡_, sym, _∙_}
 use borrow.Author.Needs.{needs}
 use Rattle.drive.proofs.entry.serve.Statement.{statement}
 use Rattle.drive.proofs.entry.serve.Tie as tie
-use Rattle.drive.proofs.entry.serve.Reads as reads
-use Rattle.drive.proofs.entry.serve.Lts as lts
-use Rattle.disc.proofs.state.Disc.decide.Reads as decide-reads
-use Rattle.drive.proofs.entry.carry_out.Reads as carry-out-reads
-use Rattle.drive.proofs.entry.is_lent.Reads as is-lent-reads
-use Rattle.drive.proofs.entry.refused.Reads as refused-reads
 
 refused-requires : tie.Need-refused-requires
 refused-requires c κs = search needs

@@ -7,9 +7,6 @@ use Prim.Native.Nat.{_-_, _*_, _≤_}
 use lib.ListN.{length}
 use Rattle.drive.proofs.medium.fill.Statement.{statement}
 use Rattle.drive.proofs.medium.fill.Tie as tie
-use Rattle.drive.proofs.medium.fill.Reads as reads
-use Rattle.drive.proofs.medium.fill.Lts as lts
-use Rattle.drive.proofs.medium.record_block.Reads as record-block-reads
 
 abbrev Inv-loop : tie.InvT-loop
 Inv-loop medium₀ blocks no-bytes first i₀ medium i =

@@ -7,10 +7,6 @@ use native.Mathlib.Omega.{arith}
 use borrow.Author.Needs.{needs}
 use Rattle.drive.proofs.medium.flush.Statement.{statement}
 use Rattle.drive.proofs.medium.flush.Tie as tie
-use Rattle.drive.proofs.medium.flush.Reads as reads
-use Rattle.drive.proofs.medium.flush.Lts as lts
-use Rattle.drive.proofs.bytes.clear.Reads as clear-reads
-use Rattle.drive.proofs.medium.record_block.Reads as record-block-reads
 
 enum-told : tie.Need-enum-told
 enum-told c = search needs

@@ -5,9 +5,6 @@ use Rattle.drive.specs.Bytes.{splice, padded}
 use borrow.Author.Needs.{needs}
 use Rattle.drive.proofs.medium.record_block.Statement.{statement}
 use Rattle.drive.proofs.medium.record_block.Tie as tie
-use Rattle.drive.proofs.medium.record_block.Reads as reads
-use Rattle.drive.proofs.medium.record_block.Lts as lts
-use Rattle.drive.proofs.medium.record_parts.Reads as record-parts-reads
 
 slice-aggregate-record-parts : tie.Need-slice-aggregate-record-parts
 slice-aggregate-record-parts c = search needs

@@ -6,9 +6,6 @@ use Prim.Native.Nat.{_+_, _*_}
 use borrow.Author.Needs.{needs}
 use Rattle.drive.proofs.medium.record_parts.Statement.{statement}
 use Rattle.drive.proofs.medium.record_parts.Tie as tie
-use Rattle.drive.proofs.medium.record_parts.Reads as reads
-use Rattle.drive.proofs.medium.record_parts.Lts as lts
-use Rattle.drive.proofs.medium.write_block.Reads as write-block-reads
 
 cast-from : tie.Need-cast-from
 cast-from c = search needs

@@ -3,10 +3,6 @@ use Rattle.drive.proofs.Laws.Bytes.{padded-parts}
 use borrow.Author.Needs.{needs}
 use Rattle.drive.proofs.medium.write_block.Statement.{statement}
 use Rattle.drive.proofs.medium.write_block.Tie as tie
-use Rattle.drive.proofs.medium.write_block.Reads as reads
-use Rattle.drive.proofs.medium.write_block.Lts as lts
-use Rattle.drive.proofs.bytes.clear_from.Reads as clear-from-reads
-use Rattle.drive.proofs.bytes.put.Reads as put-reads
 
 put-requires : tie.Need-put-requires
 put-requires c κs = search needs

@@ -1,15 +1,11 @@
 use lib.ListN.{length}
 use Rattle.drive.specs.Bytes.{splice}
 use Rattle.drive.proofs.Laws.Reply.{run-sent, report-sent}
-use mathlib.Core.Path.{_≡_, refl, sym, _∙_, ap}
+use mathlib.Core.Path.{_∙_, ap}
 use native.Mathlib.Omega.{arith}
 use borrow.Author.Needs.{needs}
 use Rattle.drive.proofs.reply.send.Statement.{statement}
 use Rattle.drive.proofs.reply.send.Tie as tie
-use Rattle.drive.proofs.reply.send.Reads as reads
-use Rattle.drive.proofs.reply.send.Lts as lts
-use Rattle.drive.proofs.reply.send_report.Reads as send-report-reads
-use Rattle.drive.proofs.reply.send_run.Reads as send-run-reads
 
 enum-told : tie.Need-enum-told
 enum-told c = search needs

@@ -2,9 +2,6 @@ use Rattle.drive.proofs.Laws.Reply.{report-put}
 use borrow.Author.Needs.{needs}
 use Rattle.drive.proofs.reply.send_report.Statement.{statement}
 use Rattle.drive.proofs.reply.send_report.Tie as tie
-use Rattle.drive.proofs.reply.send_report.Reads as reads
-use Rattle.drive.proofs.reply.send_report.Lts as lts
-use Rattle.drive.proofs.bytes.put.Reads as put-reads
 
 sub-put : tie.Need-sub-put
 sub-put c = search needs

@@ -1,15 +1,11 @@
 use lib.ListN.{length}
 use Rattle.decisions.specs.Run.{sentWithin}
 use Rattle.drive.specs.Bytes.{splice}
-use mathlib.Core.Path.{_≡_, refl, sym, _∙_, ap}
+use mathlib.Core.Path.{_≡_, _∙_, ap}
 use native.Mathlib.Omega.{arith}
 use borrow.Author.Needs.{needs}
 use Rattle.drive.proofs.reply.send_run.Statement.{statement}
 use Rattle.drive.proofs.reply.send_run.Tie as tie
-use Rattle.drive.proofs.reply.send_run.Reads as reads
-use Rattle.drive.proofs.reply.send_run.Lts as lts
-use Rattle.decisions.proofs.plan.Transfer.run.Reads as run-reads
-use Rattle.drive.proofs.bytes.put.Reads as put-reads
 
 run-requires : tie.Need-run-requires
 run-requires c κs = search needs

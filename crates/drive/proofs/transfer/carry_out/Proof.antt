@@ -7,10 +7,6 @@ use native.Mathlib.Omega.{arith}
 use borrow.Author.Needs.{needs}
 use Rattle.drive.proofs.transfer.carry_out.Statement.{statement}
 use Rattle.drive.proofs.transfer.carry_out.Tie as tie
-use Rattle.drive.proofs.transfer.carry_out.Reads as reads
-use Rattle.drive.proofs.transfer.carry_out.Lts as lts
-use Rattle.drive.proofs.medium.flush.Reads as flush-reads
-use Rattle.drive.proofs.transfer.transfer.Reads as transfer-reads
 
 flush-requires : tie.Need-flush-requires
 flush-requires c κs = search needs

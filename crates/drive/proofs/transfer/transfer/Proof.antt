@@ -7,10 +7,6 @@ use native.Mathlib.Omega.{arith}
 use borrow.Author.Needs.{needs}
 use Rattle.drive.proofs.transfer.transfer.Statement.{statement}
 use Rattle.drive.proofs.transfer.transfer.Tie as tie
-use Rattle.drive.proofs.transfer.transfer.Reads as reads
-use Rattle.drive.proofs.transfer.transfer.Lts as lts
-use Rattle.drive.proofs.gather.gather.Reads as gather-reads
-use Rattle.drive.proofs.medium.fill.Reads as fill-reads
 
 enum-known-transfer : tie.Need-enum-known-transfer
 enum-known-transfer c = search needs

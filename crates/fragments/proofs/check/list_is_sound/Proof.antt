@@ -8,21 +8,12 @@ use lib.ListN.{drop, length}
 use Rattle.fragments.proofs.Laws.List.{array-length}
 use Prim.Native.Nat.{_-_, _≤_}
 use borrow.Author.Needs.{needs}
-use mathlib.Core.Path.{_≡_, refl, sym, _∙_, ap}
+use mathlib.Core.Path.{_≡_, sym, _∙_}
 use native.Mathlib.Omega.{arith}
-use Prim.Native.Nat.{ℕ, _+_, _-_, _*_, _≤_, _<_}
+use Prim.Native.Nat.{_-_, _≤_}
 use lib.ListN.{length}
 use Rattle.fragments.proofs.check.list_is_sound.Statement.{statement}
 use Rattle.fragments.proofs.check.list_is_sound.Tie as tie
-use Rattle.fragments.proofs.check.list_is_sound.Reads as reads
-use Rattle.fragments.proofs.check.list_is_sound.Lts as lts
-use Rattle.fragments.proofs.check.unused_from.Reads as unused-from-reads
-use Rattle.fragments.proofs.fragment.Fragment.begins_list.Reads as begins-list-reads
-use Rattle.fragments.proofs.fragment.Fragment.continues.Reads as continues-reads
-use Rattle.fragments.proofs.fragment.Fragment.ends_list.Reads as ends-list-reads
-use Rattle.fragments.proofs.fragment.Fragment.is_complete.Reads as is-complete-reads
-use Rattle.fragments.proofs.fragment.Fragment.is_within.Reads as is-within-reads
-use Rattle.fragments.proofs.fragment.Fragment.leaves_open.Reads as leaves-open-reads
 
 abbrev Inv-loop : tie.InvT-loop
 Inv-loop capacity finalized fragments before₀ incomplete₀ i₀ before incomplete i =

@@ -1,15 +1,11 @@
 use lib.ListN.{length}
 use Rattle.fragments.specs.List.{limit}
 use Rattle.fragments.proofs.Laws.List.{array-length, listed-le}
-use mathlib.Core.Path.{_≡_, refl, sym, _∙_, ap}
+use mathlib.Core.Path.{_≡_}
 use native.Mathlib.Omega.{arith}
 use borrow.Author.Needs.{needs}
 use Rattle.fragments.proofs.list.last_record.Statement.{statement}
 use Rattle.fragments.proofs.list.last_record.Tie as tie
-use Rattle.fragments.proofs.list.last_record.Reads as reads
-use Rattle.fragments.proofs.list.last_record.Lts as lts
-use Rattle.fragments.proofs.list.index_of.Reads as index-of-reads
-use Rattle.fragments.proofs.list.used.Reads as used-reads
 
 used-requires : tie.Need-used-requires
 used-requires c κs = search needs

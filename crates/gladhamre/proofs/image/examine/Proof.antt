@@ -7,11 +7,6 @@ use native.Mathlib.Omega.{arith}
 use borrow.Author.Needs.{needs}
 use Rattle.gladhamre.proofs.image.examine.Statement.{statement}
 use Rattle.gladhamre.proofs.image.examine.Tie as tie
-use Rattle.gladhamre.proofs.image.examine.Reads as reads
-use Rattle.gladhamre.proofs.image.examine.Lts as lts
-use Rattle.gladhamre.proofs.image.head_fits.Reads as head-fits-reads
-use Rattle.gladhamre.proofs.image.is_zero.Reads as is-zero-reads
-use Rattle.gladhamre.proofs.image.used.Reads as used-reads
 
 returns : tie.Need-returns
 returns c = words-short (c .before .before .args .words .now) (c .if1 .taken)

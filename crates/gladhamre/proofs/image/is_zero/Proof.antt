@@ -9,8 +9,6 @@ use Rattle.gladhamre.specs.Used.{allZero}
 use Rattle.gladhamre.proofs.Laws.Used.{zero-more, zero-all}
 use Rattle.gladhamre.proofs.image.is_zero.Statement.{statement}
 use Rattle.gladhamre.proofs.image.is_zero.Tie as tie
-use Rattle.gladhamre.proofs.image.is_zero.Reads as reads
-use Rattle.gladhamre.proofs.image.is_zero.Lts as lts
 
 abbrev Inv-loop : tie.InvT-loop
 Inv-loop words all₀ i₀ all i = (i ≤ length words) × (allZero words ≡ (eqb all 0 && allZero (drop i words)))

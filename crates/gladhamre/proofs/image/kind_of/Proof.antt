@@ -1,8 +1,6 @@
 use borrow.Author.Tests.{eq-eqb, ne-eqb}
 use Rattle.gladhamre.proofs.image.kind_of.Statement.{statement}
 use Rattle.gladhamre.proofs.image.kind_of.Tie as tie
-use Rattle.gladhamre.proofs.image.kind_of.Reads as reads
-use Rattle.gladhamre.proofs.image.kind_of.Lts as lts
 
 returns : tie.Need-returns
 returns c = rw (eq-eqb _ _ (c .if1 .taken))

@@ -5,9 +5,6 @@ use mathlib.Core.Path.{refl}
 use borrow.Author.Needs.{needs}
 use Rattle.gladhamre.proofs.image.put.Statement.{statement}
 use Rattle.gladhamre.proofs.image.put.Tie as tie
-use Rattle.gladhamre.proofs.image.put.Reads as reads
-use Rattle.gladhamre.proofs.image.put.Lts as lts
-use Rattle.gladhamre.proofs.image.write_record.Reads as write-record-reads
 
 returns : tie.Need-returns
 returns c = λ d i. none-put (c .before .before .args .words .now) (c .before .before .args .entry) d i (c .if1 .taken)

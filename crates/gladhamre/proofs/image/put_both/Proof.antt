@@ -2,9 +2,6 @@ use Rattle.disc.specs.Apply.{withEntry}
 use borrow.Author.Needs.{needs}
 use Rattle.gladhamre.proofs.image.put_both.Statement.{statement}
 use Rattle.gladhamre.proofs.image.put_both.Tie as tie
-use Rattle.gladhamre.proofs.image.put_both.Reads as reads
-use Rattle.gladhamre.proofs.image.put_both.Lts as lts
-use Rattle.gladhamre.proofs.image.put.Reads as put-reads
 
 put-requires : tie.Need-put-requires
 put-requires c κs = search needs

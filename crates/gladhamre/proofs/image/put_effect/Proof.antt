@@ -5,12 +5,6 @@ use native.Mathlib.Omega.{arith}
 use borrow.Author.Needs.{needs}
 use Rattle.gladhamre.proofs.image.put_effect.Statement.{statement}
 use Rattle.gladhamre.proofs.image.put_effect.Tie as tie
-use Rattle.gladhamre.proofs.image.put_effect.Reads as reads
-use Rattle.gladhamre.proofs.image.put_effect.Lts as lts
-use Rattle.gladhamre.proofs.image.flag_word.Reads as flag-word-reads
-use Rattle.gladhamre.proofs.image.put_both.Reads as put-both-reads
-use Rattle.gladhamre.proofs.image.put_pending.Reads as put-pending-reads
-use Rattle.gladhamre.proofs.image.settle.Reads as settle-reads
 
 enum-told : tie.Need-enum-told
 enum-told c = search needs

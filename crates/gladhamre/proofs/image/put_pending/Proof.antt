@@ -2,8 +2,6 @@ use Rattle.gladhamre.proofs.Laws.Update.{pending-put}
 use borrow.Author.Needs.{needs}
 use Rattle.gladhamre.proofs.image.put_pending.Statement.{statement}
 use Rattle.gladhamre.proofs.image.put_pending.Tie as tie
-use Rattle.gladhamre.proofs.image.put_pending.Reads as reads
-use Rattle.gladhamre.proofs.image.put_pending.Lts as lts
 
 slice-write-words : tie.Need-slice-write-words
 slice-write-words c = search needs

@@ -2,9 +2,6 @@ use Rattle.gladhamre.specs.Image.{decode}
 use borrow.Author.Needs.{needs}
 use Rattle.gladhamre.proofs.image.read.Statement.{statement}
 use Rattle.gladhamre.proofs.image.read.Tie as tie
-use Rattle.gladhamre.proofs.image.read.Reads as reads
-use Rattle.gladhamre.proofs.image.read.Lts as lts
-use Rattle.gladhamre.proofs.image.read_list.Reads as read-list-reads
 
 shared-slice-read-t6 : tie.Need-shared-slice-read-t6
 shared-slice-read-t6 c = search needs

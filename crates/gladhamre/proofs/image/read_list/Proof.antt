@@ -11,9 +11,6 @@ use Rattle.gladhamre.proofs.Laws.Image.{lent-record, read-more}
 use Rattle.gladhamre.proofs.Laws.Used.{taken-most, taken-fits, taken-list}
 use Rattle.gladhamre.proofs.image.read_list.Statement.{statement}
 use Rattle.gladhamre.proofs.image.read_list.Tie as tie
-use Rattle.gladhamre.proofs.image.read_list.Reads as reads
-use Rattle.gladhamre.proofs.image.read_list.Lts as lts
-use Rattle.gladhamre.proofs.image.read_record.Reads as read-record-reads
 
 abbrev Inv-loop : tie.InvT-loop
 Inv-loop words used fragments₀ i₀ fragments i =

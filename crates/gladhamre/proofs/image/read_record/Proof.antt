@@ -6,9 +6,6 @@ use native.Mathlib.Omega.{arith}
 use borrow.Author.Needs.{needs}
 use Rattle.gladhamre.proofs.image.read_record.Statement.{statement}
 use Rattle.gladhamre.proofs.image.read_record.Tie as tie
-use Rattle.gladhamre.proofs.image.read_record.Reads as reads
-use Rattle.gladhamre.proofs.image.read_record.Lts as lts
-use Rattle.gladhamre.proofs.image.kind_of.Reads as kind-of-reads
 
 shared-slice-read-t3 : tie.Need-shared-slice-read-t3
 shared-slice-read-t3 c = search needs

@@ -2,10 +2,6 @@ use Rattle.disc.specs.Apply.{withEntry}
 use borrow.Author.Needs.{needs}
 use Rattle.gladhamre.proofs.image.settle.Statement.{statement}
 use Rattle.gladhamre.proofs.image.settle.Tie as tie
-use Rattle.gladhamre.proofs.image.settle.Reads as reads
-use Rattle.gladhamre.proofs.image.settle.Lts as lts
-use Rattle.gladhamre.proofs.image.put.Reads as put-reads
-use Rattle.gladhamre.proofs.image.put_pending.Reads as put-pending-reads
 
 put-requires : tie.Need-put-requires
 put-requires c κs = search needs

@@ -6,9 +6,6 @@ use native.Mathlib.Omega.{arith}
 use borrow.Author.Needs.{needs}
 use Rattle.gladhamre.proofs.image.update.Statement.{statement}
 use Rattle.gladhamre.proofs.image.update.Tie as tie
-use Rattle.gladhamre.proofs.image.update.Reads as reads
-use Rattle.gladhamre.proofs.image.update.Lts as lts
-use Rattle.gladhamre.proofs.image.put_effect.Reads as put-effect-reads
 
 put-effect-requires : tie.Need-put-effect-requires
 put-effect-requires c κs = search needs

@@ -9,9 +9,6 @@ use Rattle.gladhamre.specs.Used.{usedOf, usedIn}
 use Rattle.gladhamre.proofs.Laws.Used.{lent-used, used-more, used-stop, used-all}
 use Rattle.gladhamre.proofs.image.used.Statement.{statement}
 use Rattle.gladhamre.proofs.image.used.Tie as tie
-use Rattle.gladhamre.proofs.image.used.Reads as reads
-use Rattle.gladhamre.proofs.image.used.Lts as lts
-use Rattle.gladhamre.proofs.image.is_used.Reads as is-used-reads
 
 abbrev Inv-loop : tie.InvT-loop
 Inv-loop words i₀ i = (i ≤ limit) × (usedIn words ≡ i + usedOf (limit - i) (drop (6 * i) (drop 7 words)))

@@ -6,10 +6,6 @@ use native.Mathlib.Omega.{arith}
 use borrow.Author.Needs.{needs}
 use Rattle.gladhamre.proofs.image.write.Statement.{statement}
 use Rattle.gladhamre.proofs.image.write.Tie as tie
-use Rattle.gladhamre.proofs.image.write.Reads as reads
-use Rattle.gladhamre.proofs.image.write.Lts as lts
-use Rattle.gladhamre.proofs.image.write_head.Reads as write-head-reads
-use Rattle.gladhamre.proofs.image.write_list.Reads as write-list-reads
 
 sub-write-head : tie.Need-sub-write-head
 sub-write-head c = search needs

@@ -5,9 +5,6 @@ use native.Mathlib.Omega.{arith}
 use borrow.Author.Needs.{needs}
 use Rattle.gladhamre.proofs.image.write_head.Statement.{statement}
 use Rattle.gladhamre.proofs.image.write_head.Tie as tie
-use Rattle.gladhamre.proofs.image.write_head.Reads as reads
-use Rattle.gladhamre.proofs.image.write_head.Lts as lts
-use Rattle.gladhamre.proofs.image.flag_word.Reads as flag-word-reads
 
 slice-write-words : tie.Need-slice-write-words
 slice-write-words c = search needs

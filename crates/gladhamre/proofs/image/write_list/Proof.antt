@@ -12,9 +12,6 @@ use native.Mathlib.Omega.{arith}
 use Prim.Native.Nat.{_+_, _-_, _*_, _≤_}
 use Rattle.gladhamre.proofs.image.write_list.Statement.{statement}
 use Rattle.gladhamre.proofs.image.write_list.Tie as tie
-use Rattle.gladhamre.proofs.image.write_list.Reads as reads
-use Rattle.gladhamre.proofs.image.write_list.Lts as lts
-use Rattle.gladhamre.proofs.image.write_record.Reads as write-record-reads
 
 abbrev Inv-loop : tie.InvT-loop
 Inv-loop words₀ disc i₀ words i =

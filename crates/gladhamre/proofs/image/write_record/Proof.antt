@@ -5,9 +5,6 @@ use native.Mathlib.Omega.{arith}
 use borrow.Author.Needs.{needs}
 use Rattle.gladhamre.proofs.image.write_record.Statement.{statement}
 use Rattle.gladhamre.proofs.image.write_record.Tie as tie
-use Rattle.gladhamre.proofs.image.write_record.Reads as reads
-use Rattle.gladhamre.proofs.image.write_record.Lts as lts
-use Rattle.gladhamre.proofs.image.kind_word.Reads as kind-word-reads
 
 cast-words : tie.Need-cast-words
 cast-words c = search needs

@@ -1,12 +1,7 @@
 use Rattle.decisions.specs.Decision.{accepting}
-use mathlib.Core.Path.{_≡_, refl, sym, _∙_, ap}
-use native.Mathlib.Omega.{arith}
 use borrow.Author.Needs.{needs}
 use Rattle.decisions.proofs.decision.Decision.accepted.Statement.{statement}
 use Rattle.decisions.proofs.decision.Decision.accepted.Tie as tie
-use Rattle.decisions.proofs.decision.Decision.accepted.Reads as reads
-use Rattle.decisions.proofs.decision.Decision.accepted.Lts as lts
-use Rattle.protocol.proofs.answer.Sense.none.Reads as none-reads
 
 none-requires : tie.Need-none-requires
 none-requires c κs = search needs

@@ -1,12 +1,7 @@
 use Rattle.decisions.specs.Decision.{refusingLink}
-use mathlib.Core.Path.{_≡_, refl, sym, _∙_, ap}
-use native.Mathlib.Omega.{arith}
 use borrow.Author.Needs.{needs}
 use Rattle.decisions.proofs.decision.Decision.refused_link.Statement.{statement}
 use Rattle.decisions.proofs.decision.Decision.refused_link.Tie as tie
-use Rattle.decisions.proofs.decision.Decision.refused_link.Reads as reads
-use Rattle.decisions.proofs.decision.Decision.refused_link.Lts as lts
-use Rattle.decisions.proofs.decision.Decision.declined.Reads as declined-reads
 
 declined-requires : tie.Need-declined-requires
 declined-requires c κs = search needs

@@ -1,12 +1,6 @@
-use mathlib.Core.Path.{_≡_, refl, sym, _∙_, ap}
-use native.Mathlib.Omega.{arith}
 use borrow.Author.Needs.{needs}
 use Rattle.decisions.proofs.decision.Decision.unchanged.Statement.{statement}
 use Rattle.decisions.proofs.decision.Decision.unchanged.Tie as tie
-use Rattle.decisions.proofs.decision.Decision.unchanged.Reads as reads
-use Rattle.decisions.proofs.decision.Decision.unchanged.Lts as lts
-use Rattle.decisions.proofs.decision.Decision.accepted.Reads as accepted-reads
-use Rattle.decisions.proofs.plan.Plan.none.Reads as none-reads
 
 none-requires : tie.Need-none-requires
 none-requires c κs = search needs

@@ -1,13 +1,9 @@
 use Rattle.decisions.specs.Run.{sentWithin}
 use Rattle.decisions.proofs.Laws.Run.{no-sectors}
-use mathlib.Core.Path.{_≡_, refl, sym, _∙_, ap}
-use native.Mathlib.Omega.{arith}
+use mathlib.Core.Path.{sym, _∙_, ap}
 use borrow.Author.Needs.{needs}
 use Rattle.decisions.proofs.plan.Transfer.run.Statement.{statement}
 use Rattle.decisions.proofs.plan.Transfer.run.Tie as tie
-use Rattle.decisions.proofs.plan.Transfer.run.Reads as reads
-use Rattle.decisions.proofs.plan.Transfer.run.Lts as lts
-use Rattle.decisions.proofs.run.stretch_within.Reads as stretch-within-reads
 
 enum-known-self : tie.Need-enum-known-self
 enum-known-self c = search needs

@@ -1,10 +1,6 @@
-use mathlib.Core.Path.{_≡_, refl, sym, _∙_, ap}
-use native.Mathlib.Omega.{arith}
 use borrow.Author.Needs.{needs}
 use Rattle.disc.proofs.flush.Flushing.none.Statement.{statement}
 use Rattle.disc.proofs.flush.Flushing.none.Tie as tie
-use Rattle.disc.proofs.flush.Flushing.none.Reads as reads
-use Rattle.disc.proofs.flush.Flushing.none.Lts as lts
 
 none-requires : tie.Need-none-requires
 none-requires c κs = search needs

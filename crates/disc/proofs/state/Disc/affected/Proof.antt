@@ -1,15 +1,7 @@
 use Rattle.disc.specs.Apply.{affected}
-use mathlib.Core.Path.{_≡_, refl, sym, _∙_, ap}
-use native.Mathlib.Omega.{arith}
 use borrow.Author.Needs.{needs}
 use Rattle.disc.proofs.state.Disc.affected.Statement.{statement}
 use Rattle.disc.proofs.state.Disc.affected.Tie as tie
-use Rattle.disc.proofs.state.Disc.affected.Reads as reads
-use Rattle.disc.proofs.state.Disc.affected.Lts as lts
-use Rattle.disc.proofs.state.Disc.close.Reads as close-reads
-use Rattle.disc.proofs.state.Disc.flush.Reads as flush-reads
-use Rattle.disc.proofs.state.Disc.grow.Reads as grow-reads
-use Rattle.disc.proofs.state.Disc.reserve.Reads as reserve-reads
 
 enum-told : tie.Need-enum-told
 enum-told c = search needs

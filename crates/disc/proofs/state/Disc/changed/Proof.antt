@@ -1,13 +1,7 @@
 use Rattle.disc.specs.Apply.{changed}
-use mathlib.Core.Path.{_≡_, refl, sym, _∙_, ap}
-use native.Mathlib.Omega.{arith}
 use borrow.Author.Needs.{needs}
 use Rattle.disc.proofs.state.Disc.changed.Statement.{statement}
 use Rattle.disc.proofs.state.Disc.changed.Tie as tie
-use Rattle.disc.proofs.state.Disc.changed.Reads as reads
-use Rattle.disc.proofs.state.Disc.changed.Lts as lts
-use Rattle.disc.proofs.state.Disc.affected.Reads as affected-reads
-use Rattle.disc.proofs.state.Disc.with_sense.Reads as with-sense-reads
 
 affected-requires : tie.Need-affected-requires
 affected-requires c κs = search needs

@@ -1,13 +1,7 @@
 use Rattle.disc.specs.Apply.{affected}
-use mathlib.Core.Path.{_≡_, refl, sym, _∙_, ap}
-use native.Mathlib.Omega.{arith}
 use borrow.Author.Needs.{needs}
 use Rattle.disc.proofs.state.Disc.close.Statement.{statement}
 use Rattle.disc.proofs.state.Disc.close.Tie as tie
-use Rattle.disc.proofs.state.Disc.close.Reads as reads
-use Rattle.disc.proofs.state.Disc.close.Lts as lts
-use Rattle.disc.proofs.state.Disc.flush.Reads as flush-reads
-use Rattle.disc.proofs.state.Disc.with_entry.Reads as with-entry-reads
 
 flush-requires : tie.Need-flush-requires
 flush-requires c κs = search needs

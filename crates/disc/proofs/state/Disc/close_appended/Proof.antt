@@ -9,16 +9,11 @@ use Rattle.disc.proofs.Laws.Flush.{used-limit, flush-ready, flush-sound
 use Rattle.disc.proofs.Laws.Verdict.{accept-count}
 use Rattle.disc.proofs.Laws.Close.{shorten-count}
 use Rattle.disc.proofs.Laws.Decision.{decided-accepted, affected-shortened}
-use mathlib.Core.Path.{_≡_, refl, sym, _∙_, ap}
+use mathlib.Core.Path.{sym, _∙_, ap}
 use native.Mathlib.Omega.{arith}
 use borrow.Author.Needs.{needs}
 use Rattle.disc.proofs.state.Disc.close_appended.Statement.{statement}
 use Rattle.disc.proofs.state.Disc.close_appended.Tie as tie
-use Rattle.disc.proofs.state.Disc.close_appended.Reads as reads
-use Rattle.disc.proofs.state.Disc.close_appended.Lts as lts
-use Rattle.disc.proofs.change.shortened.Reads as shortened-reads
-use Rattle.disc.proofs.close.tail_after.Reads as tail-after-reads
-use Rattle.protocol.proofs.reply.Reply.none.Reads as none-reads
 
 new-requires : tie.Need-new-requires
 new-requires c κs = search needs

@@ -1,4 +1,4 @@
-use borrow.Author.Tests.{eq-eqb, ne-eqb, lt-ltb, le-ltb, not-true, not-false}
+use borrow.Author.Tests.{not-false}
 use Rattle.disc.specs.Types.{Reserved, Appended}
 use Rattle.disc.specs.Flush.{flush}
 use Rattle.disc.specs.Close.{closeFragment}
@@ -6,21 +6,11 @@ use Rattle.disc.proofs.Laws.Records.{listed-number}
 use Rattle.disc.proofs.Laws.Flush.{used-limit, flush-used, flush-sound}
 use Rattle.disc.proofs.Laws.Close.{close-blank, close-complete, close-incomplete, appended-last}
 use Rattle.disc.proofs.Laws.Decision.{decided-refused, flush-numbered}
-use mathlib.Core.Path.{_≡_, refl, sym, _∙_, ap}
+use mathlib.Core.Path.{sym, _∙_}
 use native.Mathlib.Omega.{arith}
 use borrow.Author.Needs.{needs}
 use Rattle.disc.proofs.state.Disc.close_fragment.Statement.{statement}
 use Rattle.disc.proofs.state.Disc.close_fragment.Tie as tie
-use Rattle.disc.proofs.state.Disc.close_fragment.Reads as reads
-use Rattle.disc.proofs.state.Disc.close_fragment.Lts as lts
-use Rattle.disc.proofs.state.Disc.close_appended.Reads as close-appended-reads
-use Rattle.disc.proofs.state.Disc.close_reserved.Reads as close-reserved-reads
-use Rattle.disc.proofs.state.Disc.flushing.Reads as flushing-reads
-use Rattle.disc.proofs.state.Disc.is_blank.Reads as is-blank-reads
-use Rattle.disc.proofs.state.Disc.is_listed.Reads as is-listed-reads
-use Rattle.disc.proofs.state.Disc.numbered.Reads as numbered-reads
-use Rattle.disc.proofs.state.Disc.synchronize_cache.Reads as synchronize-cache-reads
-use Rattle.fragments.proofs.fragment.Fragment.is_complete.Reads as is-complete-reads
 
 is-listed-requires : tie.Need-is-listed-requires
 is-listed-requires c κs = search needs

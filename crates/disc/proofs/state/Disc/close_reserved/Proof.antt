@@ -12,16 +12,11 @@ use Rattle.disc.proofs.Laws.Verdict.{accept-count}
 use Rattle.disc.proofs.Laws.Write.{flush-count-most}
 use Rattle.disc.proofs.Laws.Close.{fill-count}
 use Rattle.disc.proofs.Laws.Decision.{decided-accepted, affected-filled}
-use mathlib.Core.Path.{_≡_, refl, sym, _∙_, ap}
+use mathlib.Core.Path.{sym, _∙_, ap}
 use native.Mathlib.Omega.{arith}
 use borrow.Author.Needs.{needs}
 use Rattle.disc.proofs.state.Disc.close_reserved.Statement.{statement}
 use Rattle.disc.proofs.state.Disc.close_reserved.Tie as tie
-use Rattle.disc.proofs.state.Disc.close_reserved.Reads as reads
-use Rattle.disc.proofs.state.Disc.close_reserved.Lts as lts
-use Rattle.disc.proofs.change.filled.Reads as filled-reads
-use Rattle.disc.proofs.change.first_unrecorded.Reads as first-unrecorded-reads
-use Rattle.protocol.proofs.reply.Reply.none.Reads as reply-Reply-none-reads
 
 sub-blocks : tie.Need-sub-blocks
 sub-blocks c =

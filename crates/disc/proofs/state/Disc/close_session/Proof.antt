@@ -10,22 +10,11 @@ use Rattle.disc.specs.Records.{used}
 use Rattle.disc.proofs.Laws.Flush.{flush-sound, flush-pending}
 use Rattle.disc.proofs.Laws.Session.{kept, kept-few, session-idle, session-incomplete, session-full, session-past, session-done}
 use Rattle.disc.proofs.Laws.Decision.{decided-refused, decided-accepted, decided-unchanged, affected-session}
-use mathlib.Core.Path.{_≡_, refl, sym, _∙_, ap}
+use mathlib.Core.Path.{_≡_, sym, _∙_, ap}
 use native.Mathlib.Omega.{arith}
 use borrow.Author.Needs.{needs}
 use Rattle.disc.proofs.state.Disc.close_session.Statement.{statement}
 use Rattle.disc.proofs.state.Disc.close_session.Tie as tie
-use Rattle.disc.proofs.state.Disc.close_session.Reads as reads
-use Rattle.disc.proofs.state.Disc.close_session.Lts as lts
-use Rattle.disc.proofs.change.tail_from.Reads as tail-from-reads
-use Rattle.disc.proofs.close.close_last.Reads as close-last-reads
-use Rattle.disc.proofs.state.Disc.blank_tail_only.Reads as blank-tail-only-reads
-use Rattle.disc.proofs.state.Disc.flushing.Reads as flushing-reads
-use Rattle.disc.proofs.state.Disc.last_flushed.Reads as last-flushed-reads
-use Rattle.disc.proofs.state.Disc.last_kept.Reads as last-kept-reads
-use Rattle.disc.proofs.state.Disc.stays_incomplete.Reads as stays-incomplete-reads
-use Rattle.fragments.proofs.fragment.Fragment.next_session_start.Reads as next-session-start-reads
-use Rattle.protocol.proofs.reply.Reply.none.Reads as none-reads
 
 blank-tail-only-requires : tie.Need-blank-tail-only-requires
 blank-tail-only-requires c κs = search needs

@@ -1,16 +1,9 @@
-use borrow.Author.Tests.{eq-eqb, ne-eqb, lt-ltb, le-ltb, not-true, not-false}
+use borrow.Author.Tests.{ne-eqb}
 use Rattle.disc.specs.Close.{close}
 use Rattle.disc.proofs.Laws.Decision.{decided-refused}
-use mathlib.Core.Path.{_≡_, refl, sym, _∙_, ap}
-use native.Mathlib.Omega.{arith}
 use borrow.Author.Needs.{needs}
 use Rattle.disc.proofs.state.Disc.close_track_session.Statement.{statement}
 use Rattle.disc.proofs.state.Disc.close_track_session.Tie as tie
-use Rattle.disc.proofs.state.Disc.close_track_session.Reads as reads
-use Rattle.disc.proofs.state.Disc.close_track_session.Lts as lts
-use Rattle.disc.proofs.state.Disc.close_fragment.Reads as close-fragment-reads
-use Rattle.disc.proofs.state.Disc.close_session.Reads as close-session-reads
-use Rattle.disc.proofs.state.Disc.finalize.Reads as finalize-reads
 
 close-fragment-requires : tie.Need-close-fragment-requires
 close-fragment-requires c κs = search needs

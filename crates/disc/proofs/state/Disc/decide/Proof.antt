@@ -1,19 +1,11 @@
-use borrow.Author.Tests.{eq-eqb, ne-eqb, lt-ltb, le-ltb, not-true, not-false}
+use borrow.Author.Tests.{eq-eqb, ne-eqb, not-false}
 use Rattle.disc.specs.Judge.{judge, judgeCommand}
 use Rattle.disc.proofs.Laws.Judge.{judged, allowed-ready}
 use Rattle.disc.proofs.Laws.Decision.{decided-link}
 use borrow.Author.Needs.{needs}
-use mathlib.Core.Path.{_≡_, refl, sym, _∙_, ap}
-use native.Mathlib.Omega.{arith}
+use mathlib.Core.Path.{sym, _∙_}
 use Rattle.disc.proofs.state.Disc.decide.Statement.{statement}
 use Rattle.disc.proofs.state.Disc.decide.Tie as tie
-use Rattle.disc.proofs.state.Disc.decide.Reads as reads
-use Rattle.disc.proofs.state.Disc.decide.Lts as lts
-use Rattle.disc.proofs.state.Disc.in_range.Reads as in-range-reads
-use Rattle.disc.proofs.state.Disc.is_allowed.Reads as is-allowed-reads
-use Rattle.disc.proofs.state.Disc.perform.Reads as perform-reads
-use Rattle.protocol.proofs.command.Command.decode.Reads as decode-reads
-use Rattle.protocol.proofs.command.Command.lengths_fit.Reads as lengths-fit-reads
 
 refused-link-requires : tie.Need-refused-link-requires
 refused-link-requires c κs = search needs

@@ -6,19 +6,10 @@ use Rattle.disc.specs.Flush.{flushPlan, flushCount}
 use Rattle.disc.specs.Close.{closingLast}
 use Rattle.disc.proofs.Laws.Session.{finalize-idle, finalize-incomplete, finalize-blank, finalize-done}
 use Rattle.disc.proofs.Laws.Decision.{decided-refused, decided-accepted, decided-unchanged, affected-finalized}
-use mathlib.Core.Path.{_≡_, refl, sym, _∙_, ap}
-use native.Mathlib.Omega.{arith}
+use mathlib.Core.Path.{sym, _∙_, ap}
 use borrow.Author.Needs.{needs}
 use Rattle.disc.proofs.state.Disc.finalize.Statement.{statement}
 use Rattle.disc.proofs.state.Disc.finalize.Tie as tie
-use Rattle.disc.proofs.state.Disc.finalize.Reads as reads
-use Rattle.disc.proofs.state.Disc.finalize.Lts as lts
-use Rattle.disc.proofs.close.close_last.Reads as close-last-reads
-use Rattle.disc.proofs.state.Disc.flushing.Reads as flushing-reads
-use Rattle.disc.proofs.state.Disc.is_blank_disc.Reads as is-blank-disc-reads
-use Rattle.disc.proofs.state.Disc.last_flushed.Reads as last-flushed-reads
-use Rattle.disc.proofs.state.Disc.stays_incomplete.Reads as stays-incomplete-reads
-use Rattle.protocol.proofs.reply.Reply.none.Reads as reply-Reply-none-reads
 
 none-requires : tie.Need-none-requires
 none-requires c κs = search needs

@@ -1,17 +1,10 @@
-use borrow.Author.Tests.{eq-eqb, ne-eqb, lt-ltb, le-ltb, not-true, not-false}
+use borrow.Author.Tests.{eq-eqb, ne-eqb}
 use Rattle.disc.specs.Flush.{flushEntry, flushPlan, flushCount}
 use Rattle.disc.proofs.Laws.Flush.{owner}
-use mathlib.Core.Path.{_≡_, refl, sym, _∙_, ap}
 use native.Mathlib.Omega.{arith}
 use borrow.Author.Needs.{needs}
 use Rattle.disc.proofs.state.Disc.flushing.Statement.{statement}
 use Rattle.disc.proofs.state.Disc.flushing.Tie as tie
-use Rattle.disc.proofs.state.Disc.flushing.Reads as reads
-use Rattle.disc.proofs.state.Disc.flushing.Lts as lts
-use Rattle.disc.proofs.change.first_unrecorded.Reads as first-unrecorded-reads
-use Rattle.disc.proofs.change.flushed.Reads as flushed-reads
-use Rattle.disc.proofs.flush.Flushing.none.Reads as none-reads
-use Rattle.disc.proofs.state.Disc.numbered.Reads as numbered-reads
 
 none-requires : tie.Need-none-requires
 none-requires c κs = search needs

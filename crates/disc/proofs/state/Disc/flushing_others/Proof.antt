@@ -1,14 +1,8 @@
-use borrow.Author.Tests.{eq-eqb, ne-eqb, lt-ltb, le-ltb, not-true, not-false}
+use borrow.Author.Tests.{eq-eqb, ne-eqb}
 use Rattle.disc.specs.Write.{flushOthersEntry, flushOthersPlan, flushOthersCount}
-use mathlib.Core.Path.{_≡_, refl, sym, _∙_, ap}
-use native.Mathlib.Omega.{arith}
 use borrow.Author.Needs.{needs}
 use Rattle.disc.proofs.state.Disc.flushing_others.Statement.{statement}
 use Rattle.disc.proofs.state.Disc.flushing_others.Tie as tie
-use Rattle.disc.proofs.state.Disc.flushing_others.Reads as reads
-use Rattle.disc.proofs.state.Disc.flushing_others.Lts as lts
-use Rattle.disc.proofs.flush.Flushing.none.Reads as none-reads
-use Rattle.disc.proofs.state.Disc.flushing.Reads as flushing-reads
 
 cast-if1 : tie.Need-cast-if1
 cast-if1 c = search needs

@@ -1,16 +1,8 @@
 use Rattle.disc.proofs.Laws.Decision.{affected-gathered}
-use mathlib.Core.Path.{_≡_, refl, sym, _∙_, ap}
 use native.Mathlib.Omega.{arith}
 use borrow.Author.Needs.{needs}
 use Rattle.disc.proofs.state.Disc.gather.Statement.{statement}
 use Rattle.disc.proofs.state.Disc.gather.Tie as tie
-use Rattle.disc.proofs.state.Disc.gather.Reads as reads
-use Rattle.disc.proofs.state.Disc.gather.Lts as lts
-use Rattle.disc.proofs.change.grown.Reads as grown-reads
-use Rattle.disc.proofs.state.Disc.numbered.Reads as numbered-reads
-use Rattle.disc.proofs.state.Disc.pending_in.Reads as pending-in-reads
-use Rattle.disc.proofs.write.owner_of.Reads as owner-of-reads
-use Rattle.fragments.proofs.left_over.Reads as left-over-reads
 
 pending-in-requires : tie.Need-pending-in-requires
 pending-in-requires c κs = search needs

@@ -1,12 +1,7 @@
 use Rattle.disc.specs.Apply.{affected}
-use mathlib.Core.Path.{_≡_, refl, sym, _∙_, ap}
-use native.Mathlib.Omega.{arith}
 use borrow.Author.Needs.{needs}
 use Rattle.disc.proofs.state.Disc.grow.Statement.{statement}
 use Rattle.disc.proofs.state.Disc.grow.Tie as tie
-use Rattle.disc.proofs.state.Disc.grow.Reads as reads
-use Rattle.disc.proofs.state.Disc.grow.Lts as lts
-use Rattle.disc.proofs.state.Disc.with_entry.Reads as with-entry-reads
 
 with-entry-requires : tie.Need-with-entry-requires
 with-entry-requires c κs = search needs

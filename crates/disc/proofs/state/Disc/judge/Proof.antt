@@ -1,12 +1,6 @@
 use borrow.Author.Needs.{needs}
-use mathlib.Core.Path.{_≡_, refl, sym, _∙_, ap}
-use native.Mathlib.Omega.{arith}
 use Rattle.disc.proofs.state.Disc.judge.Statement.{statement}
 use Rattle.disc.proofs.state.Disc.judge.Tie as tie
-use Rattle.disc.proofs.state.Disc.judge.Reads as reads
-use Rattle.disc.proofs.state.Disc.judge.Lts as lts
-use Rattle.disc.proofs.state.Disc.decide.Reads as decide-reads
-use Rattle.disc.proofs.state.Disc.decided.Reads as decided-reads
 
 decide-requires : tie.Need-decide-requires
 decide-requires c κs = search needs

@@ -1,14 +1,10 @@
 use Rattle.disc.proofs.Laws.Rules.{sound-rules}
 use Rattle.disc.proofs.Laws.Decision.{flush-numbered, last-flushed}
 use Rattle.disc.specs.Records.{used}
-use mathlib.Core.Path.{_≡_, refl, sym, _∙_, ap}
-use native.Mathlib.Omega.{arith}
+use mathlib.Core.Path.{_∙_, ap}
 use borrow.Author.Needs.{needs}
 use Rattle.disc.proofs.state.Disc.last_flushed.Statement.{statement}
 use Rattle.disc.proofs.state.Disc.last_flushed.Tie as tie
-use Rattle.disc.proofs.state.Disc.last_flushed.Reads as reads
-use Rattle.disc.proofs.state.Disc.last_flushed.Lts as lts
-use Rattle.disc.proofs.state.Disc.last.Reads as last-reads
 
 last-requires : tie.Need-last-requires
 last-requires c κs = search needs

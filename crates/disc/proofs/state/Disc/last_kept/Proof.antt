@@ -1,22 +1,16 @@
-use borrow.Author.Tests.{eq-eqb, ne-eqb, lt-ltb, le-ltb, not-true, not-false}
-use mathlib.Core.Bool.{true, false}
+use borrow.Author.Tests.{not-true, not-false}
+use mathlib.Core.Bool.{true}
 use Prim.Native.Nat.{_-_}
 use Rattle.fragments.specs.List.{lastOf}
 use Rattle.disc.specs.Flush.{flush}
 use Rattle.disc.specs.Records.{used, lastRecord, hasTail}
 use Rattle.disc.proofs.Laws.Flush.{used-limit, flush-used, flush-sound, flush-pending}
 use Rattle.disc.proofs.Laws.Decision.{flush-numbered, kept-last-same, kept-last-written, kept-last-none, kept-last-before}
-use mathlib.Core.Path.{_≡_, refl, sym, _∙_, ap}
+use mathlib.Core.Path.{_≡_, sym, _∙_, ap}
 use native.Mathlib.Omega.{arith}
 use borrow.Author.Needs.{needs}
 use Rattle.disc.proofs.state.Disc.last_kept.Statement.{statement}
 use Rattle.disc.proofs.state.Disc.last_kept.Tie as tie
-use Rattle.disc.proofs.state.Disc.last_kept.Reads as reads
-use Rattle.disc.proofs.state.Disc.last_kept.Lts as lts
-use Rattle.disc.proofs.change.shortened.Reads as shortened-reads
-use Rattle.disc.proofs.state.Disc.numbered.Reads as numbered-reads
-use Rattle.fragments.proofs.fragment.Fragment.is_tail.Reads as is-tail-reads
-use Rattle.fragments.proofs.fragment.Fragment.unused.Reads as unused-reads
 
 is-tail-requires : tie.Need-is-tail-requires
 is-tail-requires c κs = search needs

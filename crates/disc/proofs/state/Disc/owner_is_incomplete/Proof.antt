@@ -1,17 +1,12 @@
-use borrow.Author.Tests.{eq-eqb, ne-eqb, lt-ltb, le-ltb, not-true, not-false}
+use borrow.Author.Tests.{eq-eqb, ne-eqb, lt-ltb, le-ltb}
 use mathlib.Core.Bool.{true, false}
 use lib.Dec.{ltb}
 use Rattle.disc.specs.Sound.{ownerIncomplete}
-use mathlib.Core.Path.{_≡_, refl, sym, _∙_, ap}
+use mathlib.Core.Path.{_≡_}
 use native.Mathlib.Omega.{arith}
 use borrow.Author.Needs.{needs}
 use Rattle.disc.proofs.state.Disc.owner_is_incomplete.Statement.{statement}
 use Rattle.disc.proofs.state.Disc.owner_is_incomplete.Tie as tie
-use Rattle.disc.proofs.state.Disc.owner_is_incomplete.Reads as reads
-use Rattle.disc.proofs.state.Disc.owner_is_incomplete.Lts as lts
-use Rattle.disc.proofs.state.Disc.numbered.Reads as numbered-reads
-use Rattle.fragments.proofs.whole_blocks.Reads as whole-blocks-reads
-use Rattle.fragments.proofs.fragment.Fragment.is_complete.Reads as is-complete-reads
 
 cast-owner : tie.Need-cast-owner
 cast-owner c = search needs

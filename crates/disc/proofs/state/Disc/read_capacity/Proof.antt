@@ -3,8 +3,6 @@ use Rattle.disc.specs.Reports.{readCapacity}
 use borrow.Author.Needs.{needs}
 use Rattle.disc.proofs.state.Disc.read_capacity.Statement.{statement}
 use Rattle.disc.proofs.state.Disc.read_capacity.Tie as tie
-use Rattle.fragments.proofs.last_readable.Reads as last-readable-reads
-use Rattle.protocol.proofs.reply.Reply.of_capacity.Reads as of-capacity-reads
 
 last-readable-requires : tie.Need-last-readable-requires
 last-readable-requires c κs = search needs

@@ -4,8 +4,6 @@ use Rattle.disc.specs.Reports.{readDiscInformation}
 use borrow.Author.Needs.{needs}
 use Rattle.disc.proofs.state.Disc.read_disc_information.Statement.{statement}
 use Rattle.disc.proofs.state.Disc.read_disc_information.Tie as tie
-use Rattle.disc.proofs.state.Disc.disc_report.Reads as disc-report-reads
-use Rattle.protocol.proofs.reply.Reply.of_disc.Reads as of-disc-reads
 
 disc-report-requires : tie.Need-disc-report-requires
 disc-report-requires c κs = search needs

@@ -8,16 +8,10 @@ use Rattle.protocol.specs.Command.{decode}
 use Rattle.disc.proofs.Laws.Run.{served-ready, served-medium, moved-within, run-of}
 use Rattle.disc.proofs.Laws.Outcome.{outcome-placed}
 use Rattle.disc.proofs.Laws.Judge.{perform-outcome}
-use mathlib.Core.Path.{_≡_, refl, sym, _∙_, ap}
-use native.Mathlib.Omega.{arith}
+use mathlib.Core.Path.{_≡_, sym, _∙_, ap}
 use borrow.Author.Needs.{needs}
 use Rattle.disc.proofs.state.Disc.recorded_run.Statement.{statement}
 use Rattle.disc.proofs.state.Disc.recorded_run.Tie as tie
-use Rattle.disc.proofs.state.Disc.recorded_run.Reads as reads
-use Rattle.disc.proofs.state.Disc.recorded_run.Lts as lts
-use Rattle.disc.proofs.state.Disc.perform.Reads as perform-reads
-use Rattle.disc.proofs.state.Disc.serves.Reads as serves-reads
-use Rattle.protocol.proofs.command.Command.decode.Reads as decode-reads
 
 serves-requires : tie.Need-serves-requires
 serves-requires c κs = search needs

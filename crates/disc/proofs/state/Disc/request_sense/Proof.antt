@@ -3,7 +3,6 @@ use Rattle.disc.specs.Reports.{requestSense}
 use borrow.Author.Needs.{needs}
 use Rattle.disc.proofs.state.Disc.request_sense.Statement.{statement}
 use Rattle.disc.proofs.state.Disc.request_sense.Tie as tie
-use Rattle.protocol.proofs.reply.Reply.of_sense.Reads as of-sense-reads
 
 of-sense-requires : tie.Need-of-sense-requires
 of-sense-requires c κs = search needs

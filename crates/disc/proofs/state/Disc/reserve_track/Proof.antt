@@ -1,4 +1,4 @@
-use borrow.Author.Tests.{eq-eqb, ne-eqb, lt-ltb, le-ltb, not-true, not-false}
+use borrow.Author.Tests.{eq-eqb, ne-eqb, not-false}
 use Rattle.fragments.proofs.Laws.Address.{wide-number}
 use Rattle.fragments.proofs.Laws.Numbers.{below-limit}
 use Rattle.disc.specs.Reserve.{reserve}
@@ -7,21 +7,11 @@ use Rattle.disc.specs.Records.{used}
 use Rattle.disc.proofs.Laws.Rules.{sound-rules}
 use Rattle.disc.proofs.Laws.Flush.{used-limit}
 use Rattle.disc.proofs.Laws.Reserve.{reserve-full, reserve-past, reserve-done}
-use Rattle.disc.proofs.Laws.Decision.{decided-refused, decided-link, decided-accepted, decided-unchanged}
-use mathlib.Core.Path.{_≡_, refl, sym, _∙_, ap}
-use native.Mathlib.Omega.{arith}
+use Rattle.disc.proofs.Laws.Decision.{decided-refused, decided-accepted}
+use mathlib.Core.Path.{_≡_, sym, _∙_, ap}
 use borrow.Author.Needs.{needs}
 use Rattle.disc.proofs.state.Disc.reserve_track.Statement.{statement}
 use Rattle.disc.proofs.state.Disc.reserve_track.Tie as tie
-use Rattle.disc.proofs.state.Disc.reserve_track.Reads as reads
-use Rattle.disc.proofs.state.Disc.reserve_track.Lts as lts
-use Rattle.disc.proofs.change.reserved.Reads as reserved-reads
-use Rattle.disc.proofs.state.Disc.has_blank_tail.Reads as has-blank-tail-reads
-use Rattle.disc.proofs.state.Disc.last.Reads as last-reads
-use Rattle.disc.proofs.state.Disc.split_tail.Reads as split-tail-reads
-use Rattle.fragments.proofs.blocks_for.Reads as blocks-for-reads
-use Rattle.fragments.proofs.fragment.Fragment.next_start.Reads as next-start-reads
-use Rattle.protocol.proofs.reply.Reply.none.Reads as reply-Reply-none-reads
 
 refused-requires : tie.Need-refused-requires
 refused-requires c κs = search needs

@@ -1,16 +1,10 @@
 use Rattle.fragments.proofs.Laws.Address.{wide-number}
 use Rattle.disc.proofs.Laws.Decision.{affected-split}
-use mathlib.Core.Path.{_≡_, refl, sym, _∙_, ap}
+use mathlib.Core.Path.{ap}
 use native.Mathlib.Omega.{arith}
 use borrow.Author.Needs.{needs}
 use Rattle.disc.proofs.state.Disc.split_tail.Statement.{statement}
 use Rattle.disc.proofs.state.Disc.split_tail.Tie as tie
-use Rattle.disc.proofs.state.Disc.split_tail.Reads as reads
-use Rattle.disc.proofs.state.Disc.split_tail.Lts as lts
-use Rattle.disc.proofs.change.reserved.Reads as reserved-reads
-use Rattle.disc.proofs.change.tail_from.Reads as tail-from-reads
-use Rattle.disc.proofs.state.Disc.last.Reads as last-reads
-use Rattle.fragments.proofs.fragment.Fragment.next_start.Reads as next-start-reads
 
 last-requires : tie.Need-last-requires
 last-requires c κs = search needs

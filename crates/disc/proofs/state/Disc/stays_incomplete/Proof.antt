@@ -1,13 +1,7 @@
 use Rattle.disc.proofs.Laws.Decision.{flush-fragments}
-use mathlib.Core.Path.{_≡_, refl, sym, _∙_, ap}
-use native.Mathlib.Omega.{arith}
 use borrow.Author.Needs.{needs}
 use Rattle.disc.proofs.state.Disc.stays_incomplete.Statement.{statement}
 use Rattle.disc.proofs.state.Disc.stays_incomplete.Tie as tie
-use Rattle.disc.proofs.state.Disc.stays_incomplete.Reads as reads
-use Rattle.disc.proofs.state.Disc.stays_incomplete.Lts as lts
-use Rattle.disc.proofs.state.Disc.with_entry.Reads as with-entry-reads
-use Rattle.fragments.proofs.has_incomplete_reserved.Reads as has-incomplete-reserved-reads
 
 with-entry-requires : tie.Need-with-entry-requires
 with-entry-requires c κs = search needs

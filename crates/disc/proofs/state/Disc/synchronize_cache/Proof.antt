@@ -6,15 +6,10 @@ use Rattle.disc.specs.Flush.{flush, flushPlan, flushCount, synchronizeCa
 use Rattle.disc.proofs.Laws.Flush.{rise-flush}
 use Rattle.disc.proofs.Laws.Verdict.{accept-count}
 use Rattle.disc.proofs.Laws.Decision.{decided-accepted, affected-settled}
-use mathlib.Core.Path.{_≡_, refl, sym, _∙_, ap}
-use native.Mathlib.Omega.{arith}
+use mathlib.Core.Path.{sym, _∙_, ap}
 use borrow.Author.Needs.{needs}
 use Rattle.disc.proofs.state.Disc.synchronize_cache.Statement.{statement}
 use Rattle.disc.proofs.state.Disc.synchronize_cache.Tie as tie
-use Rattle.disc.proofs.state.Disc.synchronize_cache.Reads as reads
-use Rattle.disc.proofs.state.Disc.synchronize_cache.Lts as lts
-use Rattle.disc.proofs.state.Disc.flushing.Reads as flushing-reads
-use Rattle.protocol.proofs.reply.Reply.none.Reads as none-reads
 
 flushing-requires : tie.Need-flushing-requires
 flushing-requires c κs = search needs

@@ -1,14 +1,8 @@
 use Rattle.disc.specs.Reports.{trackVerdict}
 use Rattle.disc.proofs.Laws.Decision.{decided-unchanged}
-use mathlib.Core.Path.{_≡_, refl, sym, _∙_, ap}
-use native.Mathlib.Omega.{arith}
 use borrow.Author.Needs.{needs}
 use Rattle.disc.proofs.state.Disc.track_decision.Statement.{statement}
 use Rattle.disc.proofs.state.Disc.track_decision.Tie as tie
-use Rattle.disc.proofs.state.Disc.track_decision.Reads as reads
-use Rattle.disc.proofs.state.Disc.track_decision.Lts as lts
-use Rattle.disc.proofs.state.Disc.track_report.Reads as track-report-reads
-use Rattle.protocol.proofs.reply.Reply.of_track.Reads as of-track-reads
 
 track-report-requires : tie.Need-track-report-requires
 track-report-requires c κs = search needs

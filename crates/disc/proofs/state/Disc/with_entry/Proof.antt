@@ -1,16 +1,14 @@
-use borrow.Author.Tests.{eq-eqb, ne-eqb, lt-ltb, le-ltb, not-true, not-false}
+use borrow.Author.Tests.{eq-eqb}
 use Rattle.disc.specs.Apply.{withEntry}
 use Rattle.disc.proofs.Laws.Decision.{with-entry, past-entry}
 use lib.ListN.{length}
 use Rattle.fragments.specs.List.{limit}
 use Rattle.fragments.proofs.Laws.List.{array-length}
-use mathlib.Core.Path.{_≡_, refl, sym, _∙_, ap}
+use mathlib.Core.Path.{_≡_, sym}
 use native.Mathlib.Omega.{arith}
 use borrow.Author.Needs.{needs}
 use Rattle.disc.proofs.state.Disc.with_entry.Statement.{statement}
 use Rattle.disc.proofs.state.Disc.with_entry.Tie as tie
-use Rattle.disc.proofs.state.Disc.with_entry.Reads as reads
-use Rattle.disc.proofs.state.Disc.with_entry.Lts as lts
 
 returns : tie.Need-returns
 unfolding withEntry

@@ -8,22 +8,11 @@ use Rattle.fragments.specs.Address.{firstSector}
 use Rattle.fragments.specs.Fragment.{end}
 use Rattle.disc.proofs.Laws.Write.{place, fit, gathering, write-count, others-count-most}
 use Rattle.disc.proofs.Laws.Decision.{decided-refused, decided-accepted}
-use mathlib.Core.Path.{_≡_, refl, sym, _∙_, ap}
+use mathlib.Core.Path.{sym, _∙_, ap}
 use native.Mathlib.Omega.{arith}
 use borrow.Author.Needs.{needs}
 use Rattle.disc.proofs.state.Disc.write_to.Statement.{statement}
 use Rattle.disc.proofs.state.Disc.write_to.Tie as tie
-use Rattle.disc.proofs.state.Disc.write_to.Reads as reads
-use Rattle.disc.proofs.state.Disc.write_to.Lts as lts
-use Rattle.disc.proofs.change.first_unrecorded.Reads as first-unrecorded-reads
-use Rattle.disc.proofs.state.Disc.flushing_others.Reads as flushing-others-reads
-use Rattle.disc.proofs.state.Disc.gather.Reads as gather-reads
-use Rattle.disc.proofs.state.Disc.numbered.Reads as numbered-reads
-use Rattle.disc.proofs.state.Disc.pending_in.Reads as pending-in-reads
-use Rattle.fragments.proofs.address.Lba.passes.Reads as passes-reads
-use Rattle.fragments.proofs.whole_blocks.Reads as whole-blocks-reads
-use Rattle.fragments.proofs.fragment.Fragment.end_address.Reads as end-address-reads
-use Rattle.protocol.proofs.reply.Reply.none.Reads as none-reads
 
 numbered-requires : tie.Need-numbered-requires
 numbered-requires c κs =

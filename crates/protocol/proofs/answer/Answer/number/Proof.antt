@@ -3,11 +3,6 @@ use mathlib.Core.Path.{_∙_, ap}
 use borrow.Author.Needs.{needs}
 use Rattle.protocol.proofs.answer.Answer.number.Statement.{statement}
 use Rattle.protocol.proofs.answer.Answer.number.Tie as tie
-use Rattle.protocol.proofs.answer.Answer.number.Reads as reads
-use Rattle.protocol.proofs.answer.Answer.number.Lts as lts
-use Rattle.protocol.proofs.answer.DriveRefusal.sense.Reads as sense-reads
-use Rattle.protocol.proofs.answer.LinkRefusal.number.Reads as answer-LinkRefusal-number-reads
-use Rattle.protocol.proofs.answer.Sense.number.Reads as answer-Sense-number-reads
 
 enum-told : tie.Need-enum-told
 enum-told c = search needs

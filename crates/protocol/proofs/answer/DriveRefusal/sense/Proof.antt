@@ -1,4 +1,3 @@
-use Rattle.protocol.specs.Answer.{refusalSense}
 use borrow.Author.Needs.{needs}
 use Rattle.protocol.proofs.answer.DriveRefusal.sense.Statement.{statement}
 use Rattle.protocol.proofs.answer.DriveRefusal.sense.Tie as tie

@@ -71,10 +71,12 @@ pub walks :
 unfolding listed find firstOfSession lastReadable
 walks = refl
 
+-- a run lies in the first fragment, in the dividing block too, in both fragments; in the second, past what is recorded of it
 pub tests :
     (some isIncompleteReserved (listed list) ∷ some isIncompleteReserved (first ∷ third ∷ []) ∷ some (holdsRun (lba 30) 2) (listed list)
-    ∷ some (holdsRun (lba 30) 3) (listed list) ∷ some (holdsRun (lba 2080) 32) (listed list) ∷ some (holdsRun (lba 2080) 33) (listed list) ∷ [])
-    ≡ (true ∷ false ∷ true ∷ false ∷ true ∷ false ∷ [])
+    ∷ some (holdsRun (lba 30) 3) (listed list) ∷ some (holdsRun (lba 30) 2051) (listed list) ∷ some (holdsRun (lba 2080) 32) (listed list)
+    ∷ some (holdsRun (lba 2080) 33) (listed list) ∷ [])
+    ≡ (true ∷ false ∷ true ∷ false ∷ false ∷ true ∷ false ∷ [])
 unfolding listed some
 tests = refl
 
@@ -150,14 +152,16 @@ told d = number (d .answer) ∷ senseNumber (d .change .sense) ∷ d .recorded �
 abbrev answered : List Decision
 answered =
     accepting (Settle noEntry) 3 (report (capacityBytes (lba 0)) 8) (plan (Record (block 2) 5) (Fill (block 3) 4))
-    ∷ refusing BlankCheck ∷ refusingLink (sense 0x5 0x21 0x02) UnsoundState ∷ []
+    ∷ accepting Keep 0 (report (capacityBytes (lba 0)) 7) noPlan ∷ refusing BlankCheck ∷ refusingLink (sense 0x5 0x21 0x02) UnsoundState ∷ []
 
 pub decisions :
-    (map told answered ≡ ((0 ∷ 0 ∷ 3 ∷ 8 ∷ []) ∷ (0x080000 ∷ 0x080000 ∷ 0 ∷ 0 ∷ []) ∷ (3 ∷ 0x052102 ∷ 0 ∷ 0 ∷ []) ∷ []))
-    × (map (λ d. d .change .effect) answered ≡ (Settle noEntry ∷ Keep ∷ Keep ∷ []))
-    × (map (λ d. d .plan) answered ≡ (plan (Record (block 2) 5) (Fill (block 3) 4) ∷ plan Skip Nothing ∷ noPlan ∷ []))
+    (map told answered
+    ≡ ((0 ∷ 0 ∷ 3 ∷ 8 ∷ []) ∷ (0 ∷ 0 ∷ 0 ∷ 7 ∷ []) ∷ (0x080000 ∷ 0x080000 ∷ 0 ∷ 0 ∷ []) ∷ (3 ∷ 0x052102 ∷ 0 ∷ 0 ∷ []) ∷ []))
+    × (map (λ d. d .change .effect) answered ≡ (Settle noEntry ∷ Keep ∷ Keep ∷ Keep ∷ []))
+    × (map (λ d. d .plan .flush) answered ≡ (Record (block 2) 5 ∷ Skip ∷ Skip ∷ Skip ∷ []))
+    × (map (λ d. d .plan .transfer) answered ≡ (Fill (block 3) 4 ∷ Nothing ∷ Nothing ∷ Nothing ∷ []))
 unfolding accepting refusing refusingLink
-decisions = (refl, refl, refl)
+decisions = (refl, refl, refl, refl)
 
 -- of a record put under the number 2: it stands there, and what was there before under every other number; none stands under 0
 abbrev over : Entry → ℕ → Fragment → Fragment

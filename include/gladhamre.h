@@ -22,7 +22,7 @@ extern "C" {
 #define GLADHAMRE_RECORDS 64u
 
 /* Bytes of stack that a call takes at the most, as measured over every command and every refusal; no proof bounds it. */
-#define GLADHAMRE_STACK_LENGTH 27648u
+#define GLADHAMRE_STACK_LENGTH 15360u
 
 /* The state image: 391 words of 32 bits. */
 #define GLADHAMRE_STATE_CAPACITY 0u          /* C in blocks */
@@ -69,7 +69,7 @@ uint32_t gladhamre_blank(uint32_t capacity, uint32_t *state, size_t state_words)
 
 /* Answers one command.
  *
- * block    the command block, 12 bytes.
+ * cdb      the command block, 12 bytes.
  * data     the sectors of a WRITE (2Ah), 2,048 bytes for each; empty for every other command. An opcode that is not listed and comes
  *          with data is L4, like every other command with data that it does not take.
  * state    the image, 391 words.
@@ -84,7 +84,7 @@ uint32_t gladhamre_blank(uint32_t capacity, uint32_t *state, size_t state_words)
  * the drive's. A drive refusal changes the sense in the image and nothing else. A link refusal changes nothing at all.
  */
 uint32_t gladhamre_command(
-    const uint8_t *block, size_t block_length,
+    const uint8_t *cdb, size_t cdb_length,
     const uint8_t *data, size_t data_length,
     uint32_t *state, size_t state_words,
     uint8_t *medium, size_t medium_length,

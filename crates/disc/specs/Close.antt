@@ -1,4 +1,4 @@
--- 5Bh CLOSE TRACK/SESSION: 001 fragment, 010 session, 110 finalize. An accepted one flushes first, a refused one never.
+-- CLOSE TRACK/SESSION (5Bh): 001 fragment, 010 session, 110 finalize. An accepted one flushes first, a refused one never.
 use Prim.Native.Nat.{ℕ, _+_, _-_, _≤_, _<_}
 use mathlib.Core.Bool.{Bool, true, cond, not, _&&_, _||_}
 use lib.Dec.{eqb, ltb}
@@ -124,7 +124,7 @@ finalize d =
     (cond (isBlankDisc d) (refuse d EmptyTrack)
     (accept d (finalized (closeTail (flush d))) noReply (plan (flushPlan d) Nothing))))
 
--- 5Bh by its function
+-- CLOSE TRACK/SESSION by its function
 unfoldable pub close : Disc → ℕ → ℕ → Verdict
 close d function n =
     cond (eqb function 0b001) (closeFragment d n)

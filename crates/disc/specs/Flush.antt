@@ -1,4 +1,4 @@
--- The flush, and 35h SYNCHRONIZE CACHE.
+-- The flush, and SYNCHRONIZE CACHE (35h).
 use Prim.Native.Nat.{ℕ, _+_, _-_}
 use mathlib.Core.Bool.{cond}
 use lib.ListN.{set}
@@ -56,6 +56,6 @@ flushing d = record { entry = flushEntry d; plan = flushPlan d; recorded = flush
 abbrev pub noFlushing : Flushing
 noFlushing = record { entry = noEntry; plan = Skip; recorded = 0 }
 
--- 35h flushes and does nothing else
+-- SYNCHRONIZE CACHE flushes and does nothing else
 unfoldable pub synchronizeCache : Disc → Verdict
 synchronizeCache d = accept d (flush d) noReply (plan (flushPlan d) Nothing)

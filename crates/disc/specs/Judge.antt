@@ -21,7 +21,7 @@ use Rattle.disc.specs.Reserve.{reserve}
 use Rattle.disc.specs.Close.{close}
 use Rattle.disc.specs.Reports.{requestSense, readCapacity, readDiscInformation, readTrackInformation}
 
--- 00h is accepted
+-- TEST UNIT READY (00h) is accepted
 unfoldable pub testUnitReady : Disc → Verdict
 testUnitReady d = accept d d noReply noPlan
 

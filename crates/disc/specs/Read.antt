@@ -1,4 +1,4 @@
--- 28h READ: the decision, and which run of sectors is sent.
+-- READ (28h): the decision, and which run of sectors is sent.
 use Prim.Native.Nat.{ℕ, zero, suc, _+_}
 use mathlib.Core.Bool.{Bool, true, cond, _&&_}
 use lib.Dec.{eqb, ltb}

@@ -13,15 +13,15 @@ use Rattle.disc.specs.Verdict.{accept, refuse}
 use Rattle.protocol.specs.Reply.{report}
 use Rattle.protocol.specs.Reports.{senseBytes, capacityBytes, discBytes, trackBytes}
 
--- 03h reports the sense that it finds
+-- REQUEST SENSE (03h) reports the sense that it finds
 unfoldable pub requestSense : Disc → ℕ → Verdict
 requestSense d allocation = accept d d (report (senseBytes (d .sense)) allocation) noPlan
 
--- 25h: the last readable address, or 0
+-- READ CAPACITY (25h): the last readable address, or 0
 unfoldable pub readCapacity : Disc → Verdict
 readCapacity d = accept d d (report (capacityBytes (lastReadable (records d))) capacityLength) noPlan
 
--- 51h: the state of the last session: 0 with only a blank tail, 3 on a finalized disc, else 1
+-- READ DISC INFORMATION (51h): the state of the last session: 0 with only a blank tail, 3 on a finalized disc, else 1
 unfoldable pub sessionState : Disc → ℕ
 sessionState d = cond (d .finalized) 3 (cond (blankTailOnly d) 0 1)
 
@@ -44,7 +44,7 @@ unfoldable pub readDiscInformation : Disc → ℕ → ℕ → Verdict
 readDiscInformation d dataType allocation =
     cond (eqb dataType 0) (accept d d (report (discBytes (discReport d)) allocation) noPlan) (refuse d InvalidFieldInCommand)
 
--- 52h, of the fragment n: its next writable address and the sectors from there to its end, each 0 if it is complete
+-- READ TRACK INFORMATION (52h) of the fragment n: its next writable address and the sectors from there to its end, each 0 if it is complete
 unfoldable pub nextWritableOrZero : Disc → ℕ → Lba
 nextWritableOrZero d n = cond (complete (numbered d n)) (lba 0) (nextWritable d n (numbered d n))
 
@@ -84,7 +84,7 @@ trackNumbered d allocation n =
     cond (eqb n 0xFF) (cond (hasTail d) (trackVerdict d allocation (used d)) (refuse d InvalidFieldInCommand))
     (cond (isListed d n) (trackVerdict d allocation n) (refuse d InvalidFieldInCommand))
 
--- 52h by its address type
+-- READ TRACK INFORMATION by its address type
 unfoldable pub readTrackInformation : Disc → ℕ → ℕ → ℕ → Verdict
 readTrackInformation d addressType n allocation =
     cond (eqb addressType 0) (trackFound d allocation (atAddress d (lba n)))

@@ -1,4 +1,4 @@
--- 53h RESERVE TRACK.
+-- RESERVE TRACK (53h).
 use Prim.Native.Nat.{ℕ, _+_, _≤_, _<_}
 use mathlib.Core.Bool.{cond, not}
 use lib.Dec.{eqb, leb}
@@ -28,7 +28,7 @@ pub record Splitting (d : Disc) (b : ℕ) : Type 0 where
   pub free : used d < limit
   pub start : nextFragmentStart (end (reservedAt (lastRecord d) b)) .0 < d .capacity
 
--- 53h with its refusals in the table's order; nothing is flushed
+-- RESERVE TRACK with its refusals in the table's order; nothing is flushed
 unfoldable pub reserve : Disc → ℕ → Verdict
 reserve d size =
     cond (d .finalized) (refuse d WriteProtected)

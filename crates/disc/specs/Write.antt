@@ -1,4 +1,4 @@
--- 2Ah WRITE: the decision, the new list and the plan.
+-- WRITE (2Ah): the decision, the new list and the plan.
 use Prim.Native.Nat.{ℕ, _+_, _-_, _/_, _^_, _≤_, _<_}
 use mathlib.Core.Path.{_≡_}
 use mathlib.Core.Bool.{false, cond}
@@ -83,7 +83,7 @@ unfoldable pub writeFound : Disc → Lba → ℕ → Found → Verdict
 writeFound d a n (Number number) = writeTo d a n number
 writeFound d a n Nowhere = refuse d InvalidAddressForWrite
 
--- a length of 0 is accepted wherever it points; then the refusals of 2Ah in the table's order, judged on the disc as it stands
+-- a length of 0 is accepted wherever it points; then the refusals of WRITE in the table's order, judged on the disc as it stands
 unfoldable pub write : Disc → Lba → ℕ → Verdict
 write d a n =
     cond (eqb n 0) (accept d d noReply noPlan)

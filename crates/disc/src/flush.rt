@@ -58,7 +58,7 @@ impl Disc {
         }
     }
 
-    // SYNCHRONIZE CACHE.
+    // SYNCHRONIZE CACHE: the flush.
     pub(crate) fn synchronize_cache(self) -> Decision
         requires { ⌜ Ready self ⌝ }
         ensures { λ r. ⌜ decided self r ≡ synchronizeCache self ⌝ }

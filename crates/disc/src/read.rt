@@ -26,7 +26,7 @@ impl Disc {
         fragments::holds_run(records, address, sectors)
     }
 
-    // READ.
+    // READ: sends the run, which must end within the disc and be recorded.
     pub(crate) fn read(self, address: Lba, sectors: u32) -> Decision
         requires { ⌜ Ready self ⌝ }
         ensures { λ r. ⌜ decided self r ≡ read self address sectors ⌝ }

@@ -26,7 +26,7 @@ impl Disc {
         Effect::Reserve { reserved, tail }
     }
 
-    // RESERVE TRACK.
+    // RESERVE TRACK: its refusals in order, then the tail is split.
     pub(crate) fn reserve_track(self, size: u32) -> Decision
         requires { ⌜ Ready self ⌝ }
         ensures { λ r. ⌜ decided self r ≡ reserve self size ⌝ }

@@ -88,7 +88,7 @@ impl Disc {
         Decision::accepted(effect, first.recorded + gathered, Reply::none(), plan)
     }
 
-    // WRITE.
+    // WRITE: goes to the fragment whose next writable address it names.
     pub(crate) fn write(self, address: Lba, sectors: u32) -> Decision
         requires { ⌜ Ready self ⌝ }
         ensures { λ r. ⌜ decided self r ≡ write self address sectors ⌝ }

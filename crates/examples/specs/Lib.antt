@@ -4,3 +4,4 @@ pub mod Shift
 pub mod States
 pub mod Tour
 pub mod Values
+pub mod Discs

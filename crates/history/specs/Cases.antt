@@ -18,7 +18,7 @@ use Rattle.history.specs.Account.{extentOf, sectorAt, account}
 use Rattle.history.specs.Brought.{writes, broughtTo, broughtInto}
 use Rattle.history.specs.Past.{beginning, past, StaleApart, StaleChanges}
 use Rattle.history.specs.Stale.{Change, unchanged, Given, after, given, turn}
-use Rattle.history.specs.Examples.{writeBlock}
+use Rattle.history.specs.Examples.{writeCdb}
 use Rattle.history.specs.Wide.{partsOf, total, nameable}
 
 -- the answers of a sequence, its replies and its counts of blocks recorded
@@ -66,7 +66,7 @@ abbrev pub nextThirteen : Log → List ℕ
 nextThirteen l = l .four ++ (l .five ++ [])
 
 abbrev pub writing : ℕ → ℕ → List ℕ → Request
-writing a n x = request (writeBlock a n) x []
+writing a n x = request (writeCdb a n) x []
 
 -- 52h number 1, READ of 16 sectors and 35h, with a reply buffer that is full of some byte
 abbrev pub asking : ℕ → Request
@@ -139,8 +139,8 @@ pub record Fitting (s : Drive) (x y z : List ℕ) (j : ℕ → Change) : Type 0 
   pub wholly : answers (given (inTwo x z 8 j) s) s ≡ replicate 3 Accepted
 
 -- what comes of a command after a sequence
-abbrev pub behindAll : List Turn → Drive → Given → Result
-behindAll ts s g = result (turn g (final ts s)) (final ts s)
+abbrev pub afterAll : List Turn → Drive → Given → Result
+afterAll ts s g = result (turn g (final ts s)) (final ts s)
 
 -- what a reader finds of the log, in the newer controller's turns ts from the drive s on: READ 0 of 16 before the flush, and at the end READs
 -- after a change c; `first` is its first turn
@@ -149,18 +149,18 @@ pub record Reader (l : Log) (x : ℕ) (first ts : List Turn) (s : Drive) (c : Ch
   pub early : sectorAt 3 (getD (replies ts s) 3 []) ≡ sectorAt 3 (firstFive l)
   pub second : sectorAt 7 (getD (replies ts s) 3 []) ≡ sectorAt 2 (nextThirteen l)
   -- after the flush sector 17 is the last one of the log, and sector 18 zeros that nobody wrote
-  pub last : sectorAt 1 (behindAll ts s (after c (reading 16 x)) .reply) ≡ sectorAt 12 (nextThirteen l)
-  pub zeroed : sectorAt 2 (behindAll ts s (after c (reading 16 x)) .reply) ≡ zeros 2048
+  pub last : sectorAt 1 (afterAll ts s (after c (reading 16 x)) .reply) ≡ sectorAt 12 (nextThirteen l)
+  pub zeroed : sectorAt 2 (afterAll ts s (after c (reading 16 x)) .reply) ≡ zeros 2048
   -- sectors 17 and 31 can be read, 32, which is pending, cannot
   pub log : readable (final ts s .disc) (lba 17) ≡ true
   pub padding : readable (final ts s .disc) (lba 31) ≡ true
-  pub behind : readable (final ts s .disc) (lba 32) ≡ false
+  pub beyond : readable (final ts s .disc) (lba 32) ≡ false
   -- READ 16 of 1 is accepted
   pub accepted :
-      behindAll ts s (after c (request (0x28 ∷ 0 ∷ 0 ∷ 0 ∷ 0 ∷ 16 ∷ 0 ∷ 0 ∷ 1 ∷ 0 ∷ 0 ∷ 0 ∷ []) [] (replicate 2048 x))) .answer ≡ Accepted
+      afterAll ts s (after c (request (0x28 ∷ 0 ∷ 0 ∷ 0 ∷ 0 ∷ 16 ∷ 0 ∷ 0 ∷ 1 ∷ 0 ∷ 0 ∷ 0 ∷ []) [] (replicate 2048 x))) .answer ≡ Accepted
   -- no request is refused by L2 or L3
   pub served :
-      (r : Request) (q : LinkRefusal) → behindAll ts s (after c r) .answer ≡ Link q → (q ≡ MediumSize → ⊥) × (q ≡ UnsoundState → ⊥)
+      (r : Request) (q : LinkRefusal) → afterAll ts s (after c r) .answer ≡ Link q → (q ≡ MediumSize → ⊥) × (q ≡ UnsoundState → ⊥)
   -- 21 sectors accepted, 32 recorded, 14 of them zero-filled, three pending
   pub acceptedSectors : account 1 ts s .accepted ≡ 21
   pub recordedSectors : account 1 ts s .recorded ≡ 32
@@ -172,8 +172,8 @@ pub record Reader (l : Log) (x : ℕ) (first ts : List Turn) (s : Drive) (c : Ch
 -- the same log by its requests; `before` are the first three turns of ts
 pub record Requested (l : Log) (x : ℕ) (before ts : List Turn) (s : Drive) (c : Change) : Type 0 where
   -- sector 7 is the one that the second WRITE brought there, and nobody brought anything to sector 20
-  pub brought : sectorAt 7 (behindAll ts s (after c (reading 0 x)) .reply) ≡ sectorAt 2 (nextThirteen l)
-  pub none : sectorAt 4 (behindAll ts s (after c (reading 16 x)) .reply) ≡ zeros 2048
+  pub brought : sectorAt 7 (afterAll ts s (after c (reading 0 x)) .reply) ≡ sectorAt 2 (nextThirteen l)
+  pub none : sectorAt 4 (afterAll ts s (after c (reading 16 x)) .reply) ≡ zeros 2048
   -- nobody brings a second sector to an address
   pub once : length (broughtTo 7 (writes ts s)) ≤ 1
   -- 21 sectors lie in the fragment as it is listed; the account has as many
@@ -182,7 +182,7 @@ pub record Requested (l : Log) (x : ℕ) (before ts : List Turn) (s : Drive) (c 
   -- before the flush two sectors are held; after it block 1 is recorded, block 2 is not, and three are held
   pub held : past before s .held ≡ 2
   pub flushed : past ts s .recorded 1 ≡ true
-  pub behind : past ts s .recorded 2 ≡ false
+  pub beyond : past ts s .recorded 2 ≡ false
   pub late : past ts s .held ≡ 3
   -- what came from outside was stale bytes alone, and every sequence of which that is so is covered
   pub outside : StaleChanges ts s beginning

@@ -6,8 +6,8 @@ use Rattle.drive.specs.Step.{Drive, Request, request}
 use Rattle.history.specs.Sequence.{Turn, result}
 
 -- a block of a WRITE, its address and its length in one byte each
-abbrev pub writeBlock : ℕ → ℕ → List ℕ
-writeBlock a n = 0x2A ∷ 0 ∷ 0 ∷ 0 ∷ 0 ∷ a ∷ 0 ∷ 0 ∷ n ∷ 0 ∷ 0 ∷ 0 ∷ []
+abbrev pub writeCdb : ℕ → ℕ → List ℕ
+writeCdb a n = 0x2A ∷ 0 ∷ 0 ∷ 0 ∷ 0 ∷ a ∷ 0 ∷ 0 ∷ n ∷ 0 ∷ 0 ∷ 0 ∷ []
 
 -- a sector whose bytes are all the same
 abbrev pub sector : ℕ → List ℕ
@@ -15,24 +15,24 @@ sector x = replicate 2048 x
 
 -- a WRITE of 2 sectors at an address, and its two parts
 abbrev pub wholeWrite : ℕ → Request
-wholeWrite a = request (writeBlock a 2) (sector 7 ++ (sector 9 ++ [])) []
+wholeWrite a = request (writeCdb a 2) (sector 7 ++ (sector 9 ++ [])) []
 
 abbrev pub firstPart : ℕ → Request
-firstPart a = request (writeBlock a 1) (sector 7) []
+firstPart a = request (writeCdb a 1) (sector 7) []
 
 abbrev pub secondPart : ℕ → Request
-secondPart a = request (writeBlock (a + 1) 1) (sector 9) []
+secondPart a = request (writeCdb (a + 1) 1) (sector 9) []
 
 -- to follow the first part of a WRITE 0 of 2: the second sector after a gap, and over the first
-abbrev pub partBehindGap : Request
-partBehindGap = request (writeBlock 2 1) (sector 9) []
+abbrev pub partAfterGap : Request
+partAfterGap = request (writeCdb 2 1) (sector 9) []
 
 abbrev pub partOverFirst : Request
-partOverFirst = request (writeBlock 0 1) (sector 9) []
+partOverFirst = request (writeCdb 0 1) (sector 9) []
 
 -- a WRITE of no sector
 abbrev pub emptyPart : Request
-emptyPart = request (writeBlock 0 0) [] []
+emptyPart = request (writeCdb 0 0) [] []
 
 -- requests given as they are, with no byte changed from outside
 abbrev pub asLeft : Request → Drive → Turn

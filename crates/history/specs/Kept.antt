@@ -17,7 +17,7 @@ use Rattle.history.specs.Account.{Account, account, sectorAt, contentAt,
 
 -- the "kept count" of the fragment with a number, and the state's own figures
 pub record Keeps (k : Account) (d : Disc) (n : ℕ) : Type 0 where
-  -- recorded payload = sectors accepted there - pending there + zero-filled there
+  -- recorded sectors = sectors accepted there - pending there + zero-filled there
   pub kept : k .recorded ≡ k .accepted - k .pending + k .zeroFilled
   -- pending sectors are accepted ones, so the difference is a plain one
   pub within : k .pending ≤ k .accepted

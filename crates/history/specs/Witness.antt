@@ -10,7 +10,7 @@ use Rattle.drive.specs.Bytes.{zeros}
 use Rattle.drive.specs.Step.{Drive, drive, Request, request}
 use Rattle.history.specs.Types.{Disc}
 use Rattle.history.specs.Sequence.{Turn, result}
-use Rattle.history.specs.Examples.{writeBlock, wholeWrite, firstPart, secondPart}
+use Rattle.history.specs.Examples.{writeCdb, wholeWrite, firstPart, secondPart}
 
 -- the numbers of a sequence's answers
 unfoldable pub numbers : List Turn → Drive → List ℕ
@@ -48,8 +48,8 @@ judged (h ∷ hs) d =
 -- fragment, WRITE 64 of 20 to the tail while those five are pending, READ 0 of 16
 abbrev pub before : List Shape
 before =
-    shape (0x2A ∷ 0 ∷ 0 ∷ []) 0 0 ∷ shape (writeBlock 0 1) 0 0 ∷ shape (0xFF ∷ replicate 11 0) 0 0
-    ∷ shape (0x53 ∷ 0 ∷ 0 ∷ 0 ∷ 0 ∷ 0 ∷ 0 ∷ 0 ∷ 33 ∷ 0 ∷ 0 ∷ 0 ∷ []) 0 0 ∷ shape (writeBlock 0 5) 10240 0 ∷ shape (writeBlock 64 20) 40960 0
+    shape (0x2A ∷ 0 ∷ 0 ∷ []) 0 0 ∷ shape (writeCdb 0 1) 0 0 ∷ shape (0xFF ∷ replicate 11 0) 0 0
+    ∷ shape (0x53 ∷ 0 ∷ 0 ∷ 0 ∷ 0 ∷ 0 ∷ 0 ∷ 0 ∷ 33 ∷ 0 ∷ 0 ∷ 0 ∷ []) 0 0 ∷ shape (writeCdb 0 5) 10240 0 ∷ shape (writeCdb 64 20) 40960 0
     ∷ shape (0x28 ∷ 0 ∷ 0 ∷ 0 ∷ 0 ∷ 0 ∷ 0 ∷ 0 ∷ 16 ∷ 0 ∷ 0 ∷ 0 ∷ []) 0 32768 ∷ []
 
 -- WRITE 84 of 2, which is cut into WRITE 84 of 1 and WRITE 85 of 1
@@ -63,8 +63,8 @@ abbrev pub cutSecond : Request
 cutSecond = secondPart 84
 
 -- CLOSE 001 of fragment 1, and 35h
-abbrev pub behind : List Shape
-behind = shape (0x5B ∷ 0 ∷ 1 ∷ 0 ∷ 0 ∷ 1 ∷ 0 ∷ 0 ∷ 0 ∷ 0 ∷ 0 ∷ 0 ∷ []) 0 0 ∷ shape (0x35 ∷ replicate 11 0) 0 0 ∷ []
+abbrev pub rest : List Shape
+rest = shape (0x5B ∷ 0 ∷ 1 ∷ 0 ∷ 0 ∷ 1 ∷ 0 ∷ 0 ∷ 0 ∷ 0 ∷ 0 ∷ 0 ∷ []) 0 0 ∷ shape (0x35 ∷ replicate 11 0) 0 0 ∷ []
 
 -- a start on 300 blocks, every byte zero
 abbrev pub zeroStart : Drive
@@ -72,17 +72,17 @@ zeroStart = drive (blank 300) (zeros 9830400) (zeros 32768)
 
 -- the sequence, and the same again with the WRITE cut
 abbrev pub firstRun : List Request
-firstRun = map (filled 0) before ++ (cutWrite ∷ map (filled 0) behind)
+firstRun = map (filled 0) before ++ (cutWrite ∷ map (filled 0) rest)
 
 abbrev pub secondRun : List Request
-secondRun = map (filled 0) before ++ (cutFirst ∷ cutSecond ∷ map (filled 0) behind)
+secondRun = map (filled 0) before ++ (cutFirst ∷ cutSecond ∷ map (filled 0) rest)
 
 -- WRITE 0 of 16, the 51h after it, and WRITE 16 of 16
 abbrev pub firstBlock : Request
-firstBlock = filled 7 (shape (writeBlock 0 16) 32768 0)
+firstBlock = filled 7 (shape (writeCdb 0 16) 32768 0)
 
 abbrev pub informationRequest : Request
 informationRequest = filled 0 (shape (0x51 ∷ 0 ∷ 0 ∷ 0 ∷ 0 ∷ 0 ∷ 0 ∷ 0 ∷ 34 ∷ 0 ∷ 0 ∷ 0 ∷ []) 0 34)
 
 abbrev pub secondBlock : Request
-secondBlock = filled 9 (shape (writeBlock 16 16) 32768 0)
+secondBlock = filled 9 (shape (writeCdb 16 16) 32768 0)

@@ -4,13 +4,7 @@
 
 #![forbid(unsafe_code)]
 
-mod buffers;
-mod cases;
-mod measure;
-
-use buffers::Buffers;
-use cases::{cases, CAPACITY};
-use measure::{measure, Spread};
+use bench::{cases, measure, Buffers, Spread, CAPACITY};
 use std::process::Command;
 
 fn main() {

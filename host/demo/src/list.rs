@@ -119,7 +119,7 @@ pub fn fragments(map: &Map) -> Vec<String> {
         ]));
         before = Some(record);
     }
-    lines.extend(behind_the_last(map, before));
+    lines.extend(after_the_last(map, before));
     lines
 }
 
@@ -143,7 +143,7 @@ fn in_front(before: Option<Record>, record: &Record) -> String {
     format!("Closure {from}-{}, Intro {middle}-{}", middle - 1, record.start - 1)
 }
 
-fn behind_the_last(map: &Map, last: Option<Record>) -> Option<String> {
+fn after_the_last(map: &Map, last: Option<Record>) -> Option<String> {
     let from = last.map_or(0, |last| end(&last));
     let capacity = map.state.capacity();
     (from < capacity).then(|| format!("in no fragment: blocks {}", bounds(from, capacity)))

@@ -46,8 +46,8 @@ mod linked {
         fn gladhamre_blank(capacity: u32, state: *mut u32, state_words: usize) -> u32;
 
         fn gladhamre_command(
-            block: *const u8,
-            block_length: usize,
+            cdb: *const u8,
+            cdb_length: usize,
             data: *const u8,
             data_length: usize,
             state: *mut u32,

@@ -5,6 +5,9 @@ use stack::Depths;
 /// The header's figure is the measured one, rounded up to a whole kilobyte.
 const ROUNDING: usize = 1_024;
 
+/// The most that firmware is asked for.
+const MOST: usize = 16 * 1_024;
+
 /// Every command that can be accepted.
 const COMMANDS: [&str; 13] = [
     "00h",
@@ -44,6 +47,7 @@ fn header_claims_what_a_call_takes() {
     let (deepest, most) = depths.iter().max_by_key(|(_, depth)| **depth).expect("some");
     let claimed = stack::claimed();
     println!("{most} bytes at the most, by {deepest:?}; the header claims {claimed}");
+    assert!(*most <= MOST, "{most} bytes by {deepest:?}, at most {MOST} are right");
     assert!(*most <= claimed, "{most} bytes by {deepest:?}, the header claims {claimed}");
     assert!(claimed - most < ROUNDING, "{most} bytes at the most, the header claims {claimed}");
 }

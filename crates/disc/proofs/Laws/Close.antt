@@ -28,12 +28,12 @@ unfolding appendTail
 append-sum d n l z =
     let f = numbered d n in
     let start = nextFragmentStart (end f) in
-    let behind : n + 1 - 1 ≡ n = omega arith in
+    let next-index : n + 1 - 1 ≡ n = omega arith in
     by-cases (ltb (start .0) (d .capacity) && ltb n limit)
     (λ t.
     let few = ltb-true n limit (and-right (ltb (start .0) (d .capacity)) (ltb n limit) t) in
     let k = sum-set (d .fragments) n (tailFrom (d .capacity) (f .session) start) unusedRecord (omega arith) in
-    rw (t, behind) (omega arith))
+    rw (t, next-index) (omega arith))
     (λ t. rw t)
 
 -- closing a reserved fragment records what it lacks, and the block of a flush

@@ -89,13 +89,13 @@ module _ (d : Disc) (s : Sound d) where
       put-counts d (used d) g last-slot (count ∙ sym (blank-recorded d b)) (fill ∙ sym (blank-zeroed b)) (λ z. absurd (z (blank-recorded d b)))
 
   -- the place after the last record is free, also with another record in the last one's place
-  free-behind : (g : Fragment) → numbered (withRecord d (used d) g) (used d + 1) ≡ unusedRecord
-  free-behind g =
+  free-after : (g : Fragment) → numbered (withRecord d (used d) g) (used d + 1) ≡ unusedRecord
+  free-after g =
       getD-set-other (d .fragments) (used d - 1) (used d + 1 - 1) g unusedRecord (λ q. omega (arith, q, s .some))
       ∙ s .unused (used d + 1 - 1) (omega arith)
 
-  behind-slot : (g : Fragment) → used d < limit → used d + 1 - 1 < length (withRecord d (used d) g .fragments)
-  behind-slot g few = omega (arith, few, s .array, length-set (d .fragments) (used d - 1) g)
+  slot-after : (g : Fragment) → used d < limit → used d + 1 - 1 < length (withRecord d (used d) g .fragments)
+  slot-after g few = omega (arith, few, s .array, length-set (d .fragments) (used d - 1) g)
 
   -- a fragment with a sector is a record in use
   index-listed : (n : ℕ) → (numbered d n .recorded + pendingIn d n ≡ 0 → ⊥) → n - 1 < used d
@@ -117,7 +117,7 @@ module _ (d : Disc) (s : Sound d) where
   split-counts b t few =
       let f = reservedAt (lastRecord d) b in
       let e = withRecord d (used d) f in
-      counts-on d e _ (blank-counts f t refl refl) (free-counts e (used d + 1) _ (behind-slot f few) (free-behind f) refl refl)
+      counts-on d e _ (blank-counts f t refl refl) (free-counts e (used d + 1) _ (slot-after f few) (free-after f) refl refl)
 
   -- and a fragment with sectors keeps its start: the new tail takes a free place
   pub split-start :
@@ -146,7 +146,7 @@ module _ (d : Disc) (s : Sound d) where
       by-cases (ltb (nextFragmentStart (end (numbered e (used d))) .0) (e .capacity) && ltb (used d) limit)
       (λ t.
       let few = ltb-true (used d) limit (and-right (ltb (nextFragmentStart (end (numbered e (used d))) .0) (e .capacity)) (ltb (used d) limit) t) in
-      rw t (counts-on d e _ short (free-counts e (used d + 1) _ (behind-slot f few) (free-behind f) refl refl)))
+      rw t (counts-on d e _ short (free-counts e (used d + 1) _ (slot-after f few) (free-after f) refl refl)))
       (λ t. rw t short)
 
   -- CLOSE 010 and 110
@@ -162,8 +162,8 @@ module _ (d : Disc) (s : Sound d) where
 pub open-counts : (k : Disc) → Kept k → used k < limit → SameCounts k (openSession k)
 unfolding openSession
 open-counts k e few =
-    let behind : used k + 1 - 1 ≡ used k = omega arith in
-    free-counts k (used k + 1) _ (omega (arith, few, e .array)) (ap (λ i. at k i) behind ∙ e .free) refl refl
+    let next-index : used k + 1 - 1 ≡ used k = omega arith in
+    free-counts k (used k + 1) _ (omega (arith, few, e .array)) (ap (λ i. at k i) next-index ∙ e .free) refl refl
 
 -- where the last session is only a blank tail nothing is pending: an incomplete fragment is in the last session
 first-most :

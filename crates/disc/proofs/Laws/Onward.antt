@@ -203,9 +203,9 @@ extend-onward d o t x =
     let fs = d .fragments in
     let e = withRecord d (used d + 1) t in
     let u = extended-used d o t x in
-    let behind : used d + 1 - 1 ≡ used d = omega arith in
+    let next-index : used d + 1 - 1 ≡ used d = omega arith in
     let slot : used d < length fs = omega (arith, x .free, o .array) in
-    let at-set : (i : ℕ) → at e i ≡ getD (set fs (used d) t) i unusedRecord = λ i. ap (λ j. getD (set fs j t) i unusedRecord) behind in
+    let at-set : (i : ℕ) → at e i ≡ getD (set fs (used d) t) i unusedRecord = λ i. ap (λ j. getD (set fs j t) i unusedRecord) next-index in
     let else : (i : ℕ) → (i ≡ used d → ⊥) → at e i ≡ at d i = λ i q. at-set i ∙ getD-set-other fs (used d) i t unusedRecord q in
     let new : (i : ℕ) → i ≡ used d → at e i ≡ t =
     λ i q. at-set i ∙ (ap (λ j. getD (set fs (used d) t) j unusedRecord) q ∙ getD-set-same fs (used d) t unusedRecord slot) in

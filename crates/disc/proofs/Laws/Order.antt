@@ -269,13 +269,13 @@ pub record Extends (d : Disc) (t : Fragment) : Type 0 where
   pub closed : (t .session ≡ lastRecord d .session → ⊥) → (i : ℕ) → i < used d → complete (at d i) ≡ true
 
 module _ (d : Disc) (o : Ordered d) (t : Fragment) (x : Extends d t) where
-  behind : used d + 1 - 1 ≡ used d
-  behind = omega arith
+  next-index : used d + 1 - 1 ≡ used d
+  next-index = omega arith
 
   next-place :
       (i : ℕ) (P : Fragment → Type 0) → (i ≡ used d → P t) → ((i ≡ used d → ⊥) → P (at d i)) → P (at (withRecord d (used d + 1) t) i)
   next-place i P here else =
-      rw (ap (λ j. getD (set (d .fragments) j t) i unusedRecord) behind)
+      rw (ap (λ j. getD (set (d .fragments) j t) i unusedRecord) next-index)
       (at-changed d (used d) t i P (omega (arith, x .free, o .array)) here else)
 
   tail-length : t .length ≡ 0 → ⊥

@@ -39,13 +39,13 @@ split-sum d b s t h =
     let f = reservedAt (lastRecord d) b in
     let g = tailFrom (d .capacity) (f .session) (nextFragmentStart (end f)) in
     let fs = set (d .fragments) (n - 1) f in
-    let behind : n + 1 - 1 ≡ n = omega arith in
+    let next-index : n + 1 - 1 ≡ n = omega arith in
     let len = length-set (d .fragments) (n - 1) f in
     let free : getD fs n unusedRecord .recorded ≡ 0 =
     ap (λ r. r .recorded) (getD-set-other (d .fragments) (n - 1) n f unusedRecord (λ e. omega (arith, s .some)) ∙ s .unused n (omega arith)) in
     let first = last-sum d f s in
     let second = sum-set fs n g unusedRecord (omega (arith, s .array)) in
-    rw behind (omega (arith, blank-recorded d t))
+    rw next-index (omega (arith, blank-recorded d t))
 
 -- the outcomes of RESERVE after its first tests
 module _ (d : Disc) (size : ℕ) (f : d .finalized ≡ false) (z : size ≡ 0 → ⊥) (b : hasBlankTail d ≡ true) where

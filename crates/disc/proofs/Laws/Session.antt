@@ -143,9 +143,9 @@ unfolding openSession
 open-sum k e h =
     let n = used k in
     let g = tailFrom (k .capacity) (lastRecord k .session + 1) (nextSessionStart (end (lastRecord k))) in
-    let behind : n + 1 - 1 ≡ n = omega arith in
+    let next-index : n + 1 - 1 ≡ n = omega arith in
     let m = sum-set (k .fragments) n g unusedRecord (omega (arith, e .array)) in
-    rw behind (omega (arith, ap (λ f. f .recorded) (e .free)))
+    rw next-index (omega (arith, ap (λ f. f .recorded) (e .free)))
 
 -- the outcomes of 010
 module _ (d : Disc) where

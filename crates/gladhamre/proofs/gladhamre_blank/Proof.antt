@@ -9,39 +9,31 @@ use Rattle.disc.proofs.state.Disc.blank.Reads as blank-reads
 use Rattle.gladhamre.proofs.image.write.Reads as write-reads
 use Rattle.gladhamre.proofs.refusal_number.Reads as refusal-number-reads
 
--- src/lib.rt:51:9
 blank-requires : tie.Need-blank-requires
 blank-requires c κs = search needs
 
--- src/lib.rt:53:9
 number-requires : tie.Need-number-requires
 number-requires c κs = search needs
 
--- src/lib.rt:55:9
 write-requires : tie.Need-write-requires
 write-requires c κs = search needs
 
--- src/lib.rt:56:9
 same-length : tie.Need-same-length
 same-length c = search needs
 
--- src/lib.rt:56:9
 returns : tie.Need-returns
 returns c =
     let start = c .before .before .before .before .before .before .before .before in
     blank-whole (start .args .capacity) (start .args .state .now) (c .before .before .before .before .before .before .blank .result) (c .before .before .before .before .before .number .result) (c .before .before .before .before .before .before .blank .ensures) (c .before .before .before .before .before .number .ensures) (c .before .before .write .last .0) (c .before .before .before .before .if1 .taken) (c .before .before .write .ensures)
 
--- src/lib.rt:59:9
 returns-2 : tie.Need-returns-2
 returns-2 c =
     let start = c .before .before .before .before .before in
     blank-bad (start .args .capacity) (start .args .state .now) (c .before .before .before .blank .result) (c .before .before .number .result) (c .before .before .before .blank .ensures) (c .before .before .number .ensures) (c .before .if1 .left) (c .if2 .taken)
 
--- src/lib.rt:61:5
 refusal-number-requires : tie.Need-refusal-number-requires
 refusal-number-requires c κs = search needs
 
--- src/lib.rt:47:1
 returns-3 : tie.Need-returns-3
 returns-3 c =
     let start = c .before .before .before .before .before .before in

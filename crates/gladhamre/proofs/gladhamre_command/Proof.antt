@@ -19,100 +19,78 @@ use Rattle.gladhamre.proofs.is_link.Reads as is-link-reads
 use Rattle.gladhamre.proofs.refusal_number.Reads as refusal-number-reads
 use Rattle.protocol.proofs.answer.Answer.number.Reads as number-reads
 
--- src/lib.rt:86:9
 refusal-number-requires : tie.Need-refusal-number-requires
 refusal-number-requires c κs = search needs
 
--- src/lib.rt:86:9
 returns : tie.Need-returns
 returns c =
     let l = lending (c .before .before .before .before .before .before .before .before .args .state .now) (c .before .before .before .before .before .before .before .before .args .medium .now) (c .before .before .before .before .before .before .before .before .args .pending .now) in
     let q = request (c .before .before .before .before .before .before .before .before .args .cdb .now) (c .before .before .before .before .before .before .before .before .args .«data» .now) (c .before .before .before .before .before .before .before .before .args .reply .now) in
     block-faced l q (c .refusal-number .result) (c .before .if1 .taken) (c .refusal-number .ensures)
 
--- src/lib.rt:88:9
 is-lent-requires : tie.Need-is-lent-requires
 is-lent-requires c κs = search needs
 
--- src/lib.rt:89:9
 refusal-number-requires-2 : tie.Need-refusal-number-requires-2
 refusal-number-requires-2 c κs = search needs
 
--- src/lib.rt:89:9
 same-length : tie.Need-same-length
 same-length c = search needs
 
--- src/lib.rt:89:9
 returns-2 : tie.Need-returns-2
 returns-2 c =
     let l = lending (c .before .before .before .before .before .before .before .before .before .before .before .args .state .now) (c .before .before .before .before .before .before .before .before .before .before .before .args .medium .now) (c .before .before .before .before .before .before .before .before .before .before .before .args .pending .now) in
     let q = request (c .before .before .before .before .before .before .before .before .before .before .before .args .cdb .now) (c .before .before .before .before .before .before .before .before .before .before .before .args .«data» .now) (c .before .before .before .before .before .before .before .before .before .before .before .args .reply .now) in
     lent-faced l q (c .before .before .before .before .if1 .left) (c .refusal-number2 .result) (sym (c .before .before .is-lent .ensures) ∙ not-true _ (c .before .if2 .taken)) (c .refusal-number2 .ensures)
 
--- src/lib.rt:91:9
 examine-requires : tie.Need-examine-requires
 examine-requires c κs = search needs
 
--- src/lib.rt:92:22
 enum-known-words : tie.Need-enum-known-words
 enum-known-words c = search needs
 
--- src/lib.rt:93:31
 enum-told : tie.Need-enum-told
 enum-told c = search needs
 
--- src/lib.rt:93:9
 refusal-number-requires-3 : tie.Need-refusal-number-requires-3
 refusal-number-requires-3 c κs = search needs
 
--- src/lib.rt:93:9
 same-length-2 : tie.Need-same-length-2
 same-length-2 c = search needs
 
--- src/lib.rt:93:9
 returns-3 : tie.Need-returns-3
 returns-3 c =
     let l = lending (c .before .before .before .before .before .before .before .before .before .before .before .before .before .before .before .args .state .now) (c .before .before .before .before .before .before .before .before .before .before .before .before .before .before .before .args .medium .now) (c .before .before .before .before .before .before .before .before .before .before .before .before .before .before .before .args .pending .now) in
     let q = request (c .before .before .before .before .before .before .before .before .before .before .before .before .before .before .before .args .cdb .now) (c .before .before .before .before .before .before .before .before .before .before .before .before .before .before .before .args .«data» .now) (c .before .before .before .before .before .before .before .before .before .before .before .before .before .before .before .args .reply .now) in
     unsound-faced l q (c .before .before .before .before .before .before .before .before .if1 .left) (sym (c .before .before .before .before .before .before .is-lent .ensures) ∙ not-false _ (c .before .before .before .before .before .if2 .left)) (c .refusal-number3 .result) (sym (c .before .before .before .examine .ensures) ∙ c .before .enum-told .given .1) (c .refusal-number3 .ensures)
 
--- src/lib.rt:95:9
 read-requires : tie.Need-read-requires
 read-requires c κs = taken (c .before .before .before .before .before .before .before .before .before .before .before .before .before .before .before .before .args .state .now) _ (sym (c .before .before .before .before .examine .ensures) ∙ c .before .before .words .given .1)
 
--- src/lib.rt:96:9
 serve-requires : tie.Need-serve-requires
 serve-requires c κs = search needs
 
--- src/lib.rt:98:17
 cast-recorded : tie.Need-cast-recorded
 cast-recorded c = search needs
 
--- src/lib.rt:100:9
 number-requires : tie.Need-number-requires
 number-requires c κs = search needs
 
--- src/lib.rt:101:8
 is-link-requires : tie.Need-is-link-requires
 is-link-requires c κs = search needs
 
--- src/lib.rt:102:9
 same-length-3 : tie.Need-same-length-3
 same-length-3 c = search needs
 
--- src/lib.rt:102:9
 same-length-4 : tie.Need-same-length-4
 same-length-4 c = search needs
 
--- src/lib.rt:102:9
 same-length-5 : tie.Need-same-length-5
 same-length-5 c = search needs
 
--- src/lib.rt:102:9
 same-length-6 : tie.Need-same-length-6
 same-length-6 c = search needs
 
--- src/lib.rt:102:9
 returns-4 : tie.Need-returns-4
 returns-4 c =
     let l = lending (c .before .before .before .before .before .before .before .before .before .before .before .before .before .before .before .before .before .before .before .before .before .before .before .before .before .before .before .before .before .before .before .args .state .now) (c .before .before .before .before .before .before .before .before .before .before .before .before .before .before .before .before .before .before .before .before .before .before .before .before .before .before .before .before .before .before .before .args .medium .now) (c .before .before .before .before .before .before .before .before .before .before .before .before .before .before .before .before .before .before .before .before .before .before .before .before .before .before .before .before .before .before .before .args .pending .now) in
@@ -122,27 +100,21 @@ returns-4 c =
     step-faced l q (c .before .before .before .before .before .before .before .before .before .before .before .before .before .before .before .before .before .before .before .before .before .before .before .before .if1 .left) (sym (c .before .before .before .before .before .before .before .before .before .before .before .before .before .before .before .before .before .before .before .before .before .before .is-lent .ensures) ∙ not-false _ (c .before .before .before .before .before .before .before .before .before .before .before .before .before .before .before .before .before .before .before .before .before .if2 .left)) (responseOf (decode (l .state)) (c .before .before .before .before .before .before .before .before .before .before .serve .result)) (c .before .before .number .result) (c .before .before .before .before .before .before .before .before .before .before .serve .result .length) (c .before .before .before .before .before .before .before .before .before .before .serve .result .recorded) (l .state) (c .before .before .before .before .before .before .before .before .before .before .serve .last .1 .1 .1 .0) (c .before .before .before .before .before .before .before .before .before .before .serve .last .1 .1 .1 .1 .0) (c .before .before .before .before .before .before .before .before .before .before .serve .last .1 .1 .1 .1 .1 .0)
     (taken-state (l .state) _ (sym (c .before .before .before .before .before .before .before .before .before .before .before .before .before .before .before .before .before .before .before .examine .ensures) ∙ c .before .before .before .before .before .before .before .before .before .before .before .before .before .before .before .before .before .words .given .1)) served (c .before .before .number .ensures) refl refl (rw link)
 
--- src/lib.rt:105:5
 update-requires : tie.Need-update-requires
 update-requires c κs = taken (c .before .before .before .before .before .before .before .before .before .before .before .before .before .before .before .before .before .before .before .before .before .before .before .before .before .before .before .before .before .before .before .before .before .args .state .now) _ (sym (c .before .before .before .before .before .before .before .before .before .before .before .before .before .before .before .before .before .before .before .before .before .examine .ensures) ∙ c .before .before .before .before .before .before .before .before .before .before .before .before .before .before .before .before .before .before .before .words .given .1) .state
 
--- src/lib.rt:66:1
 same-length-7 : tie.Need-same-length-7
 same-length-7 c = search needs
 
--- src/lib.rt:66:1
 same-length-8 : tie.Need-same-length-8
 same-length-8 c = search needs
 
--- src/lib.rt:66:1
 same-length-9 : tie.Need-same-length-9
 same-length-9 c = search needs
 
--- src/lib.rt:66:1
 same-length-10 : tie.Need-same-length-10
 same-length-10 c = search needs
 
--- src/lib.rt:66:1
 returns-5 : tie.Need-returns-5
 returns-5 c =
     let l = lending (c .before .before .before .before .before .before .before .before .before .before .before .before .before .before .before .before .before .before .before .before .before .before .before .before .before .before .before .before .before .before .before .before .before .before .before .before .args .state .now) (c .before .before .before .before .before .before .before .before .before .before .before .before .before .before .before .before .before .before .before .before .before .before .before .before .before .before .before .before .before .before .before .before .before .before .before .before .args .medium .now) (c .before .before .before .before .before .before .before .before .before .before .before .before .before .before .before .before .before .before .before .before .before .before .before .before .before .before .before .before .before .before .before .before .before .before .before .before .args .pending .now) in

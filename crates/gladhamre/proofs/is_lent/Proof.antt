@@ -7,23 +7,18 @@ use Rattle.gladhamre.proofs.is_lent.Tie as tie
 use Rattle.gladhamre.proofs.is_lent.Reads as reads
 use Rattle.gladhamre.proofs.is_lent.Lts as lts
 
--- src/lib.rt:37:9
 returns : tie.Need-returns
 returns c = rw (eq-eqb (length (c .before .args .state .now)) 0 (c .if1 .taken))
 
--- src/lib.rt:39:20
 shared-slice-read-capacity : tie.Need-shared-slice-read-capacity
 shared-slice-read-capacity c = search needs
 
--- src/lib.rt:42:38
 cast-result : tie.Need-cast-result
 cast-result c = omega (arith, c .shared-slice-known .given 0)
 
--- src/lib.rt:42:22
 mul-result : tie.Need-mul-result
 mul-result c = omega (arith, c .shared-slice-known .given 0)
 
--- src/lib.rt:33:1
 returns-2 : tie.Need-returns-2
 returns-2 c = rw (ne-eqb (length (c .before .before .args .state .now)) 0 (c .before .if1 .left))
 

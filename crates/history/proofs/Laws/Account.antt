@@ -26,8 +26,8 @@ sector-front l x c i size h =
     ap (take 2048) (drop-append-le (2048 * i) l x (omega (arith, size)))
     ∙ take-append-le 2048 (drop (2048 * i) l) x (omega (arith, size, length-drop (2048 * i) l))
 
-sector-behind : (l x : List ℕ) (c i : ℕ) → length l ≡ 2048 * c → sectorAt (c + i) (l ++ x) ≡ sectorAt i x
-sector-behind l x c i size =
+sector-after : (l x : List ℕ) (c i : ℕ) → length l ≡ 2048 * c → sectorAt (c + i) (l ++ x) ≡ sectorAt i x
+sector-after l x c i size =
     let place : 2048 * (c + i) ≡ length l + 2048 * i = omega (arith, size) in
     ap (λ (n : ℕ). take 2048 (drop n (l ++ x))) place ∙ ap (take 2048) (drop-append-add l x (2048 * i))
 
@@ -107,11 +107,11 @@ zeroed-none d m p n x k z h =
         (by-cases (among b 0 a) (λ t. absurd (let from = among-from b 0 a t in let below = among-below b 0 a t in omega arith)) (λ t. t))
 
 -- sectors put after those of a fragment: what stood there stays, and the new ones stand after
-sectors-behind :
+sectors-after :
     (old : ℕ → List ℕ) (l x : List ℕ) (b c n : ℕ) (new : ℕ → List ℕ) → length l ≡ 2048 * c
     → ((i : ℕ) → i < c → old (b + i) ≡ sectorAt i l) → ((i : ℕ) → i < n → new (b + c + i) ≡ sectorAt i x)
     → (i : ℕ) → i < c + n → cond (among (b + c) n (b + i)) (new (b + i)) (old (b + i)) ≡ sectorAt i (l ++ x)
-sectors-behind old l x b c n new size before after i h =
+sectors-after old l x b c n new size before after i h =
     by-cases (ltb i c)
     (λ t.
     let less = ltb-true i c t in
@@ -124,7 +124,7 @@ sectors-behind old l x b c n new size before after i h =
     let index : c + j ≡ i = omega arith in
     ap (λ (a : ℕ). cond (among (b + c) n a) (new a) (old a)) place
     ∙ (inside (b + c) n j (new (b + c + j)) (old (b + c + j)) below
-    ∙ (after j below ∙ (sym (sector-behind l x c j size) ∙ ap (λ (a : ℕ). sectorAt a (l ++ x)) index))))
+    ∙ (after j below ∙ (sym (sector-after l x c j size) ∙ ap (λ (a : ℕ). sectorAt a (l ++ x)) index))))
 
 -- one fragment records more
 module _ (d e : Disc) (j blocks : ℕ) (g : Fragment) (m x p q : List ℕ) (w : Grows d e j blocks g m x) where
@@ -185,7 +185,7 @@ module _ (d e : Disc) (j blocks : ℕ) (g : Fragment) (m x p q : List ℕ) (w : 
             λ i l.
             ap (λ (a : ℕ). cond (among (y .first + k .recorded + k .pending) z (a + i)) (zeros 2048) (k .content (a + i))) start
             ∙ (ap (λ (a : ℕ). cond (among a z (b + i)) (zeros 2048) (k .content (b + i))) from
-            ∙ (sectors-behind (k .content) (bytesOf d m p j) (zeros (2048 * z)) b c z (λ a. zeros 2048) (length-bytes k held h) (h .content)
+            ∙ (sectors-after (k .content) (bytesOf d m p j) (zeros (2048 * z)) b c z (λ a. zeros 2048) (length-bytes k held h) (h .content)
             (λ i l. sym (sector-zeros z i l)) i (omega (arith, l))
             ∙ ap (λ (l : List ℕ). sectorAt i l) (zeroed-bytes z bytes after)));
       }
@@ -239,7 +239,7 @@ module _
               λ i l.
               ap (λ (a : ℕ). cond (among address n (a + i)) (sectorAt (a + i - address) sectors) (k .content (a + i))) start
               ∙ (ap (λ (a : ℕ). cond (among a n (b + i)) (sectorAt (b + i - a) sectors) (k .content (b + i))) from
-              ∙ (sectors-behind (k .content) (bytesOf d m p j) sectors b c n (λ a. sectorAt (a - (b + c)) sectors)
+              ∙ (sectors-after (k .content) (bytesOf d m p j) sectors b c n (λ a. sectorAt (a - (b + c)) sectors)
               (length-bytes d e j grown-blocks g m recorded-now p p w k hp h) (h .content)
               (λ i l. ap (λ (a : ℕ). sectorAt a sectors) (let back : b + c + i - (b + c) ≡ i = omega arith in back)) i (omega (arith, l))
               ∙ ap (λ (l : List ℕ). sectorAt i l) written-bytes));

@@ -39,9 +39,9 @@ use Rattle.history.specs.Kept.{Keeps, KeptAccount}
 use Rattle.history.specs.Brought.{Written, writeOf, acceptedWrite, writes, broughtTo, sole, ReadBack, broughtInto, ListedKeeps, KeptAsListed}
 use Rattle.history.specs.Past.{RecordedByHistory}
 use Rattle.history.specs.Stale.{Change, unchanged, Given, after, turn, given}
-use Rattle.history.specs.Examples.{writeBlock}
+use Rattle.history.specs.Examples.{writeCdb}
 use Rattle.history.specs.Witness.{Shape, shape, discAfter}
-use Rattle.history.specs.Cases.{answers, replies, counts, Flash, blankOver, Log, firstFive, nextThirteen, writing, asking, reading, flushing, newer, older, earliest, early, TwoControllers, ByteForByte, BlockStays, reserving, inTwo, Fitting, behindAll, Reader, Requested, CasesOn, FirstWrite, Cases}
+use Rattle.history.specs.Cases.{answers, replies, counts, Flash, blankOver, Log, firstFive, nextThirteen, writing, asking, reading, flushing, newer, older, earliest, early, TwoControllers, ByteForByte, BlockStays, reserving, inTwo, Fitting, afterAll, Reader, Requested, CasesOn, FirstWrite, Cases}
 use Rattle.history.specs.Wide.{partsOf, total, nameable}
 use Rattle.history.proofs.Laws.Parts.{write-request}
 use Rattle.history.proofs.Laws.Demand.{demand-3}
@@ -133,43 +133,43 @@ same-again q u b x r = record { cdb = b; payload = x; room = r }
 -- the shapes of the newer controller's commands
 abbrev newerShapes : List Shape
 newerShapes =
-    shape (writeBlock 0 5) 10240 0 ∷ shape (asking 0 .cdb) 0 36 ∷ shape (writeBlock 5 13) 26624 0 ∷ shape (reading 0 0 .cdb) 0 32768
-    ∷ shape (flushing .cdb) 0 0 ∷ shape (reading 32 0 .cdb) 0 32768 ∷ shape (writeBlock 32 3) 6144 0 ∷ []
+    shape (writeCdb 0 5) 10240 0 ∷ shape (asking 0 .cdb) 0 36 ∷ shape (writeCdb 5 13) 26624 0 ∷ shape (reading 0 0 .cdb) 0 32768
+    ∷ shape (flushing .cdb) 0 0 ∷ shape (reading 32 0 .cdb) 0 32768 ∷ shape (writeCdb 32 3) 6144 0 ∷ []
 
 abbrev newerAnswers : List Answer
 newerAnswers = replicate 5 Accepted ++ (byDrive BlankCheck ∷ Accepted ∷ [])
 
 abbrev earliestShapes : List Shape
-earliestShapes = shape (writeBlock 0 5) 10240 0 ∷ []
+earliestShapes = shape (writeCdb 0 5) 10240 0 ∷ []
 
 abbrev earlyShapes : List Shape
-earlyShapes = shape (writeBlock 0 5) 10240 0 ∷ shape (asking 0 .cdb) 0 36 ∷ shape (writeBlock 5 13) 26624 0 ∷ []
+earlyShapes = shape (writeCdb 0 5) 10240 0 ∷ shape (asking 0 .cdb) 0 36 ∷ shape (writeCdb 5 13) 26624 0 ∷ []
 
 newer-shapes : (s : Drive) (l : Log) (x : ℕ) (j : ℕ → Change) → shapes (given (newer l x j) s) ≡ newerShapes
 unfolding given
 newer-shapes s l x j =
     λ i.
-    shape (writeBlock 0 5) (five-length l i) 0 ∷ shape (asking 0 .cdb) 0 (length-replicate {A = ℕ} 36 x i)
-    ∷ shape (writeBlock 5 13) (thirteen-length l i) 0 ∷ shape (reading 0 0 .cdb) 0 (length-replicate {A = ℕ} 32768 x i)
-    ∷ shape (flushing .cdb) 0 0 ∷ shape (reading 32 0 .cdb) 0 (length-replicate {A = ℕ} 32768 x i) ∷ shape (writeBlock 32 3) (l .sixLength i) 0 ∷ []
+    shape (writeCdb 0 5) (five-length l i) 0 ∷ shape (asking 0 .cdb) 0 (length-replicate {A = ℕ} 36 x i)
+    ∷ shape (writeCdb 5 13) (thirteen-length l i) 0 ∷ shape (reading 0 0 .cdb) 0 (length-replicate {A = ℕ} 32768 x i)
+    ∷ shape (flushing .cdb) 0 0 ∷ shape (reading 32 0 .cdb) 0 (length-replicate {A = ℕ} 32768 x i) ∷ shape (writeCdb 32 3) (l .sixLength i) 0 ∷ []
 
 earliest-shapes : (s : Drive) (l : Log) (j : ℕ → Change) → shapes (given (earliest l j) s) ≡ earliestShapes
 unfolding given
-earliest-shapes s l j = λ i. shape (writeBlock 0 5) (five-length l i) 0 ∷ []
+earliest-shapes s l j = λ i. shape (writeCdb 0 5) (five-length l i) 0 ∷ []
 
 early-shapes : (s : Drive) (l : Log) (x : ℕ) (j : ℕ → Change) → shapes (given (early l x j) s) ≡ earlyShapes
 unfolding given
 early-shapes s l x j =
     λ i.
-    shape (writeBlock 0 5) (five-length l i) 0 ∷ shape (asking 0 .cdb) 0 (length-replicate {A = ℕ} 36 x i)
-    ∷ shape (writeBlock 5 13) (thirteen-length l i) 0 ∷ []
+    shape (writeCdb 0 5) (five-length l i) 0 ∷ shape (asking 0 .cdb) 0 (length-replicate {A = ℕ} 36 x i)
+    ∷ shape (writeCdb 5 13) (thirteen-length l i) 0 ∷ []
 
 -- a READ after them, and a WRITE after RESERVE 33
 abbrev lateShapes : ℕ → List Shape
 lateShapes a = newerShapes ++ (shape (reading a 0 .cdb) 0 32768 ∷ [])
 
 abbrev wholeShapes : ℕ → ℕ → List Shape
-wholeShapes p n = shape (reserving .cdb) 0 0 ∷ shape (writeBlock 0 p) n 0 ∷ []
+wholeShapes p n = shape (reserving .cdb) 0 0 ∷ shape (writeCdb 0 p) n 0 ∷ []
 
 -- the disc and the account after shapes
 abbrev listOf : ℕ → List Shape → Disc
@@ -191,7 +191,7 @@ record Computed (c : ℕ) : Type 0 where
   firstFigures :
       (numbered (listOf c earliestShapes) 1 .recorded ≡ 0) × (numbered (listOf c earliestShapes) 1 .zeroed ≡ 0) × (pendingIn (listOf c earliestShapes) 1 ≡ 5)
   held : (listOf c earlyShapes .pending ≡ 2) × (listOf c newerShapes .pending ≡ 3)
-  behind : readable (listOf c newerShapes) (lba 32) ≡ false
+  beyond : readable (listOf c newerShapes) (lba 32) ≡ false
   first : extentOf (listOf c newerShapes) 1 .first ≡ 0
   earlyPlaces : (atAddress (listOf c earlyShapes) (lba 3) ≡ Number 1) × (atAddress (listOf c earlyShapes) (lba 7) ≡ Number 1)
   newerPlaces :
@@ -223,7 +223,7 @@ computed = (
     figures = (refl, refl, refl);
     firstFigures = (refl, refl, refl);
     held = (refl, refl);
-    behind = refl;
+    beyond = refl;
     first = refl;
     earlyPlaces = (refl, refl);
     newerPlaces = (refl, refl, refl, refl, refl);
@@ -242,7 +242,7 @@ computed = (
     figures = (refl, refl, refl);
     firstFigures = (refl, refl, refl);
     held = (refl, refl);
-    behind = refl;
+    beyond = refl;
     first = refl;
     earlyPlaces = (refl, refl);
     newerPlaces = (refl, refl, refl, refl, refl);
@@ -442,7 +442,7 @@ whole-then x p j = after (j 0) reserving ∷ after (j 1) (writing 0 p x) ∷ []
 
 whole-shapes : (s : Drive) (x : List ℕ) (p b : ℕ) (j : ℕ → Change) → length x ≡ b → shapes (given (whole-then x p j) s) ≡ wholeShapes p b
 unfolding given
-whole-shapes s x p b j size = λ i. shape (reserving .cdb) 0 0 ∷ shape (writeBlock 0 p) (size i) 0 ∷ []
+whole-shapes s x p b j size = λ i. shape (reserving .cdb) 0 0 ∷ shape (writeCdb 0 p) (size i) 0 ∷ []
 
 whole-answers :
     (c : ℕ) (s : Drive) → Start c s → (x : List ℕ) (p b : ℕ) (j : ℕ → Change) → length x ≡ b
@@ -502,9 +502,9 @@ late-shapes : (s : Drive) (a : ℕ) (l : Log) (x : ℕ) (j : ℕ → Change) →
 unfolding given
 late-shapes s a l x j =
     λ i.
-    shape (writeBlock 0 5) (five-length l i) 0 ∷ shape (asking 0 .cdb) 0 (length-replicate {A = ℕ} 36 x i)
-    ∷ shape (writeBlock 5 13) (thirteen-length l i) 0 ∷ shape (reading 0 0 .cdb) 0 (length-replicate {A = ℕ} 32768 x i)
-    ∷ shape (flushing .cdb) 0 0 ∷ shape (reading 32 0 .cdb) 0 (length-replicate {A = ℕ} 32768 x i) ∷ shape (writeBlock 32 3) (l .sixLength i) 0
+    shape (writeCdb 0 5) (five-length l i) 0 ∷ shape (asking 0 .cdb) 0 (length-replicate {A = ℕ} 36 x i)
+    ∷ shape (writeCdb 5 13) (thirteen-length l i) 0 ∷ shape (reading 0 0 .cdb) 0 (length-replicate {A = ℕ} 32768 x i)
+    ∷ shape (flushing .cdb) 0 0 ∷ shape (reading 32 0 .cdb) 0 (length-replicate {A = ℕ} 32768 x i) ∷ shape (writeCdb 32 3) (l .sixLength i) 0
     ∷ shape (reading a 0 .cdb) 0 (length-replicate {A = ℕ} 32768 x i) ∷ []
 
 late-answers :
@@ -563,7 +563,7 @@ module _ (c : ℕ) (m : Computed c) (kept : KeptAccount) (f : Flash c) (l : Log)
       (newer-answer c m disc₀ start₀ l x j 3) a h
 
   read-late :
-      (a : ℕ) → a < 16 → sectorAt a (behindAll logTurns disc₀ (after (j 7) (reading 16 x)) .reply) ≡ contentAt logTurns disc₀ (16 + a)
+      (a : ℕ) → a < 16 → sectorAt a (afterAll logTurns disc₀ (after (j 7) (reading 16 x)) .reply) ≡ contentAt logTurns disc₀ (16 + a)
   unfolding given final answers replies decode
   read-late a h =
       kept .back c disc₀ start₀ logTurns log-admissible (turn (after (j 7) (reading 16 x)) logEnd) (turn-alike (after (j 7) (reading 16 x)) logEnd) (lba 16) 16 refl
@@ -614,7 +614,7 @@ module _ (c : ℕ) (m : Computed c) (kept : KeptAccount) (f : Flash c) (l : Log)
         zeroed = read-late 2 (omega arith) ∙ (log-known 18 (m .newerPlaces .1) ∙ m .newerContent disc₀ l x j .1);
         log = log-readable 17 (m .newerPlaces .0);
         padding = log-readable 31 (m .newerPlaces .2);
-        behind = log-readable 32 (m .newerPlaces .3);
+        beyond = log-readable 32 (m .newerPlaces .3);
         accepted =
             let r = request (0x28 ∷ 0 ∷ 0 ∷ 0 ∷ 0 ∷ 16 ∷ 0 ∷ 0 ∷ 1 ∷ 0 ∷ 0 ∷ 0 ∷ []) [] (replicate 2048 x) in
             kept .readable c disc₀ start₀ logTurns log-admissible (turn (after (j 7) r) logEnd) (turn-alike (after (j 7) r) logEnd) (lba 16) one-read
@@ -654,7 +654,7 @@ module _ (c : ℕ) (m : Computed c) (back : ReadBack) (count : KeptAsListed) (hi
   abbrev write₁ : Given
   write₁ = after (j 2) (writing 5 13 (nextThirteen l))
 
-  brought₁ : sectorAt 7 (behindAll turns₁ disc₁ (after (j 7) (reading 0 x)) .reply) ≡ sectorAt 2 (nextThirteen l)
+  brought₁ : sectorAt 7 (afterAll turns₁ disc₁ (after (j 7) (reading 0 x)) .reply) ≡ sectorAt 2 (nextThirteen l)
   unfolding given final answers replies decode
   brought₁ =
       let ts = given front₁ disc₁ in
@@ -664,7 +664,7 @@ module _ (c : ℕ) (m : Computed c) (back : ReadBack) (count : KeptAsListed) (hi
       (turn (after (j 7) (reading 0 x)) end₁) (turn-alike (after (j 7) (reading 0 x)) end₁) (lba 0) 16 refl
       (late-answers c m f 0 l x j (m .lateAnswered .0)) 2 7 (omega arith) (omega arith) refl
 
-  none₁ : sectorAt 4 (behindAll turns₁ disc₁ (after (j 7) (reading 16 x)) .reply) ≡ zeros 2048
+  none₁ : sectorAt 4 (afterAll turns₁ disc₁ (after (j 7) (reading 16 x)) .reply) ≡ zeros 2048
   unfolding given final answers replies decode writes acceptedWrite writeOf broughtTo sole
   none₁ =
       back .back c disc₁ start₁ turns₁ admissible₁ (turn (after (j 7) (reading 16 x)) end₁) (turn-alike (after (j 7) (reading 16 x)) end₁) (lba 16) 16 refl
@@ -706,9 +706,9 @@ module _ (c : ℕ) (m : Computed c) (back : ReadBack) (count : KeptAsListed) (hi
         flushed =
             sym (history .recorded c disc₁ start₁ turns₁ admissible₁ 16)
             ∙ (ap (λ (d : Disc). readable d (lba 16)) last-disc ∙ tail-readable (listOf c newerShapes) c 2 14 16 (m .newerList) (omega arith));
-        behind =
+        beyond =
             sym (history .recorded c disc₁ start₁ turns₁ admissible₁ 32)
-            ∙ (ap (λ (d : Disc). readable d (lba 32)) last-disc ∙ m .behind);
+            ∙ (ap (λ (d : Disc). readable d (lba 32)) last-disc ∙ m .beyond);
         late =
             sym (history .pending c disc₁ start₁ turns₁ admissible₁) ∙ (ap (λ (d : Disc). d .pending) last-disc ∙ m .held .1);
         outside = history .stale c disc₁ start₁ turns₁ admissible₁;

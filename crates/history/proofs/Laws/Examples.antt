@@ -14,7 +14,7 @@ use Rattle.drive.proofs.Laws.Alike.{alike-same}
 use Rattle.history.specs.Types.{Lba, Write}
 use Rattle.history.specs.Sequence.{Start, Turn, found, result, Admissible, Undisturbed}
 use Rattle.history.specs.Cut.{Parts, none, part, CutOf}
-use Rattle.history.specs.Examples.{writeBlock, wholeWrite, firstPart, secondPart, partBehindGap, partOverFirst, emptyPart, sector, asLeft, steady}
+use Rattle.history.specs.Examples.{writeCdb, wholeWrite, firstPart, secondPart, partAfterGap, partOverFirst, emptyPart, sector, asLeft, steady}
 use Rattle.history.proofs.Laws.Parts.{write-request}
 use Rattle.history.proofs.Laws.Demand.{start-alike}
 
@@ -24,7 +24,7 @@ whole-sectors =
     length-append (sector 7) (sector 9 ++ [])
     ∙ omega (arith, length-replicate {A = ℕ} 2048 7, length-append (sector 9) [], length-replicate {A = ℕ} 2048 9)
 
-one-sector : (a x : ℕ) → WriteOf (request (writeBlock a 1) (sector x) []) (lba a) 1
+one-sector : (a x : ℕ) → WriteOf (request (writeCdb a 1) (sector x) []) (lba a) 1
 one-sector a x = write-request (lba a) 1 (sector x) (length-replicate {A = ℕ} 2048 x)
 
 pub cut-in-two : (a : ℕ) → CutOf (wholeWrite a) (firstPart a ∷ secondPart a ∷ [])
@@ -61,9 +61,9 @@ parts-joined a b c n m k x one two qs w v (part d i j u rest us h y (part f g l 
     let next = write-address (sym (v .command) ∙ y₁ .command) in
     omega (arith, ap (λ (z : Lba). z .0) start, count, ap (λ (z : Lba). z .0) next)
 
-pub gap-is-none : (q : Request) (qs : List Request) → CutOf q (firstPart 0 ∷ partBehindGap ∷ qs) → ⊥
+pub gap-is-none : (q : Request) (qs : List Request) → CutOf q (firstPart 0 ∷ partAfterGap ∷ qs) → ⊥
 gap-is-none q qs c =
-    let e = parts-joined (lba 0) (lba 2) (c .address) 1 1 (c .count) (q .payload) (firstPart 0) partBehindGap qs (one-sector 0 7) (one-sector 2 9) (c .parts) in
+    let e = parts-joined (lba 0) (lba 2) (c .address) 1 1 (c .count) (q .payload) (firstPart 0) partAfterGap qs (one-sector 0 7) (one-sector 2 9) (c .parts) in
     omega arith
 
 pub overlap-is-none : (q : Request) (qs : List Request) → CutOf q (firstPart 0 ∷ partOverFirst ∷ qs) → ⊥

@@ -10,14 +10,14 @@ use Rattle.drive.specs.Step.{Drive, Request, request, verdictOn, carriedOut, st
 use Rattle.drive.specs.Requests.{WriteOf}
 use Rattle.drive.proofs.Laws.Cut.{Served, write-verdict, accepted-served, whole-parts, parts-whole, cut-recorded, cut-after}
 use Rattle.history.specs.Types.{Lba, Accepted, Write, Verdict}
-use Rattle.history.specs.Examples.{writeBlock}
+use Rattle.history.specs.Examples.{writeCdb}
 use Rattle.history.specs.Cut.{Parts, none, part}
 use Rattle.history.proofs.Laws.Runs.{runs, RunAccepted, runBlocks}
 
 -- a WRITE of n sectors at an address, as some request: the parts still to come are one such WRITE. The definitions read a block as a
 -- list of numbers of any size, so one number of it can hold a whole address
 abbrev pub writeRequest : Lba → ℕ → List ℕ → Request
-writeRequest a n x = request (writeBlock (a .0) n) x []
+writeRequest a n x = request (writeCdb (a .0) n) x []
 
 pub write-request : (a : Lba) (n : ℕ) (x : List ℕ) → length x ≡ 2048 * n → WriteOf (writeRequest a n x) a n
 unfolding decode

@@ -27,7 +27,7 @@ use Rattle.history.proofs.Laws.Served.{start-served, sequence-served}
 use Rattle.history.proofs.Laws.Kept.{start-holds, served-sound, kept-account}
 use Rattle.history.proofs.Laws.Places.{taken, taken-within}
 use Rattle.history.proofs.Laws.Brought.{brought-append, brought-one, count-split, count-none}
-use Rattle.history.proofs.Laws.Traces.{base, Traced, fresh-behind, sequence-traced, start-traced}
+use Rattle.history.proofs.Laws.Traces.{base, Traced, fresh-after, sequence-traced, start-traced}
 
 -- at every point of a sequence from a start
 module _ (c : ℕ) (s : Drive) (start : Start c s) (ts : List Turn) (h : Admissible ts s) where
@@ -83,9 +83,9 @@ module _ (c : ℕ) (s : Drive) (start : Start c s) (ts : List Turn) (h : Admissi
       let size = 16 * numbered d n .length in
       let within = taken-within d n there-sound one in
       let whole : size ≡ k + (size - k) = omega (arith, within) in
-      let behind : broughtIn (b + k) (size - k) ws ≡ 0 =
-      count-none (b + k) (size - k) ws (λ i l. fresh-behind d ws n there-sound one (traced .fresh) (b + k + i) (omega arith) (omega (arith, l, within))) in
-      sym (ap (λ (m : ℕ). broughtIn b m ws) whole ∙ (count-split b k (size - k) ws ∙ omega (arith, behind, traced .each n one .count)))
+      let beyond : broughtIn (b + k) (size - k) ws ≡ 0 =
+      count-none (b + k) (size - k) ws (λ i l. fresh-after d ws n there-sound one (traced .fresh) (b + k + i) (omega arith) (omega (arith, l, within))) in
+      sym (ap (λ (m : ℕ). broughtIn b m ws) whole ∙ (count-split b k (size - k) ws ∙ omega (arith, beyond, traced .each n one .count)))
 
   point-keeps : (n : ℕ) → 1 ≤ n → ListedKeeps (writes ts s) (there .disc) n
   point-keeps n one =

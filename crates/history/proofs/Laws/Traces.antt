@@ -49,16 +49,16 @@ abbrev pub Once : List Written → Type 0
 Once ws = (a : ℕ) → length (broughtTo a ws) ≤ 1
 
 -- addresses after a fragment's sectors and in its blocks are fresh
-pub fresh-behind :
+pub fresh-after :
     (d : Disc) (ws : List Written) (n : ℕ) → Sound d → 1 ≤ n → Fresh d ws → (a : ℕ) → base d n + taken d n ≤ a
     → a < base d n + 16 * numbered d n .length → broughtTo a ws ≡ []
-fresh-behind d ws n s one f a behind inside =
+fresh-after d ws n s one f a beyond inside =
     f a
     (λ m other from below.
     let within = taken-within d m s other in
-    let same : n ≡ m = apart d n m a s one other (omega (arith, behind)) inside from (omega (arith, below, within)) in
+    let same : n ≡ m = apart d n m a s one other (omega (arith, beyond)) inside from (omega (arith, below, within)) in
     let there : a < base d n + taken d n = subst (λ (i : ℕ). a < base d i + taken d i) (sym same) below in
-    omega (arith, there, behind))
+    omega (arith, there, beyond))
 
 -- one fragment, over an accepted command that brings vs
 module _
@@ -87,7 +87,7 @@ module _
         let c = taken d n in
         let start : base e n ≡ b = ap (λ (x : ℕ). 16 * x) (p .start q) in
         let fresh : (i : ℕ) → i < z → broughtTo (b + c + i) ws ≡ [] =
-        λ i h. fresh-behind d ws n s one f (b + c + i) (omega arith) (omega (arith, h, more, p .within)) in
+        λ i h. fresh-after d ws n s one f (b + c + i) (omega arith) (omega (arith, h, more, p .within)) in
         let first : (i : ℕ) → i < c → broughtTo (b + i) (ws ++ vs) ≡ broughtTo (b + i) ws =
         λ i h. brought-append (b + i) ws vs ∙ (ap (λ (x : List (List ℕ)). broughtTo (b + i) ws ++ x) (none i h) ∙ append-nil (broughtTo (b + i) ws)) in
         let second : (i : ℕ) → i < z → broughtTo (b + c + i) (ws ++ vs) ≡ broughtTo (b + c + i) vs =
@@ -244,7 +244,7 @@ module _
         λ b t.
         let from = among-from (a .0) count b t in
         let below = among-below (a .0) count b t in
-        fresh-behind d ws j s own (tr .fresh) b (omega (arith, from, here)) (omega (arith, below, fits)) in
+        fresh-after d ws j s own (tr .fresh) b (omega (arith, from, here)) (omega (arith, below, fits)) in
         record {
           each =
               λ n one.

@@ -23,7 +23,7 @@ use Rattle.drive.specs.Reply.{sentBytes}
 use Rattle.drive.specs.Step.{Drive, Request, lent, verdictOn, carriedOut, step}
 use Rattle.history.specs.Types.{Disc, Verdict, Accepted}
 use Rattle.history.specs.Sequence.{Start}
-use Rattle.history.specs.Examples.{writeBlock}
+use Rattle.history.specs.Examples.{writeCdb}
 use Rattle.history.specs.Witness.{firstBlock, informationRequest, secondBlock}
 use Rattle.history.proofs.Laws.Served.{start-lent}
 
@@ -38,13 +38,13 @@ known-verdict s q d n m l e f g =
 
 -- what the lower layer decides, computed: three verdicts, one on the disc that the other left
 abbrev one : Verdict
-one = judge (blank 300) (writeBlock 0 16) 32768 0
+one = judge (blank 300) (writeCdb 0 16) 32768 0
 
 abbrev two : Verdict
 two = judge (one .disc) (informationRequest .cdb) 0 34
 
 abbrev three : Verdict
-three = judge (two .disc) (writeBlock 16 16) 32768 0
+three = judge (two .disc) (writeCdb 16 16) 32768 0
 
 computed :
     (one .answer ≡ Accepted) × (one .recorded ≡ 1)

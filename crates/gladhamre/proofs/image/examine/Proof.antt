@@ -13,51 +13,39 @@ use Rattle.gladhamre.proofs.image.head_fits.Reads as head-fits-reads
 use Rattle.gladhamre.proofs.image.is_zero.Reads as is-zero-reads
 use Rattle.gladhamre.proofs.image.used.Reads as used-reads
 
--- src/image.rt:146:9
 returns : tie.Need-returns
 returns c = words-short (c .before .before .args .words .now) (c .if1 .taken)
 
--- src/image.rt:148:9
 used-requires : tie.Need-used-requires
 used-requires c κs = search needs
 
--- src/image.rt:149:23
 mul-rest : tie.Need-mul-rest
 mul-rest c = omega (arith, c .used .ensures, used-most limit (drop 7 (c .before .before .before .args .words .now)))
 
--- src/image.rt:149:16
 add-rest : tie.Need-add-rest
 add-rest c = omega (arith, c .used .ensures, used-most limit (drop 7 (c .before .before .before .args .words .now)))
 
--- src/image.rt:150:8
 head-fits-requires : tie.Need-head-fits-requires
 head-fits-requires c κs = search needs
 
--- src/image.rt:150:35
 mul-is-zero : tie.Need-mul-is-zero
 mul-is-zero c = omega (arith, c .before .used .ensures, used-most limit (drop 7 (c .before .before .before .before .args .words .now)))
 
--- src/image.rt:150:35
 sub-is-zero : tie.Need-sub-is-zero
 sub-is-zero c = omega (arith, c .before .used .ensures, used-most limit (drop 7 (c .before .before .before .before .args .words .now)))
 
--- src/image.rt:150:35
 part-is-zero-start : tie.Need-part-is-zero-start
 part-is-zero-start c = omega (arith, c .before .used .ensures, used-most limit (drop 7 (c .before .before .before .before .args .words .now)))
 
--- src/image.rt:150:35
 part-is-zero-end : tie.Need-part-is-zero-end
 part-is-zero-end c = search needs
 
--- src/image.rt:150:27
 is-zero-requires : tie.Need-is-zero-requires
 is-zero-requires c κs = search needs
 
--- src/image.rt:151:9
 returns-2 : tie.Need-returns-2
 returns-2 c = sym (cond-yes _ _ _ (c .if2 .taken)) ∙ words-tested (c .before .before .before .before .before .before .before .args .words .now) (c .before .before .before .before .used .result) (c .before .before .before .head-fits .result) (c .before .is-zero .result) (c .before .before .before .before .before .if1 .left) (c .before .before .before .before .used .ensures) (c .before .before .before .head-fits .ensures) (c .before .is-zero .ensures)
 
--- src/image.rt:142:1
 returns-3 : tie.Need-returns-3
 returns-3 c = sym (cond-no _ _ _ (c .if2 .left)) ∙ words-tested (c .before .before .before .before .before .before .before .args .words .now) (c .before .before .before .before .used .result) (c .before .before .before .head-fits .result) (c .before .is-zero .result) (c .before .before .before .before .before .if1 .left) (c .before .before .before .before .used .ensures) (c .before .before .before .head-fits .ensures) (c .before .is-zero .ensures)
 

@@ -4,11 +4,9 @@ use Rattle.gladhamre.proofs.image.kind_of.Tie as tie
 use Rattle.gladhamre.proofs.image.kind_of.Reads as reads
 use Rattle.gladhamre.proofs.image.kind_of.Lts as lts
 
--- src/image.rt:26:9
 returns : tie.Need-returns
 returns c = rw (eq-eqb _ _ (c .if1 .taken))
 
--- src/image.rt:22:1
 returns-2 : tie.Need-returns-2
 returns-2 c = rw (ne-eqb _ _ (c .if1 .left))
 

@@ -9,55 +9,42 @@ use Rattle.gladhamre.proofs.image.put.Reads as reads
 use Rattle.gladhamre.proofs.image.put.Lts as lts
 use Rattle.gladhamre.proofs.image.write_record.Reads as write-record-reads
 
--- src/image.rt:251:9
 returns : tie.Need-returns
 returns c = λ d i. none-put (c .before .before .args .words .now) (c .before .before .args .entry) d i (c .if1 .taken)
 
--- src/image.rt:254:9
 returns-2 : tie.Need-returns-2
 returns-2 c = λ d i. past-put (c .before .before .before .args .words .now) (c .before .before .before .args .entry) d i (c .if2 .taken)
 
--- src/image.rt:256:33
 sub-from : tie.Need-sub-from
 sub-from c = search needs
 
--- src/image.rt:256:23
 mul-from : tie.Need-mul-from
 mul-from c = search needs
 
--- src/image.rt:256:16
 add-from : tie.Need-add-from
 add-from c = search needs
 
--- src/image.rt:257:14
 add-to : tie.Need-add-to
 add-to c = search needs
 
--- src/image.rt:259:18
 mul-write-record : tie.Need-mul-write-record
 mul-write-record c = search needs
 
--- src/image.rt:259:18
 sub-write-record : tie.Need-sub-write-record
 sub-write-record c = search needs
 
--- src/image.rt:259:18
 part-write-record-start : tie.Need-part-write-record-start
 part-write-record-start c = search needs
 
--- src/image.rt:259:18
 part-write-record-end : tie.Need-part-write-record-end
 part-write-record-end c = search needs
 
--- src/image.rt:259:5
 write-record-requires : tie.Need-write-record-requires
 write-record-requires c κs = search needs
 
--- src/image.rt:245:1
 same-length : tie.Need-same-length
 same-length c = search needs
 
--- src/image.rt:245:1
 returns-3 : tie.Need-returns-3
 returns-3 c =
     let from = 7 + 6 * (c .before .before .before .before .before .before .before .before .args .entry .number - 1) in

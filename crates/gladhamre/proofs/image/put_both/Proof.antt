@@ -6,19 +6,15 @@ use Rattle.gladhamre.proofs.image.put_both.Reads as reads
 use Rattle.gladhamre.proofs.image.put_both.Lts as lts
 use Rattle.gladhamre.proofs.image.put.Reads as put-reads
 
--- src/image.rt:285:5
 put-requires : tie.Need-put-requires
 put-requires c κs = search needs
 
--- src/image.rt:286:5
 put-requires-2 : tie.Need-put-requires-2
 put-requires-2 c κs = search needs
 
--- src/image.rt:281:1
 same-length : tie.Need-same-length
 same-length c = search needs
 
--- src/image.rt:281:1
 returns : tie.Need-returns
 returns c = λ d i. c .before .before .put2 .ensures (withEntry d (c .before .before .before .before .before .before .before .before .before .args .first)) (c .before .before .before .before .before .before .put .ensures d i)
 

@@ -15,91 +15,70 @@ use Rattle.gladhamre.proofs.image.settle.Reads as settle-reads
 enum-told : tie.Need-enum-told
 enum-told c = search needs
 
--- src/image.rt:296:26
 enum-known-effect : tie.Need-enum-known-effect
 enum-known-effect c = search needs
 
--- src/image.rt:296:39
 settle-requires : tie.Need-settle-requires
 settle-requires c κs = search needs
 
--- src/image.rt:297:27
 enum-known-effect-2 : tie.Need-enum-known-effect-2
 enum-known-effect-2 c = search needs
 
--- src/image.rt:297:47
 put-both-requires : tie.Need-put-both-requires
 put-both-requires c κs = search needs
 
--- src/image.rt:299:13
 enum-known-effect-3 : tie.Need-enum-known-effect-3
 enum-known-effect-3 c = search needs
 
--- src/image.rt:304:13
 settle-requires-2 : tie.Need-settle-requires-2
 settle-requires-2 c κs = search needs
 
--- src/image.rt:305:13
 put-both-requires-2 : tie.Need-put-both-requires-2
 put-both-requires-2 c κs = search needs
 
--- src/image.rt:306:24
 flag-word-requires : tie.Need-flag-word-requires
 flag-word-requires c κs = search needs
 
--- src/image.rt:306:13
 slice-write-words : tie.Need-slice-write-words
 slice-write-words c = search needs
 
--- src/image.rt:309:13
 enum-known-effect-4 : tie.Need-enum-known-effect-4
 enum-known-effect-4 c = search needs
 
--- src/image.rt:314:13
 put-both-requires-3 : tie.Need-put-both-requires-3
 put-both-requires-3 c κs = search needs
 
--- src/image.rt:315:13
 put-pending-requires : tie.Need-put-pending-requires
 put-pending-requires c κs = search needs
 
--- src/image.rt:290:1
 returns : tie.Need-returns
 unfolding affected
 returns c = rw (c .enum-told .given .1) (λ d i. i)
 
--- src/image.rt:290:1
 same-length : tie.Need-same-length
 same-length c = search needs
 
--- src/image.rt:290:1
 returns-2 : tie.Need-returns-2
 unfolding affected
 returns-2 c = rw (c .before .before .before .before .before .effect .given .1) (c .before .before .settle .ensures)
 
--- src/image.rt:290:1
 same-length-2 : tie.Need-same-length-2
 same-length-2 c = search needs
 
--- src/image.rt:290:1
 returns-3 : tie.Need-returns-3
 unfolding affected
 returns-3 c = rw (c .before .before .before .before .before .effect2 .given .1) (c .before .before .put-both .ensures)
 
--- src/image.rt:290:1
 same-length-3 : tie.Need-same-length-3
 same-length-3 c = simp length-set (omega arith)
 
--- src/image.rt:290:1
 returns-4 : tie.Need-returns-4
 unfolding affected
 returns-4 c = rw (c .before .before .before .before .before .before .before .before .before .before .effect3 .given .1, c .flag-word .ensures) (λ d i. finalized-put _ _ _ (c .before .before .before .put-both2 .ensures _ (c .before .before .before .before .before .before .before .settle2 .ensures d i)))
 
--- src/image.rt:290:1
 same-length-4 : tie.Need-same-length-4
 same-length-4 c = search needs
 
--- src/image.rt:290:1
 returns-5 : tie.Need-returns-5
 unfolding affected
 returns-5 c = rw (c .before .before .before .before .before .before .before .before .before .effect4 .given .1) (λ d i. c .before .before .put-pending .ensures _ (c .before .before .before .before .before .before .put-both3 .ensures d i))

@@ -5,19 +5,15 @@ use Rattle.gladhamre.proofs.image.put_pending.Tie as tie
 use Rattle.gladhamre.proofs.image.put_pending.Reads as reads
 use Rattle.gladhamre.proofs.image.put_pending.Lts as lts
 
--- src/image.rt:267:5
 slice-write-words : tie.Need-slice-write-words
 slice-write-words c = search needs
 
--- src/image.rt:268:5
 slice-write-words-2 : tie.Need-slice-write-words-2
 slice-write-words-2 c = search needs
 
--- src/image.rt:263:1
 same-length : tie.Need-same-length
 same-length c = search needs
 
--- src/image.rt:263:1
 returns : tie.Need-returns
 returns c = λ d i. pending-put (c .args .words .now) (c .args .pending) (c .args .owner) d i
 

@@ -6,59 +6,45 @@ use Rattle.gladhamre.proofs.image.read.Reads as reads
 use Rattle.gladhamre.proofs.image.read.Lts as lts
 use Rattle.gladhamre.proofs.image.read_list.Reads as read-list-reads
 
--- src/image.rt:185:14
 shared-slice-read-t6 : tie.Need-shared-slice-read-t6
 shared-slice-read-t6 c = search needs
 
--- src/image.rt:185:14
 cast-t7 : tie.Need-cast-t7
 cast-t7 c = search needs
 
--- src/image.rt:186:14
 shared-slice-read-t9 : tie.Need-shared-slice-read-t9
 shared-slice-read-t9 c = search needs
 
--- src/image.rt:186:14
 cast-t10 : tie.Need-cast-t10
 cast-t10 c = search needs
 
--- src/image.rt:187:15
 shared-slice-read-t12 : tie.Need-shared-slice-read-t12
 shared-slice-read-t12 c = search needs
 
--- src/image.rt:187:15
 cast-t13 : tie.Need-cast-t13
 cast-t13 c = search needs
 
--- src/image.rt:189:9
 read-list-requires : tie.Need-read-list-requires
 read-list-requires c κs = search needs
 
--- src/image.rt:191:19
 shared-slice-read-t6-2 : tie.Need-shared-slice-read-t6-2
 shared-slice-read-t6-2 c = search needs
 
--- src/image.rt:192:20
 shared-slice-read-t9-2 : tie.Need-shared-slice-read-t9-2
 shared-slice-read-t9-2 c = search needs
 
--- src/image.rt:194:18
 shared-slice-read-t12-2 : tie.Need-shared-slice-read-t12-2
 shared-slice-read-t12-2 c = search needs
 
--- src/image.rt:194:18
 cast-t13-2 : tie.Need-cast-t13-2
 cast-t13-2 c = search needs
 
--- src/image.rt:195:16
 shared-slice-read-t19 : tie.Need-shared-slice-read-t19
 shared-slice-read-t19 c = search needs
 
--- src/image.rt:195:16
 cast-t10-2 : tie.Need-cast-t10-2
 cast-t10-2 c = search needs
 
--- src/image.rt:180:1
 returns : tie.Need-returns
 unfolding decode
 returns c = rw (c .before .before .before .before .read-list .ensures)

@@ -22,61 +22,47 @@ Inv-loop words used fragments₀ i₀ fragments i =
 abbrev μ-loop : tie.MeasureT-loop
 μ-loop words used fragments₀ i₀ fragments i = used - i
 
--- src/image.rt:171:5
 loop-holds : tie.Need-loop-holds Inv-loop μ-loop
 unfolding listOf
 loop-holds c = (search needs, taken-most (c .before .args .words .now) (c .before .args .used) (c .before .pre), refl, refl, refl)
 
--- src/image.rt:172:27
 mul-from : tie.Need-mul-from Inv-loop μ-loop
 mul-from c = search needs
 
--- src/image.rt:172:20
 add-from : tie.Need-add-from Inv-loop μ-loop
 add-from c = search needs
 
--- src/image.rt:173:18
 add-to : tie.Need-add-to Inv-loop μ-loop
 add-to c = search needs
 
--- src/image.rt:174:36
 mul-read-record : tie.Need-mul-read-record Inv-loop μ-loop
 mul-read-record c = search needs
 
--- src/image.rt:174:36
 sub-read-record : tie.Need-sub-read-record Inv-loop μ-loop
 sub-read-record c = search needs
 
--- src/image.rt:174:36
 part-read-record-start : tie.Need-part-read-record-start Inv-loop μ-loop
 part-read-record-start c = search needs
 
--- src/image.rt:174:36
 part-read-record-end : tie.Need-part-read-record-end Inv-loop μ-loop
 part-read-record-end c = search needs
 
--- src/image.rt:174:24
 read-record-requires : tie.Need-read-record-requires Inv-loop μ-loop
 read-record-requires c κs =
     (simp (length-take, length-drop) (omega (arith, c .before .before .before .before .pre .state .0)), taken-fits (c .before .before .before .before .args .words .now) (c .before .before .before .before .args .used) (c .before .before .before .before .pre) (c .before .before .loop .i) (omega arith))
 
--- src/image.rt:174:9
 mul-fragments : tie.Need-mul-fragments Inv-loop μ-loop
 mul-fragments c = search needs
 
--- src/image.rt:174:9
 array-set-from-fragments : tie.Need-array-set-from-fragments Inv-loop μ-loop
 array-set-from-fragments c = search needs
 
--- src/image.rt:175:9
 add-i : tie.Need-add-i Inv-loop μ-loop
 add-i c = search needs
 
--- src/image.rt:171:5
 loop-less : tie.Need-loop-less Inv-loop μ-loop
 loop-less c = search needs
 
--- src/image.rt:171:5
 loop-again : tie.Need-loop-again Inv-loop μ-loop
 loop-again c =
     let loop = c .before .before .before .loop in (
@@ -87,7 +73,6 @@ loop-again c =
       rw (loop .inv .4, c .read-record .ensures, lent-record (c .before .before .before .before .before .args .words .now) (loop .i)) (read-more (loop .i) (drop 7 (c .before .before .before .before .before .args .words .now)) _ (omega arith)),
     )
 
--- src/image.rt:157:1
 returns : tie.Need-returns Inv-loop μ-loop
 returns c =
     let loop = c .before .loop in

@@ -10,39 +10,30 @@ use Rattle.gladhamre.proofs.image.read_record.Reads as reads
 use Rattle.gladhamre.proofs.image.read_record.Lts as lts
 use Rattle.gladhamre.proofs.image.kind_of.Reads as kind-of-reads
 
--- src/image.rt:55:18
 shared-slice-read-t3 : tie.Need-shared-slice-read-t3
 shared-slice-read-t3 c = search needs
 
--- src/image.rt:55:18
 cast-t4 : tie.Need-cast-t4
 cast-t4 c = let w = c .before .before .args .words .now in omega (arith, ltb-true (word w 0) 256 (and-left (ltb (word w 0) 256) (ltb (word w 5) 2) (c .before .before .pre .1)))
 
--- src/image.rt:56:22
 shared-slice-read-t6 : tie.Need-shared-slice-read-t6
 shared-slice-read-t6 c = search needs
 
--- src/image.rt:57:17
 shared-slice-read-t9 : tie.Need-shared-slice-read-t9
 shared-slice-read-t9 c = search needs
 
--- src/image.rt:58:19
 shared-slice-read-t11 : tie.Need-shared-slice-read-t11
 shared-slice-read-t11 c = search needs
 
--- src/image.rt:59:17
 shared-slice-read-t13 : tie.Need-shared-slice-read-t13
 shared-slice-read-t13 c = search needs
 
--- src/image.rt:60:23
 shared-slice-read-kind-of : tie.Need-shared-slice-read-kind-of
 shared-slice-read-kind-of c = search needs
 
--- src/image.rt:60:15
 kind-of-requires : tie.Need-kind-of-requires
 kind-of-requires c κs = search needs
 
--- src/image.rt:50:1
 returns : tie.Need-returns
 returns c = rw (c .kind-of .ensures)
 

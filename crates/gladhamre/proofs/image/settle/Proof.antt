@@ -7,19 +7,15 @@ use Rattle.gladhamre.proofs.image.settle.Lts as lts
 use Rattle.gladhamre.proofs.image.put.Reads as put-reads
 use Rattle.gladhamre.proofs.image.put_pending.Reads as put-pending-reads
 
--- src/image.rt:276:5
 put-requires : tie.Need-put-requires
 put-requires c κs = search needs
 
--- src/image.rt:277:5
 put-pending-requires : tie.Need-put-pending-requires
 put-pending-requires c κs = search needs
 
--- src/image.rt:272:1
 same-length : tie.Need-same-length
 same-length c = search needs
 
--- src/image.rt:272:1
 returns : tie.Need-returns
 returns c = λ d i. c .before .before .put-pending .ensures (withEntry d (c .before .before .before .before .before .before .before .before .before .args .flushed)) (c .before .before .before .before .before .before .put .ensures d i)
 

@@ -10,39 +10,30 @@ use Rattle.gladhamre.proofs.image.update.Reads as reads
 use Rattle.gladhamre.proofs.image.update.Lts as lts
 use Rattle.gladhamre.proofs.image.put_effect.Reads as put-effect-reads
 
--- src/image.rt:326:5
 put-effect-requires : tie.Need-put-effect-requires
 put-effect-requires c κs = search needs
 
--- src/image.rt:328:16
 cast-words : tie.Need-cast-words
 cast-words c = search needs
 
--- src/image.rt:328:5
 slice-write-words : tie.Need-slice-write-words
 slice-write-words c = search needs
 
--- src/image.rt:329:16
 cast-words-2 : tie.Need-cast-words-2
 cast-words-2 c = search needs
 
--- src/image.rt:329:5
 slice-write-words-2 : tie.Need-slice-write-words-2
 slice-write-words-2 c = simp length-set (omega arith)
 
--- src/image.rt:330:16
 cast-words-3 : tie.Need-cast-words-3
 cast-words-3 c = search needs
 
--- src/image.rt:330:5
 slice-write-words-3 : tie.Need-slice-write-words-3
 slice-write-words-3 c = simp length-set (omega arith)
 
--- src/image.rt:321:1
 same-length : tie.Need-same-length
 same-length c = search needs
 
--- src/image.rt:321:1
 returns : tie.Need-returns
 unfolding changed
 returns c =

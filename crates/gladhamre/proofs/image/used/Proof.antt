@@ -19,59 +19,45 @@ Inv-loop words i₀ i = (i ≤ limit) × (usedIn words ≡ i + usedOf (limit - i
 abbrev μ-loop : tie.MeasureT-loop
 μ-loop words i₀ i = limit - i
 
--- src/image.rt:104:5
 loop-holds : tie.Need-loop-holds Inv-loop μ-loop
 loop-holds c = (search needs, omega arith)
 
--- src/image.rt:105:27
 mul-from : tie.Need-mul-from Inv-loop μ-loop
 mul-from c = search needs
 
--- src/image.rt:105:20
 add-from : tie.Need-add-from Inv-loop μ-loop
 add-from c = search needs
 
--- src/image.rt:106:18
 add-to : tie.Need-add-to Inv-loop μ-loop
 add-to c = search needs
 
--- src/image.rt:107:21
 mul-is-used : tie.Need-mul-is-used Inv-loop μ-loop
 mul-is-used c = search needs
 
--- src/image.rt:107:21
 sub-is-used : tie.Need-sub-is-used Inv-loop μ-loop
 sub-is-used c = search needs
 
--- src/image.rt:107:21
 part-is-used-start : tie.Need-part-is-used-start Inv-loop μ-loop
 part-is-used-start c = search needs
 
--- src/image.rt:107:21
 part-is-used-end : tie.Need-part-is-used-end Inv-loop μ-loop
 part-is-used-end c = search needs
 
--- src/image.rt:107:13
 is-used-requires : tie.Need-is-used-requires Inv-loop μ-loop
 is-used-requires c κs = search needs
 
--- src/image.rt:108:13
 returns : tie.Need-returns Inv-loop μ-loop
 returns c = used-stop limit (c .before .before .before .before .loop .i) (drop 7 (c .before .before .before .before .before .before .args .words .now)) (c .before .before .before .before .loop .inv .1) (omega arith) (sym (lent-used (c .before .before .before .before .before .before .args .words .now) (c .before .before .before .before .loop .i)) ∙ (sym (c .before .is-used .ensures) ∙ not-true _ (c .if1 .taken)))
 
--- src/image.rt:110:9
 add-i : tie.Need-add-i Inv-loop μ-loop
 add-i c = search needs
 
--- src/image.rt:104:5
 loop-less : tie.Need-loop-less Inv-loop μ-loop
 loop-less c = search needs
 
--- src/image.rt:104:5
 loop-again : tie.Need-loop-again Inv-loop μ-loop
 loop-again c = (omega arith, used-more limit (c .before .before .before .before .loop .i) (drop 7 (c .before .before .before .before .before .before .args .words .now)) (c .before .before .before .before .loop .inv .1) (omega arith) (sym (lent-used (c .before .before .before .before .before .before .args .words .now) (c .before .before .before .before .loop .i)) ∙ (sym (c .before .is-used .ensures) ∙ not-false _ (c .if1 .left))))
 
--- src/image.rt:99:1
 returns-2 : tie.Need-returns-2 Inv-loop μ-loop
 returns-2 c = used-all limit (c .before .loop .i) (drop 7 (c .before .before .before .args .words .now)) (c .before .loop .inv .1) (omega arith)
 

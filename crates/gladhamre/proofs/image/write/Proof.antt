@@ -11,31 +11,24 @@ use Rattle.gladhamre.proofs.image.write.Lts as lts
 use Rattle.gladhamre.proofs.image.write_head.Reads as write-head-reads
 use Rattle.gladhamre.proofs.image.write_list.Reads as write-list-reads
 
--- src/image.rt:207:16
 sub-write-head : tie.Need-sub-write-head
 sub-write-head c = search needs
 
--- src/image.rt:207:16
 part-write-head-start : tie.Need-part-write-head-start
 part-write-head-start c = search needs
 
--- src/image.rt:207:16
 part-write-head-end : tie.Need-part-write-head-end
 part-write-head-end c = search needs
 
--- src/image.rt:207:5
 write-head-requires : tie.Need-write-head-requires
 write-head-requires c κs = search needs
 
--- src/image.rt:209:5
 write-list-requires : tie.Need-write-list-requires
 write-list-requires c κs = search needs
 
--- src/image.rt:203:1
 same-length : tie.Need-same-length
 same-length c = search needs
 
--- src/image.rt:203:1
 returns : tie.Need-returns
 returns c =
     write-both (c .before .before .before .before .before .before .before .before .before .args .words .now) (c .before .before .before .before .before .before .before .before .before .args .disc) _ (c .before .before .write-list .last .0) (omega arith) (search array-length) (put-splice (c .before .before .before .before .before .before .before .before .before .args .words .now) 0 7 (c .before .before .before .before .before .before .write-head .ensures) refl) (c .before .before .write-list .ensures)

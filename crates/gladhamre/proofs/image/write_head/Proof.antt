@@ -9,63 +9,48 @@ use Rattle.gladhamre.proofs.image.write_head.Reads as reads
 use Rattle.gladhamre.proofs.image.write_head.Lts as lts
 use Rattle.gladhamre.proofs.image.flag_word.Reads as flag-word-reads
 
--- src/image.rt:179:5
 slice-write-words : tie.Need-slice-write-words
 slice-write-words c = search needs
 
--- src/image.rt:180:16
 flag-word-requires : tie.Need-flag-word-requires
 flag-word-requires c κs = search needs
 
--- src/image.rt:180:5
 slice-write-words-2 : tie.Need-slice-write-words-2
 slice-write-words-2 c = search needs
 
--- src/image.rt:181:16
 cast-words : tie.Need-cast-words
 cast-words c = search needs
 
--- src/image.rt:181:5
 slice-write-words-3 : tie.Need-slice-write-words-3
 slice-write-words-3 c = search needs
 
--- src/image.rt:182:16
 cast-words-2 : tie.Need-cast-words-2
 cast-words-2 c = search needs
 
--- src/image.rt:182:5
 slice-write-words-4 : tie.Need-slice-write-words-4
 slice-write-words-4 c = search needs
 
--- src/image.rt:183:16
 cast-words-3 : tie.Need-cast-words-3
 cast-words-3 c = search needs
 
--- src/image.rt:183:5
 slice-write-words-5 : tie.Need-slice-write-words-5
 slice-write-words-5 c = simp length-set (omega arith)
 
--- src/image.rt:184:16
 cast-words-4 : tie.Need-cast-words-4
 cast-words-4 c = search needs
 
--- src/image.rt:184:5
 slice-write-words-6 : tie.Need-slice-write-words-6
 slice-write-words-6 c = simp length-set (omega arith)
 
--- src/image.rt:185:16
 cast-words-5 : tie.Need-cast-words-5
 cast-words-5 c = search needs
 
--- src/image.rt:185:5
 slice-write-words-7 : tie.Need-slice-write-words-7
 slice-write-words-7 c = simp length-set (omega arith)
 
--- src/image.rt:174:1
 same-length : tie.Need-same-length
 same-length c = search needs
 
--- src/image.rt:174:1
 returns : tie.Need-returns
 returns c =
     let start = c .before .before .before .before .before .before .before .before in

@@ -23,60 +23,46 @@ Inv-loop words₀ disc i₀ words i =
 abbrev μ-loop : tie.MeasureT-loop
 μ-loop words₀ disc i₀ words i = limit - i
 
--- src/image.rt:194:5
 loop-holds : tie.Need-loop-holds Inv-loop μ-loop
 unfolding listWords
 loop-holds c = (search needs, search array-length, omega arith, sym (splice-nil (c .before .args .words .now) 7))
 
--- src/image.rt:195:27
 mul-from : tie.Need-mul-from Inv-loop μ-loop
 mul-from c = search needs
 
--- src/image.rt:195:20
 add-from : tie.Need-add-from Inv-loop μ-loop
 add-from c = search needs
 
--- src/image.rt:196:18
 add-to : tie.Need-add-to Inv-loop μ-loop
 add-to c = search needs
 
--- src/image.rt:197:17
 mul-f : tie.Need-mul-f Inv-loop μ-loop
 mul-f c = search needs
 
--- src/image.rt:197:17
 element-copy-out-f : tie.Need-element-copy-out-f Inv-loop μ-loop
 element-copy-out-f c = search needs
 
--- src/image.rt:198:22
 mul-write-record : tie.Need-mul-write-record Inv-loop μ-loop
 mul-write-record c = search needs
 
--- src/image.rt:198:22
 sub-write-record : tie.Need-sub-write-record Inv-loop μ-loop
 sub-write-record c = search needs
 
--- src/image.rt:198:22
 part-write-record-start : tie.Need-part-write-record-start Inv-loop μ-loop
 part-write-record-start c = search needs
 
--- src/image.rt:198:22
 part-write-record-end : tie.Need-part-write-record-end Inv-loop μ-loop
 part-write-record-end c = search needs
 
--- src/image.rt:198:9
 write-record-requires : tie.Need-write-record-requires Inv-loop μ-loop
 write-record-requires c κs = search needs
 
--- src/image.rt:199:9
 add-i : tie.Need-add-i Inv-loop μ-loop
 add-i c = search needs
 
--- src/image.rt:194:5
 loop-less : tie.Need-loop-less Inv-loop μ-loop
 loop-less c = search needs
 
--- src/image.rt:194:5
 loop-again : tie.Need-loop-again Inv-loop μ-loop
 loop-again c =
     let w = c .before .before .before .before .before .before .loop in (
@@ -87,11 +73,9 @@ loop-again c =
           (put-splice (w .words) (7 + 6 * w .i) (7 + 6 * w .i + 6) (c .before .before .write-record .ensures) refl),
     )
 
--- src/image.rt:189:1
 same-length : tie.Need-same-length Inv-loop μ-loop
 same-length c = search needs
 
--- src/image.rt:189:1
 returns : tie.Need-returns Inv-loop μ-loop
 returns c =
     let w = c .before .loop in

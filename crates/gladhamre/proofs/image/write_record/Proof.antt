@@ -9,43 +9,33 @@ use Rattle.gladhamre.proofs.image.write_record.Reads as reads
 use Rattle.gladhamre.proofs.image.write_record.Lts as lts
 use Rattle.gladhamre.proofs.image.kind_word.Reads as kind-word-reads
 
--- src/image.rt:70:16
 cast-words : tie.Need-cast-words
 cast-words c = search needs
 
--- src/image.rt:70:5
 slice-write-words : tie.Need-slice-write-words
 slice-write-words c = search needs
 
--- src/image.rt:71:5
 slice-write-words-2 : tie.Need-slice-write-words-2
 slice-write-words-2 c = search needs
 
--- src/image.rt:72:5
 slice-write-words-3 : tie.Need-slice-write-words-3
 slice-write-words-3 c = search needs
 
--- src/image.rt:73:5
 slice-write-words-4 : tie.Need-slice-write-words-4
 slice-write-words-4 c = search needs
 
--- src/image.rt:74:5
 slice-write-words-5 : tie.Need-slice-write-words-5
 slice-write-words-5 c = simp length-set (omega arith)
 
--- src/image.rt:75:16
 kind-word-requires : tie.Need-kind-word-requires
 kind-word-requires c κs = search needs
 
--- src/image.rt:75:5
 slice-write-words-6 : tie.Need-slice-write-words-6
 slice-write-words-6 c = simp length-set (omega arith)
 
--- src/image.rt:65:1
 same-length : tie.Need-same-length
 same-length c = search needs
 
--- src/image.rt:65:1
 returns : tie.Need-returns
 returns c =
     let start = c .before .before .before in

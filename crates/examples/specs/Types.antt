@@ -9,5 +9,11 @@ pub use Rattle.fragments.specs.declared.list.Found.the-variants.{Number, Nowher
 pub use Rattle.fragments.specs.declared.fragment.Kind.{Kind}
 pub use Rattle.fragments.specs.declared.fragment.Kind.the-variants.{Reserved, Appended}
 pub use Rattle.fragments.specs.declared.fragment.Fragment.{Fragment}
+pub use Rattle.decisions.specs.declared.plan.Flush.the-variants.{Skip, Record}
+pub use Rattle.decisions.specs.declared.plan.Transfer.the-variants.{Nothing, Send, Gather, Fill}
+pub use Rattle.decisions.specs.declared.change.Entry.{Entry}
+pub use Rattle.decisions.specs.declared.change.Effect.{Effect}
+pub use Rattle.decisions.specs.declared.change.Effect.the-variants.{Keep, Settle, Reserve, Close, Grow}
+pub use Rattle.decisions.specs.declared.decision.Decision.{Decision}
 pub use Rattle.disc.specs.declared.state.Disc.{Disc}
 pub use Rattle.disc.specs.declared.verdict.Verdict.{Verdict}

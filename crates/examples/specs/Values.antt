@@ -1,18 +1,24 @@
 -- What the simple promises of the lower crates say on chosen inputs. Each value rules out the wrong answers beside it: an off by one,
 -- the other direction, the neighbour's field.
-use Prim.Native.Nat.{ℕ}
+use Prim.Native.Nat.{ℕ, _+_, _-_}
 use mathlib.Core.Path.{_≡_, refl}
-use mathlib.Core.Bool.{true, false}
-use mathlib.Core.List.{List, [], _∷_, map}
+use mathlib.Core.Bool.{Bool, true, false, cond}
+use mathlib.Core.List.{List, [], _∷_, _++_, map}
+use lib.Dec.{eqb}
 use lib.ListN.{length, take, replicate}
-use Rattle.examples.specs.Types.{Fragment, Reserved, Appended, Found, Number, Nowhere, Accepted, Link, Drive, CommandBlockLength, MediumSize, UnsoundState, TransferLength, BlankCheck, Read, Write, RequestSense, ReadCapacity, SynchronizeCache, ReadDiscInformation, ReadTrackInformation}
+use Rattle.examples.specs.Types.{Sense, Fragment, Reserved, Appended, Disc, Found, Number, Nowhere, Accepted, Link, Drive, CommandBlockLength, MediumSize, UnsoundState, TransferLength, BlankCheck, Read, Write, RequestSense, ReadCapacity, SynchronizeCache, ReadDiscInformation, ReadTrackInformation, Entry, Keep, Settle, Reserve, Close, Grow, Effect, Skip, Record, Nothing, Send, Gather, Fill, Decision}
 use Rattle.fragments.specs.Address.{sectorsIn, blocksFor, wholeBlocks, leftOver, missing, block, lba, firstSector, passes}
 use Rattle.fragments.specs.Fragment.{fragment, unusedRecord, isReserved, complete, isTail, isIncompleteReserved, end, nextFragmentStart, nextSessionStart, nextAfter, lastRecorded, holdsRun}
-use Rattle.fragments.specs.List.{listed, lastOf, holderOf, takerOf, pendingOf, firstOfSession, lastReadable, some, find}
+use Rattle.fragments.specs.List.{limit, listed, lastOf, holderOf, takerOf, pendingOf, firstOfSession, lastReadable, some, find}
 use Rattle.protocol.specs.Answer.{sense, noSense, senseNumber, refusalSense, driveRefusals, allowedSense, isRefusalSense, number}
 use Rattle.protocol.specs.Lengths.{dataLength, replyRoom, lengthsFit}
 use Rattle.protocol.specs.Reply.{report, noReply}
 use Rattle.protocol.specs.Reports.{senseBytes, capacityBytes, discBytes, trackBytes}
+use Rattle.decisions.specs.Change.{entry, noEntry}
+use Rattle.decisions.specs.Plan.{plan, noPlan}
+use Rattle.decisions.specs.Decision.{accepting, refusing, refusingLink}
+use Rattle.decisions.specs.Run.{sentWithin}
+use Rattle.disc.specs.Apply.{withEntry, affected, changed}
 
 -- sixteen sectors a block: 2 blocks and 1 sector are 33 sectors; a block of 4 lacks 12, one of 17 nothing
 pub conversions :
@@ -35,7 +41,7 @@ abbrev third : Fragment
 third = fragment 2 134 166 0 0 Appended
 
 abbrev list : List Fragment
-list = first ∷ second ∷ third ∷ replicate 61 unusedRecord
+list = first ∷ second ∷ third ∷ replicate (limit - 3) unusedRecord
 
 -- of one record: kinds, and the numbers around it
 pub kinds :
@@ -65,10 +71,12 @@ pub walks :
 unfolding listed find firstOfSession lastReadable
 walks = refl
 
+-- a run lies in the first fragment, in the dividing block too, in both fragments; in the second, past what is recorded of it
 pub tests :
     (some isIncompleteReserved (listed list) ∷ some isIncompleteReserved (first ∷ third ∷ []) ∷ some (holdsRun (lba 30) 2) (listed list)
-    ∷ some (holdsRun (lba 30) 3) (listed list) ∷ some (holdsRun (lba 2080) 32) (listed list) ∷ some (holdsRun (lba 2080) 33) (listed list) ∷ [])
-    ≡ (true ∷ false ∷ true ∷ false ∷ true ∷ false ∷ [])
+    ∷ some (holdsRun (lba 30) 3) (listed list) ∷ some (holdsRun (lba 30) 2051) (listed list) ∷ some (holdsRun (lba 2080) 32) (listed list)
+    ∷ some (holdsRun (lba 2080) 33) (listed list) ∷ [])
+    ≡ (true ∷ false ∷ true ∷ false ∷ false ∷ true ∷ false ∷ [])
 unfolding listed some
 tests = refl
 
@@ -135,3 +143,96 @@ pub reported :
     ∷ 0 ∷ 0 ∷ 0 ∷ 0x55 ∷ 1 ∷ 3 ∷ 0 ∷ 0 ∷ []))
 unfolding discBytes trackBytes
 reported = (refl, refl)
+
+-- of a decision: the answer's number, the sense, the blocks recorded and the reply's length; its change and its plan. An accepted one clears
+-- the sense, a refused one has its own and no reply, one refused on the link has the sense that it is given
+abbrev told : Decision → List ℕ
+told d = number (d .answer) ∷ senseNumber (d .change .sense) ∷ d .recorded ∷ d .reply .length ∷ []
+
+abbrev answered : List Decision
+answered =
+    accepting (Settle noEntry) 3 (report (capacityBytes (lba 0)) 8) (plan (Record (block 2) 5) (Fill (block 3) 4))
+    ∷ accepting Keep 0 (report (capacityBytes (lba 0)) 7) noPlan ∷ refusing BlankCheck ∷ refusingLink (sense 0x5 0x21 0x02) UnsoundState ∷ []
+
+pub decisions :
+    (map told answered
+    ≡ ((0 ∷ 0 ∷ 3 ∷ 8 ∷ []) ∷ (0 ∷ 0 ∷ 0 ∷ 7 ∷ []) ∷ (0x080000 ∷ 0x080000 ∷ 0 ∷ 0 ∷ []) ∷ (3 ∷ 0x052102 ∷ 0 ∷ 0 ∷ []) ∷ []))
+    × (map (λ d. d .change .effect) answered ≡ (Settle noEntry ∷ Keep ∷ Keep ∷ Keep ∷ []))
+    × (map (λ d. d .plan .flush) answered ≡ (Record (block 2) 5 ∷ Skip ∷ Skip ∷ Skip ∷ []))
+    × (map (λ d. d .plan .transfer) answered ≡ (Fill (block 3) 4 ∷ Nothing ∷ Nothing ∷ Nothing ∷ []))
+unfolding accepting refusing refusingLink
+decisions = (refl, refl, refl, refl)
+
+-- of a record put under the number 2: it stands there, and what was there before under every other number; none stands under 0
+abbrev over : Entry → ℕ → Fragment → Fragment
+over e n before = cond (eqb (e .number) n) (e .fragment) before
+
+pub entries :
+    (entry 2 second .number ∷ over (entry 2 second) 2 first .start .0 ∷ over (entry 2 second) 3 third .start .0 ∷ over noEntry 1 first .length
+    ∷ noEntry .number ∷ noEntry .fragment .length ∷ [])
+    ≡ (2 ∷ 130 ∷ 134 ∷ 2 ∷ 0 ∷ 0 ∷ [])
+entries = refl
+
+-- of a run that is sent, on a medium of two sectors, 7s and then 8s: the sectors addressed, none past the end, none of a part of one, and
+-- nothing for what sends nothing
+abbrev twoSectors : List ℕ
+twoSectors = replicate 2048 7 ++ replicate 2048 8
+
+pub sent-runs :
+    (sentWithin (Send (lba 1) 1) twoSectors ≡ replicate 2048 8)
+    × (map (λ t. length (sentWithin t twoSectors))
+    (Send (lba 0) 2 ∷ Send (lba 0) 1 ∷ Send (lba 2) 0 ∷ Send (lba 1) 2 ∷ Send (lba 2) 1 ∷ Nothing ∷ Gather (block 0) 0 1 ∷ Fill (block 0) 1 ∷ [])
+    ≡ (4096 ∷ 2048 ∷ 0 ∷ 0 ∷ 0 ∷ 0 ∷ 0 ∷ 0 ∷ []))
+    × (length (sentWithin (Send (lba 1) 1) (take 4095 twoSectors)) ≡ 0)
+unfolding sentWithin
+sent-runs = (refl, refl, refl)
+
+-- of a change applied to a disc with 5 sectors pending in the second fragment: what each kind makes of the sense, the flag, the pending
+-- sectors and the records; a record under 0 or past the list is none
+abbrev holding : Bool → Sense → ℕ → ℕ → List Fragment → Disc
+holding finalized s pending owner fs =
+    record {
+      capacity = 300;
+      finalized = finalized;
+      sense = s;
+      pending = pending;
+      owner = owner;
+      fragments = fs ++ replicate (limit - length fs) unusedRecord;
+    }
+
+abbrev flushedSecond : Fragment
+flushedSecond = fragment 2 130 3 3 11 Reserved
+
+abbrev reservedThird : Fragment
+reservedThird = fragment 2 134 10 0 0 Reserved
+
+abbrev grownThird : Fragment
+grownThird = fragment 2 134 166 1 0 Appended
+
+abbrev tailAt145 : Fragment
+tailAt145 = fragment 2 145 155 0 0 Appended
+
+abbrev before : Disc
+before = holding false (sense 0x5 0x21 0x02) 5 2 (first ∷ second ∷ third ∷ unusedRecord ∷ [])
+
+abbrev after : Effect → Disc
+after e = changed before (record { sense = noSense; effect = e })
+
+pub changes :
+    map after
+    (Keep ∷ Settle (entry 2 flushedSecond) ∷ Settle noEntry ∷ Settle (entry (limit + 1) flushedSecond)
+    ∷ Reserve (entry 3 reservedThird) (entry 4 tailAt145)
+    ∷ Close (entry 2 flushedSecond) (entry 3 reservedThird) (entry 4 tailAt145) false
+    ∷ Close (entry 2 flushedSecond) (entry 3 unusedRecord) noEntry true
+    ∷ Grow (entry 2 flushedSecond) (entry 3 grownThird) 7 3 ∷ Grow noEntry (entry 2 flushedSecond) 0 0 ∷ [])
+    ≡ (holding false noSense 5 2 (first ∷ second ∷ third ∷ unusedRecord ∷ [])
+    ∷ holding false noSense 0 0 (first ∷ flushedSecond ∷ third ∷ unusedRecord ∷ [])
+    ∷ holding false noSense 0 0 (first ∷ second ∷ third ∷ unusedRecord ∷ [])
+    ∷ holding false noSense 0 0 (first ∷ second ∷ third ∷ unusedRecord ∷ [])
+    ∷ holding false noSense 5 2 (first ∷ second ∷ reservedThird ∷ tailAt145 ∷ [])
+    ∷ holding false noSense 0 0 (first ∷ flushedSecond ∷ reservedThird ∷ tailAt145 ∷ [])
+    ∷ holding true noSense 0 0 (first ∷ flushedSecond ∷ unusedRecord ∷ unusedRecord ∷ [])
+    ∷ holding false noSense 7 3 (first ∷ flushedSecond ∷ grownThird ∷ unusedRecord ∷ [])
+    ∷ holding false noSense 0 0 (first ∷ flushedSecond ∷ third ∷ unusedRecord ∷ []) ∷ [])
+unfolding withEntry affected changed
+changes = refl

@@ -2,9 +2,7 @@
 use fragments::Fragment;
 use protocol::Sense;
 ghost use mathlib.Core.Path.{_≡_};
-ghost use mathlib.Core.Bool.{cond};
-ghost use lib.Dec.{eqb};
-ghost use Rattle.decisions.specs.Change.{entry, noEntry};
+ghost use Rattle.decisions.specs.Change.{entry, noEntry, over};
 
 // A record put under a number of the list; under the number 0 none is put.
 pub struct Entry {
@@ -63,7 +61,7 @@ impl Entry {
 
     // What stands under a number once the record is put, with another one there before.
     pub fn over(self, number: usize, before: Fragment) -> Fragment
-        ensures { λ r. ⌜ r ≡ cond (eqb (self .number) number) (self .fragment) before ⌝ }
+        ensures { λ r. ⌜ r ≡ over self number before ⌝ }
     {
         if self.number == number {
             return self.fragment;

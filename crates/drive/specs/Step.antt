@@ -114,5 +114,5 @@ abbrev pub responseOf : Disc → Outcome → Response
 responseOf d r = record { answer = r .answer; disc = changed d (r .change); length = r .length; recorded = r .recorded }
 
 -- the promise of the code that serves a command and leaves the change to its caller
-abbrev pub Served : Drive → Request → Outcome → List ℕ → List ℕ → List ℕ → Type 0
-Served s q r medium pending buffer = Answered s q (responseOf (s .disc) r) medium pending buffer
+abbrev pub AnsweredByChange : Drive → Request → Outcome → List ℕ → List ℕ → List ℕ → Type 0
+AnsweredByChange s q r medium pending buffer = Answered s q (responseOf (s .disc) r) medium pending buffer

@@ -14,7 +14,7 @@ ghost use mathlib.Core.Path.{_≡_};
 ghost use mathlib.Core.Bool.{_&&_};
 ghost use Prim.Native.Nat.{_*_};
 ghost use lib.Dec.{eqb};
-ghost use Rattle.drive.specs.Step.{drive, request, declined, Feasible, CarriedOut, Served, Answered};
+ghost use Rattle.drive.specs.Step.{drive, request, declined, Feasible, CarriedOut, AnsweredByChange, Answered};
 
 // The answer to a command: how it ended, the disc afterwards, the reply's length and the number of blocks recorded.
 pub struct Response {
@@ -94,7 +94,7 @@ pub fn serve(
     reply: &mut [u8],
 ) -> Outcome
     ensures { λ r.
-        ⌜ Served (drive disc (now (medium .entry)) (now (pending .entry)))
+        ⌜ AnsweredByChange (drive disc (now (medium .entry)) (now (pending .entry)))
         (request (now (cdb .entry)) (now («data» .entry)) (now (reply .entry)))
         r (now (medium .exit)) (now (pending .exit)) (now (reply .exit)) ⌝ }
 {

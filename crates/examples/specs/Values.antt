@@ -2,11 +2,10 @@
 -- the other direction, the neighbour's field.
 use Prim.Native.Nat.{ℕ, _+_, _-_}
 use mathlib.Core.Path.{_≡_, refl}
-use mathlib.Core.Bool.{Bool, true, false, cond}
+use mathlib.Core.Bool.{Bool, true, false}
 use mathlib.Core.List.{List, [], _∷_, _++_, map}
-use lib.Dec.{eqb}
 use lib.ListN.{length, take, replicate}
-use Rattle.examples.specs.Types.{Sense, Fragment, Reserved, Appended, Disc, Found, Number, Nowhere, Accepted, Link, Drive, CommandBlockLength, MediumSize, UnsoundState, TransferLength, BlankCheck, Read, Write, RequestSense, ReadCapacity, SynchronizeCache, ReadDiscInformation, ReadTrackInformation, Entry, Keep, Settle, Reserve, Close, Grow, Effect, Skip, Record, Nothing, Send, Gather, Fill, Decision}
+use Rattle.examples.specs.Types.{Sense, Fragment, Reserved, Appended, Disc, Found, Number, Nowhere, Accepted, Link, Drive, CommandBlockLength, MediumSize, UnsoundState, TransferLength, BlankCheck, Read, Write, RequestSense, ReadCapacity, SynchronizeCache, ReadDiscInformation, ReadTrackInformation, Keep, Settle, Reserve, Close, Grow, Effect, Skip, Record, Nothing, Send, Gather, Fill, Decision}
 use Rattle.fragments.specs.Address.{sectorsIn, blocksFor, wholeBlocks, leftOver, missing, block, lba, firstSector, passes}
 use Rattle.fragments.specs.Fragment.{fragment, unusedRecord, isReserved, complete, isTail, isIncompleteReserved, end, nextFragmentStart, nextSessionStart, nextAfter, lastRecorded, holdsRun}
 use Rattle.fragments.specs.List.{limit, listed, lastOf, holderOf, takerOf, pendingOf, firstOfSession, lastReadable, some, find}
@@ -14,7 +13,7 @@ use Rattle.protocol.specs.Answer.{sense, noSense, senseNumber, refusalSense, dr
 use Rattle.protocol.specs.Lengths.{dataLength, replyRoom, lengthsFit}
 use Rattle.protocol.specs.Reply.{report, noReply}
 use Rattle.protocol.specs.Reports.{senseBytes, capacityBytes, discBytes, trackBytes}
-use Rattle.decisions.specs.Change.{entry, noEntry}
+use Rattle.decisions.specs.Change.{entry, noEntry, over}
 use Rattle.decisions.specs.Plan.{plan, noPlan}
 use Rattle.decisions.specs.Decision.{accepting, refusing, refusingLink}
 use Rattle.decisions.specs.Run.{sentWithin}
@@ -164,9 +163,6 @@ unfolding accepting refusing refusingLink
 decisions = (refl, refl, refl, refl)
 
 -- of a record put under the number 2: it stands there, and what was there before under every other number; none stands under 0
-abbrev over : Entry → ℕ → Fragment → Fragment
-over e n before = cond (eqb (e .number) n) (e .fragment) before
-
 pub entries :
     (entry 2 second .number ∷ over (entry 2 second) 2 first .start .0 ∷ over (entry 2 second) 3 third .start .0 ∷ over noEntry 1 first .length
     ∷ noEntry .number ∷ noEntry .fragment .length ∷ [])

@@ -33,22 +33,22 @@ use Rattle.disc.proofs.Laws.Order.{drop-used, last-used}
 use Rattle.disc.proofs.Laws.Session.{kept-blank, kept-tail, kept-same, kept-capacity, kept-finalized}
 
 -- refused and accepted decisions come to refused and accepted verdicts
-pub decided-refused : (d : Disc) (r : DriveRefusal) → decided d (refusing r) ≡ refuse d r
+pub refused-verdict : (d : Disc) (r : DriveRefusal) → decided d (refusing r) ≡ refuse d r
 unfolding decided changed affected refusing refuse
-decided-refused d r = refl
+refused-verdict d r = refl
 
-pub decided-link : (d : Disc) (r : LinkRefusal) → decided d (refusingLink (d .sense) r) ≡ refuseLink d r
+pub link-verdict : (d : Disc) (r : LinkRefusal) → decided d (refusingLink (d .sense) r) ≡ refuseLink d r
 unfolding decided changed affected refusingLink refuseLink
-decided-link d r = refl
+link-verdict d r = refl
 
-pub decided-accepted :
+pub accepted-verdict :
     (d : Disc) (e : Effect) (n : ℕ) (r : Reply) (p : Plan) → decided d (accepting e n r p) ≡ accepted (affected d e) n r p
 unfolding decided changed accepting accepted
-decided-accepted d e n r p = refl
+accepted-verdict d e n r p = refl
 
-pub decided-unchanged : (d : Disc) (r : Reply) (p : Plan) → decided d (accepting Keep 0 r p) ≡ accept d d r p
+pub unchanged-verdict : (d : Disc) (r : Reply) (p : Plan) → decided d (accepting Keep 0 r p) ≡ accept d d r p
 unfolding affected
-decided-unchanged d r p = decided-accepted d Keep 0 r p ∙ accept-same d r p
+unchanged-verdict d r p = accepted-verdict d Keep 0 r p ∙ accept-same d r p
 
 -- a record put under a number from 1, and none put
 pub with-entry : (d : Disc) (n : ℕ) (f : Fragment) → 1 ≤ n → withEntry d (entry n f) ≡ withRecord d n f

@@ -19,7 +19,7 @@ use Rattle.disc.proofs.Laws.Lent.{judge-fits}
 use Rattle.drive.specs.Types.{Lba, Disc, LinkRefusal, Decision, Outcome, CommandBlockLength, MediumSize, Reply, Transfer, Nothing, Send, Gather, Fill, Verdict, Response}
 use Rattle.drive.specs.Moves.{flushedMedium, flushedPending, transferredMedium, transferredPending, movedMedium, movedPending}
 use Rattle.drive.specs.Reply.{sentBytes}
-use Rattle.drive.specs.Step.{Drive, Request, lent, verdictOn, carriedOut, step, Feasible, CarriedOut, declined, responseOf, Answered, Served}
+use Rattle.drive.specs.Step.{Drive, Request, lent, verdictOn, carriedOut, step, Feasible, CarriedOut, declined, responseOf, Answered, AnsweredByChange}
 use Rattle.drive.proofs.Laws.Bytes.{splice-nil}
 
 -- the lower layer's laws of a decision hold of the verdict: it is a link refusal or what the disc decides
@@ -164,11 +164,11 @@ verdict-answered s q v r medium pending buffer same out =
     }
 
 -- a decision carried out is served
-pub decided-served :
+pub decision-served :
     (s : Drive) (q : Request) (d : Decision) (r : Outcome) (medium pending buffer : List ℕ) → decided (s .disc) d ≡ verdictOn s q
-    → CarriedOut d (q .payload) (s .medium) (s .pending) (q .buffer) r medium pending buffer → Served s q r medium pending buffer
+    → CarriedOut d (q .payload) (s .medium) (s .pending) (q .buffer) r medium pending buffer → AnsweredByChange s q r medium pending buffer
 unfolding decided carriedOut
-decided-served s q d r medium pending buffer same out =
+decision-served s q d r medium pending buffer same out =
     verdict-answered s q (decided (s .disc) d) (responseOf (s .disc) r) medium pending buffer same
     (record {
       responds = ap (responseOf (s .disc)) (out .responds);
@@ -180,7 +180,7 @@ decided-served s q d r medium pending buffer same out =
 -- a link refusal leaves every buffer as it is
 pub declined-served :
     (s : Drive) (q : Request) (x : LinkRefusal) (r : Outcome) → refuseLink (s .disc) x ≡ verdictOn s q → r ≡ declined (s .disc .sense) x
-    → Served s q r (s .medium) (s .pending) (q .buffer)
+    → AnsweredByChange s q r (s .medium) (s .pending) (q .buffer)
 unfolding carriedOut refuseLink sentBytes movedMedium movedPending transferredMedium transferredPending flushedMedium flushedPending changed affected
 declined-served s q x r same e =
     verdict-answered s q (refuseLink (s .disc) x) (responseOf (s .disc) r) (s .medium) (s .pending) (q .buffer) same

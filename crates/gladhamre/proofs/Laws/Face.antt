@@ -12,7 +12,7 @@ use Rattle.disc.specs.Blank.{inRange, Blanked}
 use Rattle.fragments.proofs.Laws.Bool.{and-left, and-right, and-both, by-cases}
 use Rattle.disc.specs.Judge.{judge, judgeCommand}
 use Rattle.disc.specs.Sound.{allowedState}
-use Rattle.drive.specs.Step.{drive, Request, lent, declined, responseOf, Answered, Served}
+use Rattle.drive.specs.Step.{drive, Request, lent, declined, responseOf, Answered, AnsweredByChange}
 use Rattle.drive.proofs.Laws.Step.{verdict-judge, declined-served}
 use Rattle.gladhamre.specs.Types.{Blank, Response, LinkRefusal, CommandBlockLength, MediumSize, UnsoundState, Link, Unsound}
 use Rattle.gladhamre.specs.Image.{imageLength, word, encode, decode, isState}
@@ -120,7 +120,7 @@ module _ (l : Lent) (q : Request) where
       -- words that are not taken: no state's, or L3 of the entry
       unsound-served :
           length (l .state) ≡ imageLength → allowedState (decode (l .state)) ≡ false
-          → Served (drive (decode (l .state)) (l .medium) (l .pending)) q (declined (decode (l .state) .sense) UnsoundState) (l .medium) (l .pending) (q .buffer)
+          → AnsweredByChange (drive (decode (l .state)) (l .medium) (l .pending)) q (declined (decode (l .state) .sense) UnsoundState) (l .medium) (l .pending) (q .buffer)
       unfolding judge judgeCommand decode
       unsound-served whole a =
           let w = l .state in

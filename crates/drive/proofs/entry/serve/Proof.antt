@@ -3,7 +3,7 @@ use mathlib.Core.Bool.{true, false}
 use lib.ListN.{length}
 use Rattle.drive.specs.Types.{CommandBlockLength, MediumSize}
 use Rattle.drive.specs.Step.{drive, request, lent}
-use Rattle.drive.proofs.Laws.Step.{verdict-block, verdict-lent, verdict-judge, decided-feasible, decided-served, declined-served}
+use Rattle.drive.proofs.Laws.Step.{verdict-block, verdict-lent, verdict-judge, decided-feasible, decision-served, declined-served}
 use mathlib.Core.Path.{_≡_, sym, _∙_}
 use borrow.Author.Needs.{needs}
 use Rattle.drive.proofs.entry.serve.Statement.{statement}
@@ -56,7 +56,7 @@ returns-3 c =
     let q = request (c .before .before .before .before .before .before .before .before .before .before .before .before .before .before .before .before .before .before .before .before .args .cdb .now) (c .before .before .before .before .before .before .before .before .before .before .before .before .before .before .before .before .before .before .before .before .args .«data» .now) (c .before .before .before .before .before .before .before .before .before .before .before .before .before .before .before .before .before .before .before .before .args .reply .now) in
     let l : lent (s .disc) (length (s .medium)) (length (s .pending)) ≡ true = sym (c .before .before .before .before .before .before .before .before .before .before .before .before .is-lent .ensures) ∙ not-false _ (c .before .before .before .before .before .before .before .before .before .before .before .if2 .left) in
     let same = c .before .before .before .before .before .before .before .before .before .before .decide .ensures .verdict ∙ verdict-judge s q (c .before .before .before .before .before .before .before .before .before .before .before .before .before .if1 .left) l in
-    decided-served s q (c .before .before .before .before .before .before .before .before .before .before .decide .result) (c .before .before .before .before .before .before .carry-out .result) (c .before .before .before .before .before .before .carry-out .last .1 .1 .0) (c .before .before .before .before .before .before .carry-out .last .1 .1 .1 .0) (c .before .before .before .before .before .before .carry-out .last .1 .1 .1 .1 .0) same (c .before .before .before .before .before .before .carry-out .ensures)
+    decision-served s q (c .before .before .before .before .before .before .before .before .before .before .decide .result) (c .before .before .before .before .before .before .carry-out .result) (c .before .before .before .before .before .before .carry-out .last .1 .1 .0) (c .before .before .before .before .before .before .carry-out .last .1 .1 .1 .0) (c .before .before .before .before .before .before .carry-out .last .1 .1 .1 .1 .0) same (c .before .before .before .before .before .before .carry-out .ensures)
 
 pub serve-spec : {M : Type 1} → statement M
 serve-spec =

@@ -8,7 +8,7 @@ use Rattle.disc.specs.Records.{numbered}
 use Rattle.disc.proofs.Laws.Flush.{used-limit, flush-ready, flush-sound}
 use Rattle.disc.proofs.Laws.Verdict.{accept-count}
 use Rattle.disc.proofs.Laws.Close.{shorten-count}
-use Rattle.disc.proofs.Laws.Decision.{decided-accepted, affected-shortened}
+use Rattle.disc.proofs.Laws.Decision.{accepted-verdict, affected-shortened}
 use mathlib.Core.Path.{sym, _∙_, ap}
 use native.Mathlib.Omega.{arith}
 use borrow.Author.Needs.{needs}
@@ -43,7 +43,7 @@ returns c =
     let f = c .before .before .before .before .before .before .before .pre .1 .1 .1 in
     let u = c .before .before .before .before .before .before .before .pre .1 .1 .0 in
     let g = shortenedRecord (numbered (flush d) n) in
-    rw (c .accepted .ensures, decided-accepted, c .before .none .ensures, c .before .before .tail-after .ensures, c .before .before .before .new2 .ensures, c .before .before .before .before .before .shortened .ensures, c .before .before .before .before .before .before .new .ensures, f, first)
+    rw (c .accepted .ensures, accepted-verdict, c .before .none .ensures, c .before .before .tail-after .ensures, c .before .before .before .new2 .ensures, c .before .before .before .before .before .shortened .ensures, c .before .before .before .before .before .before .new .ensures, f, first)
     (ap (λ x. accepted x (flushCount d) noReply (plan (flushPlan d) Nothing)) (affected-shortened d n g r (omega (arith, u, flush-sound d r .some)) (omega (arith, u, used-limit (flush d) (flush-ready d r))))
     ∙ sym (accept-count d _ _ _ _ (shorten-count d n r u)))
 

@@ -5,7 +5,7 @@ use Rattle.disc.specs.Close.{closeFragment}
 use Rattle.disc.proofs.Laws.Records.{listed-number}
 use Rattle.disc.proofs.Laws.Flush.{used-limit, flush-used, flush-sound}
 use Rattle.disc.proofs.Laws.Close.{close-blank, close-complete, close-incomplete, appended-last}
-use Rattle.disc.proofs.Laws.Decision.{decided-refused, flush-numbered}
+use Rattle.disc.proofs.Laws.Decision.{refused-verdict, flush-numbered}
 use mathlib.Core.Path.{sym, _∙_}
 use native.Mathlib.Omega.{arith}
 use borrow.Author.Needs.{needs}
@@ -20,7 +20,7 @@ refused-requires c κs = search needs
 
 returns : tie.Need-returns
 unfolding closeFragment
-returns c = rw (c .refused .ensures, decided-refused, ← c .before .before .is-listed .ensures, c .before .if1 .taken)
+returns c = rw (c .refused .ensures, refused-verdict, ← c .before .before .is-listed .ensures, c .before .if1 .taken)
 
 numbered-requires : tie.Need-numbered-requires
 numbered-requires c κs =
@@ -44,7 +44,7 @@ returns-2 c =
     let r = c .before .before .before .before .before .before .pre in
     let li = sym (c .before .before .before .before .before .is-listed .ensures) ∙ not-false _ (c .before .before .before .before .if1 .left) in
     let l = listed-number d n li in
-    rw (c .refused2 .ensures, decided-refused) (sym (close-blank d n li (rw (c .before .before .before .numbered .ensures) at (sym (c .before .before .is-blank .ensures) ∙ c .before .if2 .taken))))
+    rw (c .refused2 .ensures, refused-verdict) (sym (close-blank d n li (rw (c .before .before .before .numbered .ensures) at (sym (c .before .before .is-blank .ensures) ∙ c .before .if2 .taken))))
 
 flushing-requires : tie.Need-flushing-requires
 flushing-requires c κs = search needs

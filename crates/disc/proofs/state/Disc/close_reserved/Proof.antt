@@ -11,7 +11,7 @@ use Rattle.disc.proofs.Laws.Flush.{numbers, flush-ready}
 use Rattle.disc.proofs.Laws.Verdict.{accept-count}
 use Rattle.disc.proofs.Laws.Write.{flush-count-most}
 use Rattle.disc.proofs.Laws.Close.{fill-count}
-use Rattle.disc.proofs.Laws.Decision.{decided-accepted, affected-filled}
+use Rattle.disc.proofs.Laws.Decision.{accepted-verdict, affected-filled}
 use mathlib.Core.Path.{sym, _∙_, ap}
 use native.Mathlib.Omega.{arith}
 use borrow.Author.Needs.{needs}
@@ -83,7 +83,7 @@ returns c =
     let f = c .before .before .before .before .before .before .before .before .before .before .pre .1 .1 .1 in
     let m = numbers (flush d) n (flush-ready d r) (c .before .before .before .before .before .before .before .before .before .before .pre .1 .1 .0 .0) (c .before .before .before .before .before .before .before .before .before .before .pre .1 .1 .0 .1) in
     let g = numbered (flush d) n in
-    rw (c .accepted .ensures, decided-accepted, c .before .none2 .ensures, c .before .before .before .none .ensures, c .before .before .before .before .new2 .ensures, c .before .before .before .before .before .filled .ensures, c .before .before .before .before .before .before .before .new .ensures, c .before .before .before .before .before .before .before .before .first-unrecorded .ensures, f, first)
+    rw (c .accepted .ensures, accepted-verdict, c .before .none2 .ensures, c .before .before .before .none .ensures, c .before .before .before .before .new2 .ensures, c .before .before .before .before .before .filled .ensures, c .before .before .before .before .before .before .before .new .ensures, c .before .before .before .before .before .before .before .before .first-unrecorded .ensures, f, first)
     (ap (λ x. accepted x (flushCount d + (g .length - g .recorded)) noReply (plan (flushPlan d) (Fill (firstUnrecorded g) (g .length - g .recorded)))) (affected-filled d n (filledRecord g) r (c .before .before .before .before .before .before .before .before .before .before .pre .1 .1 .0 .0))
     ∙ sym (accept-count d _ _ _ _ (fill-count d n r (c .before .before .before .before .before .before .before .before .before .before .pre .1 .1 .0 .0) (c .before .before .before .before .before .before .before .before .before .before .pre .1 .1 .0 .1))))
 

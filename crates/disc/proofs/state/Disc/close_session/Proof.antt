@@ -9,7 +9,7 @@ use Rattle.fragments.specs.List.{limit}
 use Rattle.disc.specs.Records.{used}
 use Rattle.disc.proofs.Laws.Flush.{flush-sound, flush-pending}
 use Rattle.disc.proofs.Laws.Session.{kept, kept-few, session-idle, session-incomplete, session-full, session-past, session-done}
-use Rattle.disc.proofs.Laws.Decision.{decided-refused, decided-accepted, decided-unchanged, affected-session}
+use Rattle.disc.proofs.Laws.Decision.{refused-verdict, accepted-verdict, unchanged-verdict, affected-session}
 use mathlib.Core.Path.{_≡_, sym, _∙_, ap}
 use native.Mathlib.Omega.{arith}
 use borrow.Author.Needs.{needs}
@@ -26,7 +26,7 @@ unchanged-requires : tie.Need-unchanged-requires
 unchanged-requires c κs = search needs
 
 returns : tie.Need-returns
-returns c = rw (c .unchanged .ensures, c .before .none .ensures, decided-unchanged) (sym (session-idle (c .before .before .before .before .before .args .self) (rw (c .before .before .before .before .blank-tail-only .ensures) at (c .before .before .if1 .taken))))
+returns c = rw (c .unchanged .ensures, c .before .none .ensures, unchanged-verdict) (sym (session-idle (c .before .before .before .before .before .args .self) (rw (c .before .before .before .before .blank-tail-only .ensures) at (c .before .before .if1 .taken))))
 
 flushing-requires : tie.Need-flushing-requires
 flushing-requires c κs = search needs
@@ -45,7 +45,7 @@ returns-2 c =
     let d = c .before .before .before .before .before .before .before .before .args .self in
     let fe = ap (λ x. x .entry) (c .before .before .before .before .flushing .ensures) in
     let h = rw (c .before .before .before .before .before .before .before .blank-tail-only .ensures) at (c .before .before .before .before .before .if1 .left) in
-    rw (c .refused .ensures, decided-refused) (sym (session-incomplete d h (sym (c .before .before .stays-incomplete .ensures) ∙ c .before .if2 .taken)))
+    rw (c .refused .ensures, refused-verdict) (sym (session-incomplete d h (sym (c .before .before .stays-incomplete .ensures) ∙ c .before .if2 .taken)))
 
 last-flushed-requires : tie.Need-last-flushed-requires
 last-flushed-requires c κs =
@@ -69,7 +69,7 @@ returns-3 c =
     let h = rw (c .before .before .before .before .before .before .before .before .before .before .before .blank-tail-only .ensures) at (c .before .before .before .before .before .before .before .before .before .if1 .left) in
     let i = sym (c .before .before .before .before .before .before .stays-incomplete .ensures) ∙ c .before .before .before .before .before .if2 .left in
     let l = c .before .before .before .last-kept .ensures in
-    rw (c .refused2 .ensures, decided-refused) (sym (session-full d h i (sym (ap (λ x. x .number) l) ∙ c .before .if3 .taken)))
+    rw (c .refused2 .ensures, refused-verdict) (sym (session-full d h i (sym (ap (λ x. x .number) l) ∙ c .before .if3 .taken)))
 
 next-session-start-requires : tie.Need-next-session-start-requires
 next-session-start-requires c κs = search needs
@@ -92,7 +92,7 @@ returns-4 c =
     let l = c .before .before .before .before .before .before .before .before .last-kept .ensures in
     let u : used (closeTail (flush d)) ≡ limit → ⊥ = λ e. c .before .before .before .before .before .before .if3 .left (ap (λ x. x .number) l ∙ e) in
     let n = wide-number (rw l at (c .before .before .before .before .next-session-start .ensures)) in
-    rw (c .refused3 .ensures, decided-refused) (sym (session-past d h i u (rw n at (c .before .if4 .taken))))
+    rw (c .refused3 .ensures, refused-verdict) (sym (session-past d h i u (rw n at (c .before .if4 .taken))))
 
 add-tail-from : tie.Need-add-tail-from
 add-tail-from c =
@@ -125,7 +125,7 @@ returns-5 c =
     let l = c .before .before .before .before .before .before .before .before .before .before .before .before .last-kept .ensures in
     let u : used (closeTail (flush d)) ≡ limit → ⊥ = λ e. c .before .before .before .before .before .before .before .before .before .before .if3 .left (ap (λ x. x .number) l ∙ e) in
     let n = wide-number (rw l at (c .before .before .before .before .before .before .before .before .next-session-start .ensures)) in
-    rw (c .close-last .ensures, decided-accepted, c .before .new .ensures, c .before .before .before .before .before .before .before .before .before .before .before .before .before .last-flushed .ensures, c .before .before .before .before .before .before .before .before .before .before .before .before .before .before .before .before .before .flushing .ensures)
+    rw (c .close-last .ensures, accepted-verdict, c .before .new .ensures, c .before .before .before .before .before .before .before .before .before .before .before .before .before .last-flushed .ensures, c .before .before .before .before .before .before .before .before .before .before .before .before .before .before .before .before .before .flushing .ensures)
     (ap (λ x. accepted x (flushCount d) noReply (plan (flushPlan d) Nothing)) (affected-session d (c .before .before .before .before .before .before .before .before .before .before .before .before .before .before .before .before .before .before .before .before .before .pre) _ _ (ap (λ x. x .number) l) (rw (c .before .before .before .before .before .before .before .before .next-session-start .ensures, l) at (c .before .before .before .tail-from .ensures)))
     ∙ sym (session-done d h i u (c .before .before .before .before .before .before .before .before .before .before .before .before .before .before .before .before .before .before .before .before .before .pre) (rw n at (c .before .before .before .before .before .if4 .left))))
 

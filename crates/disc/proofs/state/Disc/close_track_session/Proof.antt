@@ -1,6 +1,6 @@
 use borrow.Author.Tests.{ne-eqb}
 use Rattle.disc.specs.Close.{close}
-use Rattle.disc.proofs.Laws.Decision.{decided-refused}
+use Rattle.disc.proofs.Laws.Decision.{refused-verdict}
 use borrow.Author.Needs.{needs}
 use Rattle.disc.proofs.state.Disc.close_track_session.Statement.{statement}
 use Rattle.disc.proofs.state.Disc.close_track_session.Tie as tie
@@ -31,7 +31,7 @@ returns-3 c = rw (c .finalize .ensures, c .before .match .keys3)
 
 returns-4 : tie.Need-returns-4
 unfolding close
-returns-4 c = rw (c .refused .ensures, decided-refused, ne-eqb _ _ (c .before .match .rest .0 .0 .1), ne-eqb _ _ (c .before .match .rest .0 .1), ne-eqb _ _ (c .before .match .rest .1))
+returns-4 c = rw (c .refused .ensures, refused-verdict, ne-eqb _ _ (c .before .match .rest .0 .0 .1), ne-eqb _ _ (c .before .match .rest .0 .1), ne-eqb _ _ (c .before .match .rest .1))
 
 pub close-track-session-spec : {M : Type 1} → statement M
 close-track-session-spec =

@@ -1,7 +1,7 @@
 use borrow.Author.Tests.{eq-eqb, ne-eqb, not-false}
 use Rattle.disc.specs.Judge.{judge, judgeCommand}
 use Rattle.disc.proofs.Laws.Judge.{judged, allowed-ready}
-use Rattle.disc.proofs.Laws.Decision.{decided-link}
+use Rattle.disc.proofs.Laws.Decision.{link-verdict}
 use borrow.Author.Needs.{needs}
 use mathlib.Core.Path.{sym, _∙_}
 use Rattle.disc.proofs.state.Disc.decide.Statement.{statement}
@@ -12,7 +12,7 @@ refused-link-requires c κs = search needs
 
 returns : tie.Need-returns
 unfolding judge
-returns c = judged _ _ _ _ _ (rw (c .refused-link .ensures, decided-link, ne-eqb _ _ (c .before .if1 .taken)))
+returns c = judged _ _ _ _ _ (rw (c .refused-link .ensures, link-verdict, ne-eqb _ _ (c .before .if1 .taken)))
 
 decode-requires : tie.Need-decode-requires
 decode-requires c κs = search needs
@@ -25,7 +25,7 @@ refused-link-requires-2 c κs = search needs
 
 returns-2 : tie.Need-returns-2
 unfolding judge judgeCommand
-returns-2 c = judged _ _ _ _ _ (simp (c .refused-link2 .ensures, decided-link, c .before .if2 .taken, ← c .before .before .in-range .ensures, eq-eqb _ _ (c .before .before .before .before .if1 .left)))
+returns-2 c = judged _ _ _ _ _ (simp (c .refused-link2 .ensures, link-verdict, c .before .if2 .taken, ← c .before .before .in-range .ensures, eq-eqb _ _ (c .before .before .before .before .if1 .left)))
 
 is-allowed-requires : tie.Need-is-allowed-requires
 is-allowed-requires c κs = search needs
@@ -35,7 +35,7 @@ refused-link-requires-3 c κs = search needs
 
 returns-3 : tie.Need-returns-3
 unfolding judge judgeCommand
-returns-3 c = judged _ _ _ _ _ (simp (c .refused-link3 .ensures, decided-link, c .before .if3 .taken, ← c .before .before .is-allowed .ensures, c .before .before .before .if2 .left, ← c .before .before .before .before .in-range .ensures, eq-eqb _ _ (c .before .before .before .before .before .before .if1 .left)))
+returns-3 c = judged _ _ _ _ _ (simp (c .refused-link3 .ensures, link-verdict, c .before .if3 .taken, ← c .before .before .is-allowed .ensures, c .before .before .before .if2 .left, ← c .before .before .before .before .in-range .ensures, eq-eqb _ _ (c .before .before .before .before .before .before .if1 .left)))
 
 lengths-fit-requires : tie.Need-lengths-fit-requires
 lengths-fit-requires c κs = search needs
@@ -45,7 +45,7 @@ refused-link-requires-4 c κs = search needs
 
 returns-4 : tie.Need-returns-4
 unfolding judge judgeCommand
-returns-4 c = judged _ _ _ _ _ (simp (c .refused-link4 .ensures, decided-link, c .before .if4 .taken, ← c .before .before .before .before .before .before .before .decode .ensures, ← c .before .before .lengths-fit .ensures, c .before .before .before .if3 .left, ← c .before .before .before .before .is-allowed .ensures, c .before .before .before .before .before .if2 .left, ← c .before .before .before .before .before .before .in-range .ensures, eq-eqb _ _ (c .before .before .before .before .before .before .before .before .if1 .left)))
+returns-4 c = judged _ _ _ _ _ (simp (c .refused-link4 .ensures, link-verdict, c .before .if4 .taken, ← c .before .before .before .before .before .before .before .decode .ensures, ← c .before .before .lengths-fit .ensures, c .before .before .before .if3 .left, ← c .before .before .before .before .is-allowed .ensures, c .before .before .before .before .before .if2 .left, ← c .before .before .before .before .before .before .in-range .ensures, eq-eqb _ _ (c .before .before .before .before .before .before .before .before .if1 .left)))
 
 perform-requires : tie.Need-perform-requires
 perform-requires c κs = allowed-ready (c .before .before .before .before .before .before .before .before .before .before .args .self) (sym (c .before .before .before .before .before .in-range .ensures) ∙ not-false _ (c .before .before .before .before .if2 .left)) (sym (c .before .before .before .is-allowed .ensures) ∙ not-false _ (c .before .before .if3 .left))

@@ -5,7 +5,7 @@ use Rattle.protocol.specs.Reply.{noReply}
 use Rattle.disc.specs.Flush.{flushPlan, flushCount}
 use Rattle.disc.specs.Close.{closingLast}
 use Rattle.disc.proofs.Laws.Session.{finalize-idle, finalize-incomplete, finalize-blank, finalize-done}
-use Rattle.disc.proofs.Laws.Decision.{decided-refused, decided-accepted, decided-unchanged, affected-finalized}
+use Rattle.disc.proofs.Laws.Decision.{refused-verdict, accepted-verdict, unchanged-verdict, affected-finalized}
 use mathlib.Core.Path.{sym, _∙_, ap}
 use borrow.Author.Needs.{needs}
 use Rattle.disc.proofs.state.Disc.finalize.Statement.{statement}
@@ -18,7 +18,7 @@ unchanged-requires : tie.Need-unchanged-requires
 unchanged-requires c κs = search needs
 
 returns : tie.Need-returns
-returns c = rw (c .unchanged .ensures, c .before .none .ensures, decided-unchanged) (sym (finalize-idle (c .before .before .before .args .self) (c .before .before .if1 .taken)))
+returns c = rw (c .unchanged .ensures, c .before .none .ensures, unchanged-verdict) (sym (finalize-idle (c .before .before .before .args .self) (c .before .before .if1 .taken)))
 
 flushing-requires : tie.Need-flushing-requires
 flushing-requires c κs = search needs
@@ -33,7 +33,7 @@ refused-requires : tie.Need-refused-requires
 refused-requires c κs = search needs
 
 returns-2 : tie.Need-returns-2
-returns-2 c = rw (c .refused .ensures, decided-refused) (sym (finalize-incomplete (c .before .before .before .before .before .before .args .self) (c .before .before .before .before .before .if1 .left) (sym (c .before .before .stays-incomplete .ensures) ∙ c .before .if2 .taken)))
+returns-2 c = rw (c .refused .ensures, refused-verdict) (sym (finalize-incomplete (c .before .before .before .before .before .before .args .self) (c .before .before .before .before .before .if1 .left) (sym (c .before .before .stays-incomplete .ensures) ∙ c .before .if2 .taken)))
 
 is-blank-disc-requires : tie.Need-is-blank-disc-requires
 is-blank-disc-requires c κs = search needs
@@ -42,7 +42,7 @@ refused-requires-2 : tie.Need-refused-requires-2
 refused-requires-2 c κs = search needs
 
 returns-3 : tie.Need-returns-3
-returns-3 c = rw (c .refused2 .ensures, decided-refused) (sym (finalize-blank (c .before .before .before .before .before .before .before .before .args .self) (c .before .before .before .before .before .before .before .if1 .left) (sym (c .before .before .before .before .stays-incomplete .ensures) ∙ c .before .before .before .if2 .left) (sym (c .before .before .is-blank-disc .ensures) ∙ c .before .if3 .taken)))
+returns-3 c = rw (c .refused2 .ensures, refused-verdict) (sym (finalize-blank (c .before .before .before .before .before .before .before .before .args .self) (c .before .before .before .before .before .before .before .if1 .left) (sym (c .before .before .before .before .stays-incomplete .ensures) ∙ c .before .before .before .if2 .left) (sym (c .before .before .is-blank-disc .ensures) ∙ c .before .if3 .taken)))
 
 last-flushed-requires : tie.Need-last-flushed-requires
 last-flushed-requires c κs =
@@ -60,7 +60,7 @@ returns-4 : tie.Need-returns-4
 unfolding closingLast
 returns-4 c =
     let d = c .before .before .before .before .before .before .before .before .before .before .args .self in
-    rw (c .close-last .ensures, decided-accepted, c .before .none2 .ensures, c .before .before .last-flushed .ensures, c .before .before .before .before .before .before .before .before .flushing .ensures)
+    rw (c .close-last .ensures, accepted-verdict, c .before .none2 .ensures, c .before .before .last-flushed .ensures, c .before .before .before .before .before .before .before .before .flushing .ensures)
     (ap (λ x. accepted x (flushCount d) noReply (plan (flushPlan d) Nothing)) (affected-finalized d (c .before .before .before .before .before .before .before .before .before .before .pre))
     ∙ sym (finalize-done d (c .before .before .before .before .before .before .before .before .before .if1 .left) (sym (c .before .before .before .before .before .before .stays-incomplete .ensures) ∙ c .before .before .before .before .before .if2 .left) (c .before .before .before .before .before .before .before .before .before .before .pre) (sym (c .before .before .before .before .is-blank-disc .ensures) ∙ c .before .before .before .if3 .left)))
 

@@ -1,4 +1,4 @@
-use Rattle.disc.proofs.Laws.Decision.{decided-refused, decided-unchanged}
+use Rattle.disc.proofs.Laws.Decision.{refused-verdict, unchanged-verdict}
 use Rattle.disc.specs.Judge.{perform, testUnitReady}
 use borrow.Author.Needs.{needs}
 use Rattle.disc.proofs.state.Disc.perform.Statement.{statement}
@@ -78,7 +78,7 @@ refused-requires c κs = search needs
 
 returns : tie.Need-returns
 unfolding perform testUnitReady
-returns c = simp (c .unchanged .ensures, decided-unchanged, c .before .none .ensures, c .before .before .enum-told .given .1)
+returns c = simp (c .unchanged .ensures, unchanged-verdict, c .before .none .ensures, c .before .before .enum-told .given .1)
 
 returns-2 : tie.Need-returns-2
 unfolding perform testUnitReady
@@ -118,7 +118,7 @@ returns-10 c = simp (c .read-track-information .ensures, c .before .before .comm
 
 returns-11 : tie.Need-returns-11
 unfolding perform testUnitReady
-returns-11 c = simp (c .refused .ensures, decided-refused, c .before .enum-told4 .given .1)
+returns-11 c = simp (c .refused .ensures, refused-verdict, c .before .enum-told4 .given .1)
 
 pub perform-spec : {M : Type 1} → statement M
 perform-spec =

@@ -1,4 +1,4 @@
-use Rattle.disc.proofs.Laws.Decision.{decided-refused, decided-unchanged}
+use Rattle.disc.proofs.Laws.Decision.{refused-verdict, unchanged-verdict}
 use mathlib.Core.Bool.{true, false}
 use Rattle.disc.specs.Read.{allReadable, read}
 use borrow.Author.Tests.{eq-eqb, ne-eqb}
@@ -18,7 +18,7 @@ unchanged-requires c κs = search needs
 
 returns : tie.Need-returns
 unfolding read
-returns c = simp (c .unchanged .ensures, decided-unchanged, c .before .none .ensures, eq-eqb _ _ (c .before .before .if1 .taken))
+returns c = simp (c .unchanged .ensures, unchanged-verdict, c .before .none .ensures, eq-eqb _ _ (c .before .before .if1 .taken))
 
 first-sector-requires : tie.Need-first-sector-requires
 first-sector-requires c κs = search needs
@@ -31,7 +31,7 @@ refused-requires c κs = search needs
 
 returns-2 : tie.Need-returns-2
 unfolding read
-returns-2 c = simp (c .refused .ensures, decided-refused, c .before .if2 .taken, ← (rw (c .before .before .before .first-sector .ensures) at (c .before .before .passes .ensures)), ne-eqb _ _ (c .before .before .before .before .if1 .left))
+returns-2 c = simp (c .refused .ensures, refused-verdict, c .before .if2 .taken, ← (rw (c .before .before .before .first-sector .ensures) at (c .before .before .passes .ensures)), ne-eqb _ _ (c .before .before .before .before .if1 .left))
 
 holds-run-requires : tie.Need-holds-run-requires
 holds-run-requires c κs = search needs
@@ -52,7 +52,7 @@ returns-3 c =
     let some-sectors = c .before .before .before .before .before .before .before .if1 .left in
     let r : allReadable d a n ≡ true =
     sym (run-test d (sound-rules d (start .pre .sound)) a n (omega arith)) ∙ sym (c .before .before .before .holds-run .ensures) ∙ c .before .before .if3 .taken in
-    simp (c .accepted .ensures, decided-unchanged, c .before .none2 .ensures, r, c .before .before .before .before .if2 .left, ← (rw (c .before .before .before .before .before .before .first-sector .ensures) at (c .before .before .before .before .before .passes .ensures)), ne-eqb _ _ some-sectors)
+    simp (c .accepted .ensures, unchanged-verdict, c .before .none2 .ensures, r, c .before .before .before .before .if2 .left, ← (rw (c .before .before .before .before .before .before .first-sector .ensures) at (c .before .before .before .before .before .passes .ensures)), ne-eqb _ _ some-sectors)
 
 refused-requires-2 : tie.Need-refused-requires-2
 refused-requires-2 c κs = search needs
@@ -67,7 +67,7 @@ returns-4 c =
     let some-sectors = c .before .before .before .before .before .before .if1 .left in
     let r : allReadable d a n ≡ false =
     sym (run-test d (sound-rules d (start .pre .sound)) a n (omega arith)) ∙ sym (c .before .before .holds-run .ensures) ∙ c .before .if3 .left in
-    simp (c .refused2 .ensures, decided-refused, r, c .before .before .before .if2 .left, ← (rw (c .before .before .before .before .before .first-sector .ensures) at (c .before .before .before .before .passes .ensures)), ne-eqb _ _ some-sectors)
+    simp (c .refused2 .ensures, refused-verdict, r, c .before .before .before .if2 .left, ← (rw (c .before .before .before .before .before .first-sector .ensures) at (c .before .before .before .before .passes .ensures)), ne-eqb _ _ some-sectors)
 
 pub read-spec : {M : Type 1} → statement M
 read-spec =

@@ -1,4 +1,4 @@
-use Rattle.disc.proofs.Laws.Decision.{decided-unchanged}
+use Rattle.disc.proofs.Laws.Decision.{unchanged-verdict}
 use Rattle.disc.specs.Reports.{readCapacity}
 use borrow.Author.Needs.{needs}
 use Rattle.disc.proofs.state.Disc.read_capacity.Statement.{statement}
@@ -15,7 +15,7 @@ unchanged-requires c κs = search needs
 
 returns : tie.Need-returns
 unfolding readCapacity
-returns c = rw (c .unchanged .ensures, decided-unchanged, c .before .of-capacity .ensures, c .before .before .last-readable .ensures)
+returns c = rw (c .unchanged .ensures, unchanged-verdict, c .before .of-capacity .ensures, c .before .before .last-readable .ensures)
 
 pub read-capacity-spec : {M : Type 1} → statement M
 read-capacity-spec =

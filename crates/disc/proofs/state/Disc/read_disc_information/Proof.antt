@@ -1,4 +1,4 @@
-use Rattle.disc.proofs.Laws.Decision.{decided-refused, decided-unchanged}
+use Rattle.disc.proofs.Laws.Decision.{refused-verdict, unchanged-verdict}
 use borrow.Author.Tests.{eq-eqb, ne-eqb}
 use Rattle.disc.specs.Reports.{readDiscInformation}
 use borrow.Author.Needs.{needs}
@@ -16,14 +16,14 @@ unchanged-requires c κs = search needs
 
 returns : tie.Need-returns
 unfolding readDiscInformation
-returns c = simp (c .unchanged .ensures, decided-unchanged, c .before .of-disc .ensures, c .before .before .disc-report .ensures, eq-eqb _ _ (c .before .before .before .if1 .taken))
+returns c = simp (c .unchanged .ensures, unchanged-verdict, c .before .of-disc .ensures, c .before .before .disc-report .ensures, eq-eqb _ _ (c .before .before .before .if1 .taken))
 
 refused-requires : tie.Need-refused-requires
 refused-requires c κs = search needs
 
 returns-2 : tie.Need-returns-2
 unfolding readDiscInformation
-returns-2 c = simp (c .refused .ensures, decided-refused, ne-eqb _ _ (c .before .if1 .left))
+returns-2 c = simp (c .refused .ensures, refused-verdict, ne-eqb _ _ (c .before .if1 .left))
 
 pub read-disc-information-spec : {M : Type 1} → statement M
 read-disc-information-spec =

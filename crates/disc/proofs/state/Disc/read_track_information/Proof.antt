@@ -1,4 +1,4 @@
-use Rattle.disc.proofs.Laws.Decision.{decided-refused}
+use Rattle.disc.proofs.Laws.Decision.{refused-verdict}
 use Rattle.disc.specs.Reports.{readTrackInformation}
 use borrow.Author.Tests.{eq-eqb, ne-eqb}
 use borrow.Author.Needs.{needs}
@@ -24,7 +24,7 @@ refused-requires c κs = search needs
 
 returns-3 : tie.Need-returns-3
 unfolding readTrackInformation
-returns-3 c = simp (c .refused .ensures, decided-refused, ne-eqb _ _ (c .before .if2 .left), ne-eqb _ _ (c .before .before .if1 .left))
+returns-3 c = simp (c .refused .ensures, refused-verdict, ne-eqb _ _ (c .before .if2 .left), ne-eqb _ _ (c .before .before .if1 .left))
 
 pub read-track-information-spec : {M : Type 1} → statement M
 read-track-information-spec =

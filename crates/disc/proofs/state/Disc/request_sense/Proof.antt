@@ -1,4 +1,4 @@
-use Rattle.disc.proofs.Laws.Decision.{decided-unchanged}
+use Rattle.disc.proofs.Laws.Decision.{unchanged-verdict}
 use Rattle.disc.specs.Reports.{requestSense}
 use borrow.Author.Needs.{needs}
 use Rattle.disc.proofs.state.Disc.request_sense.Statement.{statement}
@@ -12,7 +12,7 @@ unchanged-requires c κs = search needs
 
 returns : tie.Need-returns
 unfolding requestSense
-returns c = rw (c .unchanged .ensures, decided-unchanged, c .before .of-sense .ensures)
+returns c = rw (c .unchanged .ensures, unchanged-verdict, c .before .of-sense .ensures)
 
 pub request-sense-spec : {M : Type 1} → statement M
 request-sense-spec = tie.close (tie.spec of-sense-requires unchanged-requires returns)

@@ -7,7 +7,7 @@ use Rattle.disc.specs.Records.{used}
 use Rattle.disc.proofs.Laws.Rules.{sound-rules}
 use Rattle.disc.proofs.Laws.Flush.{used-limit}
 use Rattle.disc.proofs.Laws.Reserve.{reserve-full, reserve-past, reserve-done}
-use Rattle.disc.proofs.Laws.Decision.{decided-refused, decided-accepted}
+use Rattle.disc.proofs.Laws.Decision.{refused-verdict, accepted-verdict}
 use mathlib.Core.Path.{_≡_, sym, _∙_, ap}
 use borrow.Author.Needs.{needs}
 use Rattle.disc.proofs.state.Disc.reserve_track.Statement.{statement}
@@ -18,14 +18,14 @@ refused-requires c κs = search needs
 
 returns : tie.Need-returns
 unfolding reserve
-returns c = simp (c .refused .ensures, decided-refused, c .before .if1 .taken)
+returns c = simp (c .refused .ensures, refused-verdict, c .before .if1 .taken)
 
 refused-requires-2 : tie.Need-refused-requires-2
 refused-requires-2 c κs = search needs
 
 returns-2 : tie.Need-returns-2
 unfolding reserve
-returns-2 c = simp (c .refused2 .ensures, decided-refused, eq-eqb _ _ (c .before .if2 .taken), c .before .before .if1 .left)
+returns-2 c = simp (c .refused2 .ensures, refused-verdict, eq-eqb _ _ (c .before .if2 .taken), c .before .before .if1 .left)
 
 has-blank-tail-requires : tie.Need-has-blank-tail-requires
 has-blank-tail-requires c κs = search needs
@@ -35,7 +35,7 @@ refused-requires-3 c κs = search needs
 
 returns-3 : tie.Need-returns-3
 unfolding reserve
-returns-3 c = simp (c .refused3 .ensures, decided-refused, c .before .if3 .taken, ← c .before .before .has-blank-tail .ensures, ne-eqb _ _ (c .before .before .before .if2 .left), c .before .before .before .before .if1 .left)
+returns-3 c = simp (c .refused3 .ensures, refused-verdict, c .before .if3 .taken, ← c .before .before .has-blank-tail .ensures, ne-eqb _ _ (c .before .before .before .if2 .left), c .before .before .before .before .if1 .left)
 
 last-requires : tie.Need-last-requires
 last-requires c κs = search needs
@@ -50,7 +50,7 @@ returns-4 c =
     let z = c .before .before .before .before .before .before .if2 .left in
     let b = sym (c .before .before .before .before .before .has-blank-tail .ensures) ∙ not-false _ (c .before .before .before .before .if3 .left) in
     let n = ap (λ l. l .number) (c .before .before .before .last .ensures) in
-    rw (c .refused4 .ensures, decided-refused) (sym (reserve-full d (c .before .before .before .before .before .before .before .before .args .size) f z b (sym n ∙ c .before .if4 .taken)))
+    rw (c .refused4 .ensures, refused-verdict) (sym (reserve-full d (c .before .before .before .before .before .before .before .before .args .size) f z b (sym n ∙ c .before .if4 .taken)))
 
 blocks-for-requires : tie.Need-blocks-for-requires
 blocks-for-requires c κs = search needs
@@ -76,7 +76,7 @@ returns-5 c =
     let n = ap (λ l. l .number) (c .before .before .before .before .before .before .before .before .before .last .ensures) in
     let u : used d ≡ limit → ⊥ = λ e. c .before .before .before .before .before .before .before .if4 .left (n ∙ e) in
     let k = wide-number (rw (c .before .before .before .before .reserved .ensures, c .before .before .before .before .before .before .before .before .before .last .ensures, c .before .before .before .before .before .before .blocks-for .ensures) at (c .before .before .before .next-start .ensures)) in
-    rw (c .refused5 .ensures, decided-refused) (sym (reserve-past d (c .before .before .before .before .before .before .before .before .before .before .before .before .before .before .args .size) f z b u (rw k at (c .before .if5 .taken))))
+    rw (c .refused5 .ensures, refused-verdict) (sym (reserve-past d (c .before .before .before .before .before .before .before .before .before .before .before .before .before .before .args .size) f z b u (rw k at (c .before .if5 .taken))))
 
 split-tail-requires : tie.Need-split-tail-requires
 split-tail-requires c κs =
@@ -111,7 +111,7 @@ returns-6 c =
     let n = ap (λ l. l .number) (c .before .before .before .before .before .before .before .before .before .before .before .before .last .ensures) in
     let u : used d ≡ limit → ⊥ = λ e. c .before .before .before .before .before .before .before .before .before .before .if4 .left (n ∙ e) in
     let k = wide-number (rw (c .before .before .before .before .before .before .before .reserved .ensures, c .before .before .before .before .before .before .before .before .before .before .before .before .last .ensures, c .before .before .before .before .before .before .before .before .before .blocks-for .ensures) at (c .before .before .before .before .before .before .next-start .ensures)) in
-    rw (c .accepted .ensures, decided-accepted, c .before .before .none .ensures, c .before .none2 .ensures, c .before .before .before .split-tail .ensures, c .before .before .before .before .before .before .before .before .before .blocks-for .ensures)
+    rw (c .accepted .ensures, accepted-verdict, c .before .before .none .ensures, c .before .none2 .ensures, c .before .before .before .split-tail .ensures, c .before .before .before .before .before .before .before .before .before .blocks-for .ensures)
     (sym (reserve-done d (c .before .before .before .before .before .before .before .before .before .before .before .before .before .before .before .before .before .args .size) f z b u (sound-rules d (c .before .before .before .before .before .before .before .before .before .before .before .before .before .before .before .before .before .pre .sound)) (rw k at (c .before .before .before .before .if5 .left))))
 
 pub reserve-track-spec : {M : Type 1} → statement M

@@ -1,4 +1,4 @@
-use Rattle.disc.proofs.Laws.Decision.{decided-refused}
+use Rattle.disc.proofs.Laws.Decision.{refused-verdict}
 use Rattle.disc.proofs.Laws.Reports.{address-number}
 use mathlib.Core.Path.{sym, _∙_}
 use Rattle.disc.specs.Reports.{trackFound}
@@ -29,7 +29,7 @@ returns c = simp (c .track-decision .ensures, c .before .before .found .given .1
 
 returns-2 : tie.Need-returns-2
 unfolding trackFound
-returns-2 c = simp (c .refused .ensures, decided-refused, c .before .enum-told .given .1, ← c .before .before .before .at-address .ensures)
+returns-2 c = simp (c .refused .ensures, refused-verdict, c .before .enum-told .given .1, ← c .before .before .before .at-address .ensures)
 
 pub track-at-spec : {M : Type 1} → statement M
 track-at-spec =

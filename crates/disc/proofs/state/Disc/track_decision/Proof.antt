@@ -1,5 +1,5 @@
 use Rattle.disc.specs.Reports.{trackVerdict}
-use Rattle.disc.proofs.Laws.Decision.{decided-unchanged}
+use Rattle.disc.proofs.Laws.Decision.{unchanged-verdict}
 use borrow.Author.Needs.{needs}
 use Rattle.disc.proofs.state.Disc.track_decision.Statement.{statement}
 use Rattle.disc.proofs.state.Disc.track_decision.Tie as tie
@@ -15,7 +15,7 @@ unchanged-requires c κs = search needs
 
 returns : tie.Need-returns
 unfolding trackVerdict
-returns c = rw (c .unchanged .ensures, decided-unchanged, c .before .of-track .ensures, c .before .before .track-report .ensures)
+returns c = rw (c .unchanged .ensures, unchanged-verdict, c .before .of-track .ensures, c .before .before .track-report .ensures)
 
 pub track-decision-spec : {M : Type 1} → statement M
 track-decision-spec =

@@ -1,4 +1,4 @@
-use Rattle.disc.proofs.Laws.Decision.{decided-refused}
+use Rattle.disc.proofs.Laws.Decision.{refused-verdict}
 use Rattle.disc.proofs.Laws.Records.{listed-number}
 use mathlib.Core.Bool.{true, false}
 use mathlib.Core.Path.{_≡_, sym, _∙_}
@@ -37,7 +37,7 @@ unfolding trackNumbered
 returns-2 c =
     let l = c .before .before .before .last .ensures in
     let t : hasTail (c .before .before .before .before .before .args .self) ≡ false = rw l at (sym (c .before .before .is-tail .ensures) ∙ c .before .if2 .left) in
-    rw (c .refused .ensures, decided-refused, eq-eqb _ _ (c .before .before .before .before .if1 .taken), t)
+    rw (c .refused .ensures, refused-verdict, eq-eqb _ _ (c .before .before .before .before .if1 .taken), t)
 
 is-listed-requires : tie.Need-is-listed-requires
 is-listed-requires c κs = search needs
@@ -56,7 +56,7 @@ refused-requires-2 c κs = search needs
 
 returns-4 : tie.Need-returns-4
 unfolding trackNumbered
-returns-4 c = simp (c .refused2 .ensures, decided-refused, c .before .if3 .left, ← c .before .before .is-listed .ensures, ne-eqb _ _ (c .before .before .before .if1 .left))
+returns-4 c = simp (c .refused2 .ensures, refused-verdict, c .before .if3 .left, ← c .before .before .is-listed .ensures, ne-eqb _ _ (c .before .before .before .if1 .left))
 
 pub track-numbered-spec : {M : Type 1} → statement M
 track-numbered-spec =

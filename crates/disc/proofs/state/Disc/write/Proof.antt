@@ -1,4 +1,4 @@
-use Rattle.disc.proofs.Laws.Decision.{decided-refused, decided-unchanged}
+use Rattle.disc.proofs.Laws.Decision.{refused-verdict, unchanged-verdict}
 use mathlib.Core.Path.{sym, _∙_}
 use Rattle.disc.proofs.Laws.Write.{writable-found}
 use Rattle.disc.specs.Verdict.{accept}
@@ -16,14 +16,14 @@ unchanged-requires c κs = search needs
 
 returns : tie.Need-returns
 unfolding write
-returns c = simp (c .unchanged .ensures, decided-unchanged, c .before .none .ensures, eq-eqb _ _ (c .before .before .if1 .taken))
+returns c = simp (c .unchanged .ensures, unchanged-verdict, c .before .none .ensures, eq-eqb _ _ (c .before .before .if1 .taken))
 
 refused-requires : tie.Need-refused-requires
 refused-requires c κs = search needs
 
 returns-2 : tie.Need-returns-2
 unfolding write writeFound accept
-returns-2 c = simp (c .refused .ensures, decided-refused, c .before .if2 .taken, ne-eqb _ _ (c .before .before .if1 .left))
+returns-2 c = simp (c .refused .ensures, refused-verdict, c .before .if2 .taken, ne-eqb _ _ (c .before .before .if1 .left))
 
 writable-at-requires : tie.Need-writable-at-requires
 writable-at-requires c κs = search needs
@@ -46,7 +46,7 @@ returns-3 c = simp (c .write-to .ensures, c .before .before .found .given .1, �
 
 returns-4 : tie.Need-returns-4
 unfolding write writeFound accept
-returns-4 c = simp (c .refused2 .ensures, decided-refused, c .before .enum-told .given .1, ← c .before .before .before .writable-at .ensures, c .before .before .before .before .if2 .left, ne-eqb _ _ (c .before .before .before .before .before .if1 .left))
+returns-4 c = simp (c .refused2 .ensures, refused-verdict, c .before .enum-told .given .1, ← c .before .before .before .writable-at .ensures, c .before .before .before .before .if2 .left, ne-eqb _ _ (c .before .before .before .before .before .if1 .left))
 
 pub write-spec : {M : Type 1} → statement M
 write-spec =

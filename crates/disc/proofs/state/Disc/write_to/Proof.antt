@@ -7,7 +7,7 @@ use Rattle.disc.specs.Verdict.{accept}
 use Rattle.fragments.specs.Address.{firstSector}
 use Rattle.fragments.specs.Fragment.{end}
 use Rattle.disc.proofs.Laws.Write.{place, fit, gathering, write-count, others-count-most}
-use Rattle.disc.proofs.Laws.Decision.{decided-refused, decided-accepted}
+use Rattle.disc.proofs.Laws.Decision.{refused-verdict, accepted-verdict}
 use mathlib.Core.Path.{sym, _∙_, ap}
 use native.Mathlib.Omega.{arith}
 use borrow.Author.Needs.{needs}
@@ -34,7 +34,7 @@ refused-requires c κs = search needs
 
 returns : tie.Need-returns
 unfolding writeTo
-returns c = rw (c .refused .ensures, decided-refused, (sym (c .before .before .passes .ensures ∙ ap (λ e. ltb (e .0) (c .before .before .before .before .before .args .address .0 + c .before .before .before .before .before .args .sectors)) (c .before .before .before .end-address .ensures ∙ ap (λ f. firstSector (end f)) (c .before .before .before .before .numbered .ensures))) ∙ c .before .if1 .taken))
+returns c = rw (c .refused .ensures, refused-verdict, (sym (c .before .before .passes .ensures ∙ ap (λ e. ltb (e .0) (c .before .before .before .before .before .args .address .0 + c .before .before .before .before .before .args .sectors)) (c .before .before .before .end-address .ensures ∙ ap (λ f. firstSector (end f)) (c .before .before .before .before .numbered .ensures))) ∙ c .before .if1 .taken))
 
 pending-in-requires : tie.Need-pending-in-requires
 pending-in-requires c κs = search needs
@@ -103,7 +103,7 @@ returns-2 c =
     let k = c .before .before .before .before .before .before .before .before .before .before .before .before .before .before .args .sectors in
     let p = place d a n (c .before .before .before .before .before .before .before .before .before .before .before .before .before .before .pre .0) (c .before .before .before .before .before .before .before .before .before .before .before .before .before .before .pre .1) in
     let h = ltb-false (firstSector (end (numbered d n)) .0) (a .0 + k) (sym (c .before .before .before .before .before .before .before .before .before .before .before .passes .ensures ∙ ap (λ e. ltb (e .0) (c .before .before .before .before .before .before .before .before .before .before .before .before .before .before .args .address .0 + c .before .before .before .before .before .before .before .before .before .before .before .before .before .before .args .sectors)) (c .before .before .before .before .before .before .before .before .before .before .before .before .end-address .ensures ∙ ap (λ f. firstSector (end f)) (c .before .before .before .before .before .before .before .before .before .before .before .before .before .numbered .ensures))) ∙ c .before .before .before .before .before .before .before .before .before .before .if1 .left) in
-    rw (c .accepted .ensures, decided-accepted, c .before .before .before .gather .ensures, c .before .none .ensures, c .before .before .before .before .before .new .ensures, c .before .before .before .before .before .before .flushing-others .ensures, c .before .before .before .before .before .before .before .whole-blocks .ensures, c .before .before .before .before .before .before .before .before .first-unrecorded .ensures, c .before .before .before .before .before .before .before .before .before .pending-in .ensures, c .before .before .before .before .before .before .before .before .before .before .before .before .before .numbered .ensures, le-ltb _ _ h, write-count d n k (c .before .before .before .before .before .before .before .before .before .before .before .before .before .before .pre .0) (c .before .before .before .before .before .before .before .before .before .before .before .before .before .before .pre .1 .from) (p .slot))
+    rw (c .accepted .ensures, accepted-verdict, c .before .before .before .gather .ensures, c .before .none .ensures, c .before .before .before .before .before .new .ensures, c .before .before .before .before .before .before .flushing-others .ensures, c .before .before .before .before .before .before .before .whole-blocks .ensures, c .before .before .before .before .before .before .before .before .first-unrecorded .ensures, c .before .before .before .before .before .before .before .before .before .pending-in .ensures, c .before .before .before .before .before .before .before .before .before .before .before .before .before .numbered .ensures, le-ltb _ _ h, write-count d n k (c .before .before .before .before .before .before .before .before .before .before .before .before .before .before .pre .0) (c .before .before .before .before .before .before .before .before .before .before .before .before .before .before .pre .1 .from) (p .slot))
 
 pub write-to-spec : {M : Type 1} → statement M
 write-to-spec =

@@ -1,4 +1,5 @@
--- What the simple promises of `disc` say on chosen inputs: the disc that is made of a capacity, and the tail's next writable address.
+-- What the simple promises of `disc` say on chosen inputs: the disc that is made of a capacity, the tail's next writable address, what is
+-- judged as asked, what the lower read serves.
 use Prim.Native.Nat.{ℕ, _-_}
 use mathlib.Core.Path.{_≡_, refl}
 use mathlib.Core.Bool.{Bool, true, false}
@@ -6,12 +7,15 @@ use mathlib.Core.List.{List, [], _∷_, _++_, map}
 use lib.ListN.{length, replicate}
 use Rattle.disc.specs.declared.state.TailNext.{TailNext}
 use Rattle.disc.specs.declared.state.TailNext.the-variants.{Address, NoTail}
-use Rattle.examples.specs.Types.{Disc, Fragment, Reserved, Appended}
-use Rattle.protocol.specs.Answer.{noSense, number}
+use Rattle.examples.specs.Types.{Disc, Fragment, Reserved, Appended, Verdict}
+use Rattle.protocol.specs.Answer.{noSense, number, isRefusalSense, allowedSense}
 use Rattle.fragments.specs.Fragment.{fragment, unusedRecord}
-use Rattle.fragments.specs.List.{limit, listed, sumRecorded}
+use Rattle.fragments.specs.List.{limit, listed, some, every, sumRecorded}
 use Rattle.disc.specs.Records.{used, lastRecord, tailNext}
 use Rattle.disc.specs.Blank.{blank, made}
+use Rattle.disc.specs.Sound.{usedFirst, firstAtZero, followsFrom, inOrder, endsWithin, recordedWithin, zeroedWithin, incompleteLast, tailLast, tailOrFull, pendingNamed, finalizedComplete, sound, allowedState}
+use Rattle.disc.specs.Judge.{judgeAsAsked, JudgedAsAsked}
+use Rattle.disc.specs.Run.{served}
 
 -- 256 to 143,444 blocks are a disc; a block less or more is L2
 pub capacities : map (λ c. number (made c .answer)) (255 ∷ 256 ∷ 143444 ∷ 143445 ∷ []) ≡ (2 ∷ 0 ∷ 0 ∷ 2 ∷ [])
@@ -58,3 +62,16 @@ pub tails :
     ≡ (48 ∷ 64 ∷ 69 ∷ 64 ∷ 0 ∷ [])
 unfolding listed
 tails = refl
+
+-- a command that is judged with what it asks for lent is judged as in document 01's worked example, which has no L4
+pub asked : (d : Disc) (b : List ℕ) (r : Verdict) → JudgedAsAsked d b r → r ≡ judgeAsAsked d b
+asked d b r j = j .verdict
+
+-- the lower read serves a command block of twelve bytes and a medium of exactly 300 blocks; not one sector more, a block less, a byte more
+pub mediums :
+    (served (blank 300) 12 9830400 ∷ served (blank 300) 12 9832448 ∷ served (blank 300) 12 9797632 ∷ served (blank 300) 13 9830400 ∷ [])
+    ≡ (true ∷ false ∷ false ∷ false ∷ [])
+unfolding
+    blank listed some every usedFirst firstAtZero followsFrom inOrder endsWithin recordedWithin zeroedWithin incompleteLast tailLast
+    tailOrFull pendingNamed finalizedComplete sound allowedState allowedSense isRefusalSense
+mediums = refl

@@ -1,4 +1,4 @@
--- Document 01's disc as definitions, one topic a file. A reader starts at Judge and follows the names.
+-- Document 01's disc as definitions, one topic a file. A reader starts at Records, the list, and Sound, its rules.
 pub mod Types
 pub mod Records
 pub mod Sound
@@ -7,13 +7,3 @@ pub mod Blank
 pub mod Ready
 pub mod Verdict
 pub mod Apply
-pub mod Flush
-pub mod Read
-pub mod Write
-pub mod Reserve
-pub mod Close
-pub mod Reports
-pub mod Judge
-pub mod Run
-pub mod Recorded
-pub mod Lent

@@ -2,11 +2,11 @@
 use Prim.Native.Nat.{ℕ, _-_}
 use mathlib.Core.Bool.{Bool, not, cond, _&&_}
 use mathlib.Core.List.{List}
-use lib.ListN.{length, getD, set}
+use lib.ListN.{length, set}
 use lib.Dec.{eqb, leb}
 use Rattle.disc.specs.Types.{Lba, Sense, Fragment, Disc, Found, TailNext, Address, NoTail}
-use Rattle.fragments.specs.Fragment.{unusedRecord, isTail, nextAfter, holdsRecorded}
-use Rattle.fragments.specs.List.{listed, some, pendingOf, holderOf, takerOf, firstOfSession}
+use Rattle.fragments.specs.Fragment.{isTail, nextAfter, holdsRecorded}
+use Rattle.fragments.specs.List.{listed, recordNumbered, some, pendingOf, holderOf, takerOf, firstOfSession}
 
 -- the records in use
 abbrev pub records : Disc → List Fragment
@@ -21,7 +21,7 @@ isListed d n = not (eqb n 0) && leb n (used d)
 
 -- the record with a number
 abbrev pub numbered : Disc → ℕ → Fragment
-numbered d n = getD (d .fragments) (n - 1) unusedRecord
+numbered d n = recordNumbered (d .fragments) n
 
 abbrev pub lastRecord : Disc → Fragment
 lastRecord d = numbered d (used d)

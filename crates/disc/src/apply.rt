@@ -11,7 +11,7 @@ ghost use Rattle.disc.specs.Apply.{withEntry, settled, affected, changed
 
 impl Disc {
     // The disc with a record put under its number.
-    pub(crate) fn with_entry(mut self, entry: Entry) -> Disc
+    pub fn with_entry(mut self, entry: Entry) -> Disc
         ensures { λ r. ⌜ r ≡ withEntry self entry ⌝ }
     {
         let number = entry.number;
@@ -97,7 +97,7 @@ impl Disc {
     }
 
     // The verdict that a decision comes to.
-    pub(crate) fn decided(self, decision: Decision) -> Verdict
+    pub fn decided(self, decision: Decision) -> Verdict
         ensures { λ r. ⌜ r ≡ decided self decision ⌝ }
     {
         let answer = decision.answer;

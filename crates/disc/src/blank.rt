@@ -33,7 +33,7 @@ impl Disc {
     }
 
     // Whether a disc can have that many blocks.
-    pub(crate) fn in_range(capacity: u32) -> bool
+    pub fn in_range(capacity: u32) -> bool
         ensures { λ r. ⌜ r ≡ inRange capacity ⌝ }
     {
         (Disc::SMALLEST <= capacity) & (capacity <= Disc::LARGEST)

@@ -35,7 +35,7 @@ impl Disc {
     }
 
     // The list is sound and the sense is one that a command can leave.
-    pub(crate) fn is_allowed(self) -> bool
+    pub fn is_allowed(self) -> bool
         ensures { λ r. ⌜ r ≡ allowedState self ⌝ }
     {
         self.is_sound() & self.sense.is_allowed()

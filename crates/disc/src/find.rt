@@ -7,9 +7,8 @@ use fragments::Last;
 use fragments::Lba;
 ghost use mathlib.Core.Path.{_≡_};
 ghost use mathlib.Core.Bool.{_&&_};
-ghost use Prim.Native.Nat.{_≤_};
 ghost use Rattle.fragments.specs.Fragment.{isTail};
-ghost use Rattle.fragments.specs.List.{limit, lastOf, firstOfSession};
+ghost use Rattle.fragments.specs.List.{lastOf, firstOfSession};
 ghost use Rattle.disc.specs.Records.{used, isListed, numbered, pendingIn, isBlank, nextWritable, tailNext, atAddress, writableAt, records, hasBlankTail, blankTailOnly, isBlankDisc};
 
 impl Disc {
@@ -22,7 +21,7 @@ impl Disc {
     }
 
     // The last record with its number.
-    pub(crate) fn last(self) -> Last
+    pub fn last(self) -> Last
         ensures { λ r. ⌜ r ≡ lastOf (self .fragments) ⌝ }
     {
         let records = self.fragments;
@@ -40,45 +39,44 @@ impl Disc {
         TailNext::NoTail
     }
 
-    // The record with a number.
-    pub(crate) fn numbered(self, number: usize) -> Fragment
-        requires { ⌜ (1 ≤ number) × (number ≤ limit) ⌝ }
+    // The record with a number; of a number that no record has, the unused one.
+    pub fn numbered(self, number: usize) -> Fragment
         ensures { λ r. ⌜ r ≡ numbered self number ⌝ }
     {
         let records = self.fragments;
-        records[number - 1]
+        fragments::record_numbered(records, number)
     }
 
     // The number is that of a record in use.
-    pub(crate) fn is_listed(self, number: usize) -> bool
+    pub fn is_listed(self, number: usize) -> bool
         ensures { λ r. ⌜ r ≡ isListed self number ⌝ }
     {
         (number != 0) & (number <= self.used())
     }
 
     // The pending sectors of the fragment with a number.
-    pub(crate) fn pending_in(self, number: usize) -> u8
+    pub fn pending_in(self, number: usize) -> u8
         ensures { λ r. ⌜ r ≡ pendingIn self number ⌝ }
     {
         fragments::pending_of(self.pending, self.owner, number)
     }
 
     // The fragment with a number has no block recorded and no sector pending.
-    pub(crate) fn is_blank(self, number: usize, f: Fragment) -> bool
+    pub fn is_blank(self, number: usize, f: Fragment) -> bool
         ensures { λ r. ⌜ r ≡ isBlank self number f ⌝ }
     {
         (f.recorded == 0) & (self.pending_in(number) == 0)
     }
 
     // The next writable address of the fragment with a number.
-    pub(crate) fn next_writable(self, number: usize, f: Fragment) -> Lba
+    pub fn next_writable(self, number: usize, f: Fragment) -> Lba
         ensures { λ r. ⌜ r ≡ nextWritable self number f ⌝ }
     {
         f.next_writable(self.pending_in(number))
     }
 
     // The fragment that an address lies in.
-    pub(crate) fn at_address(self, address: Lba) -> Found
+    pub fn at_address(self, address: Lba) -> Found
         ensures { λ r. ⌜ r ≡ atAddress self address ⌝ }
     {
         let records = self.fragments;
@@ -86,7 +84,7 @@ impl Disc {
     }
 
     // The incomplete fragment whose next writable address it is.
-    pub(crate) fn writable_at(self, address: Lba) -> Found
+    pub fn writable_at(self, address: Lba) -> Found
         ensures { λ r. ⌜ r ≡ writableAt self address ⌝ }
     {
         let records = self.fragments;
@@ -94,7 +92,7 @@ impl Disc {
     }
 
     // The number of a session's first record; one more than the last record's where it has none.
-    pub(crate) fn first_of_session(self, session: u8) -> usize
+    pub fn first_of_session(self, session: u8) -> usize
         ensures { λ r. ⌜ r ≡ firstOfSession session 1 (records self) ⌝ }
     {
         let records = self.fragments;
@@ -110,14 +108,14 @@ impl Disc {
     }
 
     // There is such a record.
-    pub(crate) fn has_blank_tail(self) -> bool
+    pub fn has_blank_tail(self) -> bool
         ensures { λ r. ⌜ r ≡ hasBlankTail self ⌝ }
     {
         self.is_blank_tail(self.last())
     }
 
     // The last session has one record, and that is a blank tail.
-    pub(crate) fn blank_tail_only(self) -> bool
+    pub fn blank_tail_only(self) -> bool
         ensures { λ r. ⌜ r ≡ blankTailOnly self ⌝ }
     {
         let last = self.last();
@@ -125,7 +123,7 @@ impl Disc {
     }
 
     // Session 1 has one record, and that is a blank tail.
-    pub(crate) fn is_blank_disc(self) -> bool
+    pub fn is_blank_disc(self) -> bool
         ensures { λ r. ⌜ r ≡ isBlankDisc self ⌝ }
     {
         let last = self.last();

@@ -1,21 +1,12 @@
-// The lower layer of the drive: the disc state, and every decision that a command needs.
+// The disc: its state, what can be asked of it, the check of its rules, and the disc after a change.
 // It knows what is on the disc by the disc state alone and never sees a sector's bytes. Every value goes in and comes back by value.
 // Document 01 is the specification; specs/ restates it as definitions, and every contract cites those.
 mod apply;
 mod blank;
-mod change;
 mod check;
-mod close;
 mod find;
-mod flush;
-mod judge;
-mod read;
-mod reports;
-mod reserve;
-mod run;
 mod state;
 mod verdict;
-mod write;
 
 pub use blank::Blank;
 pub use state::Disc;

@@ -105,7 +105,7 @@ pub fn serve(
     if !is_lent(disc.capacity, medium.len(), pending.len()) {
         return refused(sense, LinkRefusal::MediumSize);
     }
-    let decision = disc.decide(cdb, data.len(), reply.len());
+    let decision = commands::decide(disc, cdb, data.len(), reply.len());
     carry_out(decision, data, medium, pending, reply)
 }
 

@@ -15,14 +15,14 @@ use Rattle.disc.specs.Sound.{usedFirst, firstAtZero, followsFrom, inOrder, ends
 use Rattle.disc.specs.Blank.{blank}
 use Rattle.protocol.specs.Lengths.{dataLength, replyRoom, lengthsFit}
 use Rattle.disc.specs.Verdict.{accepted, accept, refuse, refuseLink}
-use Rattle.disc.specs.Flush.{flush, flushPlan, synchronizeCache}
-use Rattle.disc.specs.Read.{allReadable, read}
-use Rattle.disc.specs.Write.{flushOthers, flushOthersPlan, gather, writeTo, writeFound, write}
-use Rattle.disc.specs.Reserve.{splitTail, reserve}
-use Rattle.disc.specs.Close.{appendTail, closeIncomplete, closeFragment, closeTail, openSession, closeSession, finalize, close}
-use Rattle.disc.specs.Reports.{requestSense, readCapacity, sessionState, discStatus, readDiscInformation, nextWritableOrZero, freeSectors, trackVerdict, trackFound, trackNumbered, readTrackInformation}
+use Rattle.commands.specs.Flush.{flush, flushPlan, synchronizeCache}
+use Rattle.commands.specs.Read.{allReadable, read}
+use Rattle.commands.specs.Write.{flushOthers, flushOthersPlan, gather, writeTo, writeFound, write}
+use Rattle.commands.specs.Reserve.{splitTail, reserve}
+use Rattle.commands.specs.Close.{appendTail, closeIncomplete, closeFragment, closeTail, openSession, closeSession, finalize, close}
+use Rattle.reports.specs.Reports.{requestSense, readCapacity, sessionState, discStatus, readDiscInformation, nextWritableOrZero, freeSectors, trackVerdict, trackFound, trackNumbered, readTrackInformation}
 use Rattle.protocol.specs.Reports.{senseBytes, discBytes, trackBytes}
-use Rattle.disc.specs.Judge.{testUnitReady, perform, judgeCommand, judge, judgeAsAsked}
+use Rattle.commands.specs.Judge.{testUnitReady, perform, judgeCommand, judge, judgeAsAsked}
 
 -- what a command shows: the answer's number, the blocks recorded, the reply, and of the disc after it the sense, the tail's next
 -- writable address (0 without a tail), the pending count and the records in use

@@ -11,9 +11,9 @@ use Rattle.fragments.specs.List.{limit, listed, some, every, sumRecorded, first
 use Rattle.disc.specs.Records.{records, used, lastRecord}
 use Rattle.disc.specs.Sound.{usedFirst, firstAtZero, followsFrom, inOrder, endsWithin, recordedWithin, zeroedWithin, incompleteLast, tailLast, tailOrFull, pendingNamed, finalizedComplete, sound, allowedState}
 use Rattle.disc.specs.Verdict.{accepted, accept, refuse}
-use Rattle.disc.specs.Flush.{flush, flushPlan, flushCount, synchronizeCache}
-use Rattle.disc.specs.Reserve.{splitTail, reserve}
-use Rattle.disc.specs.Close.{appendTail, closeIncomplete, closeFragment, closeTail, openSession, closeSession}
+use Rattle.commands.specs.Flush.{flush, flushPlan, flushCount, synchronizeCache}
+use Rattle.commands.specs.Reserve.{splitTail, reserve}
+use Rattle.commands.specs.Close.{appendTail, closeIncomplete, closeFragment, closeTail, openSession, closeSession}
 
 -- every rule of L3 by itself, in the order of `sound`, and last the sense
 unfoldable pub rules : Disc → List Bool

@@ -14,14 +14,14 @@ use Rattle.fragments.specs.List.{listed, some, every, find, sumRecorded, lastRe
 use Rattle.disc.specs.Sound.{usedFirst, firstAtZero, followsFrom, inOrder, endsWithin, recordedWithin, zeroedWithin, incompleteLast, tailLast, tailOrFull, pendingNamed, finalizedComplete, sound, allowedState}
 use Rattle.protocol.specs.Lengths.{dataLength, replyRoom, lengthsFit}
 use Rattle.disc.specs.Verdict.{accepted, accept, refuse, refuseLink}
-use Rattle.disc.specs.Flush.{flush, flushPlan, synchronizeCache}
-use Rattle.disc.specs.Read.{allReadable, read}
-use Rattle.disc.specs.Write.{flushOthers, flushOthersPlan, gather, writeTo, writeFound, write}
-use Rattle.disc.specs.Reserve.{splitTail, reserve}
-use Rattle.disc.specs.Close.{appendTail, closeIncomplete, closeFragment, closeTail, openSession, closeSession, finalize, close}
+use Rattle.commands.specs.Flush.{flush, flushPlan, synchronizeCache}
+use Rattle.commands.specs.Read.{allReadable, read}
+use Rattle.commands.specs.Write.{flushOthers, flushOthersPlan, gather, writeTo, writeFound, write}
+use Rattle.commands.specs.Reserve.{splitTail, reserve}
+use Rattle.commands.specs.Close.{appendTail, closeIncomplete, closeFragment, closeTail, openSession, closeSession, finalize, close}
 use Rattle.protocol.specs.Reports.{senseBytes, discBytes, trackBytes}
-use Rattle.disc.specs.Reports.{requestSense, readCapacity, sessionState, discStatus, readDiscInformation, nextWritableOrZero, freeSectors, trackVerdict, trackFound, trackNumbered, readTrackInformation}
-use Rattle.disc.specs.Judge.{testUnitReady, perform, judgeCommand, judge}
+use Rattle.reports.specs.Reports.{requestSense, readCapacity, sessionState, discStatus, readDiscInformation, nextWritableOrZero, freeSectors, trackVerdict, trackFound, trackNumbered, readTrackInformation}
+use Rattle.commands.specs.Judge.{testUnitReady, perform, judgeCommand, judge}
 use Rattle.examples.specs.Shift.{Shown, shown}
 use Rattle.examples.specs.Types.{Sense, Reserved, Appended, Fragment, Disc}
 

@@ -17,9 +17,13 @@ unfoldable pub listed : List Fragment → List Fragment
 listed [] = []
 listed (f ∷ fs) = cond (unused f) [] (f ∷ listed fs)
 
--- the last of them; numbers count from 1, so its number is how many they are
+-- the record with a number; they count from 1, and past the end there are unused ones
+abbrev pub recordNumbered : List Fragment → ℕ → Fragment
+recordNumbered fs n = getD fs (n - 1) unusedRecord
+
+-- the last of those in use, whose number is how many they are
 abbrev pub lastOf : List Fragment → Last
-lastOf fs = record { number = length (listed fs); fragment = getD fs (length (listed fs) - 1) unusedRecord }
+lastOf fs = record { number = length (listed fs); fragment = recordNumbered fs (length (listed fs)) }
 
 -- a test that some record, or every record, of a list passes
 unfoldable pub some : (Fragment → Bool) → List Fragment → Bool

@@ -27,5 +27,6 @@ pub use list::holds_run;
 pub use list::last_readable;
 pub use list::last_record;
 pub use list::pending_of;
+pub use list::record_numbered;
 pub use list::used;
 pub use list::writable_at;

@@ -6,7 +6,7 @@ ghost use Prim.Native.Nat.{_-_};
 ghost use lib.ListN.{length};
 ghost use Rattle.fragments.specs.Address.{later};
 ghost use Rattle.fragments.specs.Fragment.{isIncompleteReserved, holdsRun};
-ghost use Rattle.fragments.specs.List.{listed, lastOf, pendingOf, holderOf, takerOf, firstOfSession, lastReadable, some};
+ghost use Rattle.fragments.specs.List.{listed, recordNumbered, lastOf, pendingOf, holderOf, takerOf, firstOfSession, lastReadable, some};
 
 // How many records a disc has.
 pub const LIMIT: usize = 64;
@@ -46,6 +46,17 @@ fn index_of(number: usize) -> usize
         return 0;
     }
     number - 1
+}
+
+// The record with a number; of number 0, the first, and past the end an unused one.
+pub fn record_numbered(fragments: [Fragment; LIMIT], number: usize) -> Fragment
+    ensures { λ r. ⌜ r ≡ recordNumbered fragments number ⌝ }
+{
+    let index = index_of(number);
+    if index >= LIMIT {
+        return Fragment::unused();
+    }
+    fragments[index]
 }
 
 // The last record with its number.

@@ -5,7 +5,7 @@ use mathlib.Core.List.{List, [], _∷_, _++_, map}
 use lib.ListN.{length, replicate}
 use Rattle.protocol.specs.Answer.{number}
 use Rattle.disc.specs.Blank.{blank}
-use Rattle.disc.specs.Judge.{judge}
+use Rattle.commands.specs.Judge.{judge}
 use Rattle.drive.specs.Bytes.{zeros}
 use Rattle.drive.specs.Step.{Drive, drive, Request, request}
 use Rattle.history.specs.Types.{Disc}

@@ -4,7 +4,7 @@ use mathlib.Core.Path.{_≡_}
 use mathlib.Core.List.{List, [], _∷_}
 use lib.ListN.{length, getD}
 use Rattle.disc.specs.Blank.{blank}
-use Rattle.disc.specs.Judge.{judgeAsAsked}
+use Rattle.commands.specs.Judge.{judgeAsAsked}
 use Rattle.disc.specs.Records.{tailNext}
 use Rattle.playback.specs.Types.{Disc, Reading, Record, BadMark, CutShort, End, Replay, Played}
 use Rattle.playback.specs.Text.{recordText, badText, cutText}

@@ -9,9 +9,9 @@ use Rattle.disc.specs.Sound.{usedFirst, firstAtZero, followsFrom, inOrder, ends
 use Rattle.disc.specs.Blank.{blank}
 use Rattle.protocol.specs.Lengths.{dataLength, replyRoom, lengthsFit}
 use Rattle.disc.specs.Verdict.{accepted, accept, refuse, refuseLink}
-use Rattle.disc.specs.Flush.{flush, flushPlan, synchronizeCache}
-use Rattle.disc.specs.Write.{flushOthers, flushOthersPlan, gather, writeTo, writeFound, write}
-use Rattle.disc.specs.Judge.{perform, judgeCommand, judge}
+use Rattle.commands.specs.Flush.{flush, flushPlan, synchronizeCache}
+use Rattle.commands.specs.Write.{flushOthers, flushOthersPlan, gather, writeTo, writeFound, write}
+use Rattle.commands.specs.Judge.{perform, judgeCommand, judge}
 use Rattle.trace.specs.Record.{badMark, readingOf, stepOf, stepAt}
 use Rattle.trace.specs.Whole.{cdbs, positionAfter, traceOf, wholeCdbs, wholeEnd}
 use Rattle.playback.specs.Types.{BadMark, CutShort, End, Replay}

@@ -35,7 +35,7 @@ impl Replay {
     pub fn play(self, cdb: [u8; trace::CDB_LENGTH]) -> Played
         ensures { λ r. ⌜ Plays self cdb r ⌝ }
     {
-        let verdict = self.disc.judge_as_asked(&cdb);
+        let verdict = commands::judge_as_asked(self.disc, &cdb);
         let disc = verdict.disc;
         let line = Line::of_record(self.number, cdb[0], disc.sense, disc.tail_next());
         let number = std::num::wrapping_add_u64(self.number, 1);

@@ -81,7 +81,7 @@ fn ask_zero_state() {
 // What the disc decides about an opcode with address 256, length 1 and, for REQUEST SENSE, allocation length 1.
 fn decide(disc: Disc, opcode: u8, data: usize, reply: usize) -> Answer {
     let cdb = [opcode, 0, 0, 0, 1, 0, 0, 0, 1, 0, 0, 0];
-    let verdict = disc.judge(&cdb, data, reply);
+    let verdict = commands::judge(disc, &cdb, data, reply);
     verdict.answer
 }
 

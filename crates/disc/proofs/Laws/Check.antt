@@ -3,11 +3,9 @@ use Prim.Native.Nat.{ℕ, suc, _+_, _-_, _≤_, _<_}
 use mathlib.Core.Path.{_≡_, refl, sym, _∙_}
 use mathlib.Core.Bool.{Bool, true, false, not, cond, _&&_, _||_, or-true, or-false, and-false as and-zero}
 use mathlib.Core.List.{List, [], _∷_}
-use native.Mathlib.Numerals.{add-one}
 use borrow.Author.Tests.{eq-eqb, ne-eqb, eqb-true, eqb-false, leb-true, leb-false, ltb-false, le-ltb, not-true, not-false}
-use lib.ListN.{length, getD, drop, drop-of-length-le}
+use lib.ListN.{length, getD}
 use native.Mathlib.Omega.{arith}
-use lib.Seq.{drop-cons}
 use Rattle.fragments.proofs.Laws.Bool.{and-left, and-right, and-both, by-cases, or-left, or-right, or-cases, contradiction, same-test}
 use Rattle.disc.specs.Types.{Fragment, Disc}
 use lib.Dec.{eqb, leb, ltb, eqb·zero-suc, eqb·suc-suc}

@@ -10,15 +10,15 @@ use borrow.Author.Tests.{eqb-true, eqb-false}
 use lib.Dec.{eqb}
 use Rattle.fragments.specs.Address.{lba}
 use Rattle.protocol.specs.Answer.{refusalSense}
-use Rattle.disc.specs.Judge.{judge}
-use Rattle.disc.specs.Lent.{FlushFits, TransferFits}
-use Rattle.disc.specs.Recorded.{flushes, transfers, recordsBlock, flushedCount}
+use Rattle.commands.specs.Judge.{judge}
+use Rattle.commands.specs.Lent.{FlushFits, TransferFits}
+use Rattle.commands.specs.Recorded.{flushes, transfers, recordsBlock, flushedCount}
 use Rattle.disc.specs.Records.{readable, withSense}
 use Rattle.disc.specs.Verdict.{refuse, refuseLink}
 use Rattle.fragments.proofs.Laws.Bool.{by-cases, or-cases}
-use Rattle.disc.proofs.Laws.Judge.{decided-link, decided-refused, decided-recorded, decided-fresh, decided-sends, decided-pending, decided-capacity}
-use Rattle.disc.proofs.Laws.Pending.{Pending}
-use Rattle.disc.proofs.Laws.Read.{all-readable-at}
+use Rattle.commands.proofs.Laws.Judge.{decided-link, decided-refused, decided-recorded, decided-fresh, decided-sends, decided-pending, decided-capacity}
+use Rattle.commands.proofs.Laws.Pending.{Pending}
+use Rattle.commands.proofs.Laws.Read.{all-readable-at}
 use Rattle.drive.specs.Types.{Lba, Block, Disc, LinkRefusal, DriveRefusal, Link, Drive as byDrive, CommandBlockLength, MediumSize, Record, Reply, Transfer, Nothing, Send, Gather, Fill, Verdict}
 use Rattle.drive.specs.Moves.{flushedMedium, flushedPending, transferredMedium, transferredPending, movedMedium, movedPending}
 use Rattle.drive.specs.Reply.{sentBytes}

@@ -6,15 +6,15 @@ use mathlib.Core.List.{List}
 use lib.ListN.{length}
 use Rattle.fragments.specs.Address.{lba, sectorsIn}
 use Rattle.protocol.specs.Command.{decode}
-use Rattle.disc.specs.Judge.{judge, perform}
-use Rattle.disc.specs.Read.{read}
+use Rattle.commands.specs.Judge.{judge, perform}
+use Rattle.commands.specs.Read.{read}
 use Rattle.disc.specs.Records.{readable}
 use Rattle.decisions.specs.Run.{stretch}
 use Rattle.decisions.specs.Plan.{noPlan}
 use Rattle.disc.specs.Verdict.{accept, accepted}
 use Rattle.protocol.specs.Reply.{noReply}
-use Rattle.disc.proofs.Laws.Accepts.{read-accepted, accepted-read, read-sends, read-none}
-use Rattle.disc.proofs.Laws.Judge.{judge-reads, perform-read, decided-performed}
+use Rattle.commands.proofs.Laws.Accepts.{read-accepted, accepted-read, read-sends, read-none}
+use Rattle.commands.proofs.Laws.Judge.{judge-reads, perform-read, decided-performed}
 use Rattle.fragments.proofs.Laws.Numbers.{equal-cases}
 use Rattle.drive.specs.Types.{Lba, Disc, Read, Accepted, Send, Reply, Transfer, Verdict}
 use Rattle.drive.specs.Reply.{sentBytes}

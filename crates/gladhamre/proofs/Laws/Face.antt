@@ -10,7 +10,7 @@ use lib.ListN.{length}
 use Rattle.protocol.specs.Answer.{number}
 use Rattle.disc.specs.Blank.{inRange, Blanked}
 use Rattle.fragments.proofs.Laws.Bool.{and-left, and-right, and-both, by-cases}
-use Rattle.disc.specs.Judge.{judge, judgeCommand}
+use Rattle.commands.specs.Judge.{judge, judgeCommand}
 use Rattle.disc.specs.Sound.{allowedState}
 use Rattle.drive.specs.Step.{drive, Request, lent, declined, responseOf, Answered, AnsweredByChange}
 use Rattle.drive.proofs.Laws.Step.{verdict-judge, declined-served}

@@ -18,13 +18,13 @@ use Rattle.disc.specs.Records.{pendingIn, records, numbered, readable, atAddres
 use Rattle.fragments.specs.List.{listed, some, every, find, sumRecorded}
 use Rattle.disc.specs.Sound.{usedFirst, firstAtZero, followsFrom, inOrder, endsWithin, recordedWithin, zeroedWithin, incompleteLast, tailLast, tailOrFull, pendingNamed, finalizedComplete, sound, allowedState}
 use Rattle.protocol.specs.Lengths.{dataLength, replyRoom, lengthsFit}
-use Rattle.disc.specs.Flush.{flush, flushPlan, synchronizeCache}
-use Rattle.disc.specs.Read.{allReadable, read}
-use Rattle.disc.specs.Write.{flushOthers, flushOthersPlan, gather, writeTo, writeFound, write}
-use Rattle.disc.specs.Reserve.{splitTail, reserve}
-use Rattle.disc.specs.Reports.{nextWritableOrZero, freeSectors, trackVerdict, trackFound, trackNumbered, readTrackInformation}
+use Rattle.commands.specs.Flush.{flush, flushPlan, synchronizeCache}
+use Rattle.commands.specs.Read.{allReadable, read}
+use Rattle.commands.specs.Write.{flushOthers, flushOthersPlan, gather, writeTo, writeFound, write}
+use Rattle.commands.specs.Reserve.{splitTail, reserve}
+use Rattle.reports.specs.Reports.{nextWritableOrZero, freeSectors, trackVerdict, trackFound, trackNumbered, readTrackInformation}
 use Rattle.protocol.specs.Reports.{trackBytes}
-use Rattle.disc.specs.Judge.{perform, judgeCommand, judge}
+use Rattle.commands.specs.Judge.{perform, judgeCommand, judge}
 use Rattle.disc.specs.Verdict.{accepted, accept, refuse}
 use Rattle.drive.specs.Bytes.{zeros}
 use Rattle.drive.specs.Step.{Drive, Request, request}

@@ -7,7 +7,7 @@ use lib.Dec.{ltb}
 use lib.ListN.{length}
 use Rattle.fragments.specs.Address.{lba}
 use Rattle.disc.specs.Blank.{blank}
-use Rattle.disc.specs.Judge.{judge}
+use Rattle.commands.specs.Judge.{judge}
 use Rattle.disc.specs.Records.{atAddress}
 use Rattle.drive.specs.Step.{Drive, lent}
 use Rattle.drive.specs.Alike.{Alike}

@@ -6,7 +6,7 @@ use native.Mathlib.Omega.{arith}
 use lib.ListN.{take}
 use Rattle.disc.proofs.Laws.Blank.{blank-pending}
 use Rattle.fragments.specs.Address.{lba}
-use Rattle.disc.proofs.Laws.Read.{blank-unreadable}
+use Rattle.commands.proofs.Laws.Read.{blank-unreadable}
 use Rattle.drive.specs.Step.{Drive, Request, request, Result, verdictOn, carriedOut, step}
 use Rattle.drive.specs.Alike.{recordedByte, pendingSectors, Alike}
 use Rattle.drive.proofs.Laws.Alike.{AlikeResults, step-alike, alike-same, alike-back, alike-on}

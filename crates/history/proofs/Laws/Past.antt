@@ -11,28 +11,28 @@ use Rattle.fragments.specs.Address.{lba, firstSector, sectorsIn, blocksFor}
 use Rattle.fragments.specs.Fragment.{end, firstUnrecorded, complete, isReserved, nextFragmentStart, nextSessionStart}
 use Rattle.disc.specs.Records.{isBlank, pendingIn, used, isListed, numbered, lastRecord, withRecord, hasTail, hasBlankTail, writableAt, blankTailOnly, atAddress, readable}
 use Rattle.fragments.specs.List.{limit}
-use Rattle.disc.specs.Recorded.{among, flushes, transfers, recordsBlock, flushedCount, transferredCount, pendingBlock, transferredBlock}
+use Rattle.commands.specs.Recorded.{among, flushes, transfers, recordsBlock, flushedCount, transferredCount, pendingBlock, transferredBlock}
 use Rattle.disc.specs.Ready.{Ready}
 use Rattle.decisions.specs.Plan.{noPlan, plan}
 use Rattle.disc.specs.Verdict.{accepted, accept, refuse}
 use Rattle.protocol.specs.Reply.{noReply}
-use Rattle.disc.specs.Flush.{flush, flushPlan, synchronizeCache}
-use Rattle.disc.specs.Read.{allReadable, read}
-use Rattle.disc.specs.Write.{flushOthersPlan, gather, Writable, writeTo, writeFound, write}
-use Rattle.disc.specs.Reserve.{reservedAt, splitTail, reserve}
-use Rattle.disc.specs.Close.{filledRecord, shortenedRecord, appendTail, closeIncomplete, closeFragment, hasIncompleteReserved, closeTail, openSession, closeSession, finalized, finalize, close}
-use Rattle.disc.specs.Reports.{requestSense, readCapacity, readDiscInformation, readTrackInformation, trackVerdict, trackFound, trackNumbered}
-use Rattle.disc.specs.Judge.{testUnitReady, perform}
+use Rattle.commands.specs.Flush.{flush, flushPlan, synchronizeCache}
+use Rattle.commands.specs.Read.{allReadable, read}
+use Rattle.commands.specs.Write.{flushOthersPlan, gather, Writable, writeTo, writeFound, write}
+use Rattle.commands.specs.Reserve.{reservedAt, splitTail, reserve}
+use Rattle.commands.specs.Close.{filledRecord, shortenedRecord, appendTail, closeIncomplete, closeFragment, hasIncompleteReserved, closeTail, openSession, closeSession, finalized, finalize, close}
+use Rattle.reports.specs.Reports.{requestSense, readCapacity, readDiscInformation, readTrackInformation, trackVerdict, trackFound, trackNumbered}
+use Rattle.commands.specs.Judge.{testUnitReady, perform}
 use Rattle.fragments.proofs.Laws.Bool.{and-both, and-false, by-cases, or-left, or-right, or-cases, same-test, cond-yes, cond-no, cond-cases}
 use Rattle.fragments.proofs.Laws.Numbers.{equal-cases}
-use Rattle.disc.proofs.Laws.Read.{readable-held, held-readable, readable-onward}
-use Rattle.disc.proofs.Laws.Recorded.{among-from, among-below, among-between, flush-onward}
+use Rattle.commands.proofs.Laws.Read.{readable-held, held-readable, readable-onward}
+use Rattle.commands.proofs.Laws.Recorded.{among-from, among-below, among-between, flush-onward}
 use Rattle.disc.proofs.Laws.Records.{listed-number}
 use Rattle.disc.proofs.Laws.Rules.{sound-rules}
 use Rattle.disc.proofs.Laws.Sound.{none-pending, other-pending, own-pending, writable-once, pending-in-few}
-use Rattle.disc.proofs.Laws.Flush.{owner, flush-grows, flush-sound, flush-used}
-use Rattle.disc.proofs.Laws.Write.{writable-found}
-use Rattle.disc.proofs.Laws.Counts.{blank-only-none}
+use Rattle.commands.proofs.Laws.Flush.{owner, flush-grows, flush-sound, flush-used}
+use Rattle.commands.proofs.Laws.Write.{writable-found}
+use Rattle.commands.proofs.Laws.Counts.{blank-only-none}
 use Rattle.history.specs.Types.{Lba, Fragment, Kind, Reserved, Appended, Disc, Found, Number, Nowhere, Accepted, DriveRefusal, WriteProtected, InvalidFieldInCommand, AddressOutOfRange, BlankCheck, InvalidOperationCode, InvalidAddressForWrite, IncompleteTrackInSession, EmptyTrack, NoMoreReservations, EndOfUserArea, Reply, Flush, Plan, Verdict, Skip, Record, Nothing, Send, Gather, Fill, Command, TestUnitReady, RequestSense, ReadCapacity, Read, Write, SynchronizeCache, ReserveTrack, CloseTrackSession, ReadDiscInformation, ReadTrackInformation, Unlisted}
 use Rattle.history.specs.Account.{extentOf}
 use Rattle.history.specs.Past.{Past, blockRecorded, sectorGathered, sectorsGathered, pastFlushed, pastFilled, pastAfter}

@@ -14,26 +14,26 @@ use Rattle.disc.specs.Ready.{Ready}
 use Rattle.decisions.specs.Plan.{noPlan}
 use Rattle.disc.specs.Verdict.{accepted, accept, refuse}
 use Rattle.protocol.specs.Reply.{noReply}
-use Rattle.disc.specs.Flush.{flush, synchronizeCache}
-use Rattle.disc.specs.Read.{allReadable, read}
-use Rattle.disc.specs.Write.{flushOthers, gather, Writable, writeTo, writeFound, write}
-use Rattle.disc.specs.Reserve.{reservedAt, splitTail, reserve}
-use Rattle.disc.specs.Close.{filledRecord, shortenedRecord, appendTail, closeIncomplete, closeFragment, hasIncompleteReserved, closeTail, openSession, closeSession, finalized, finalize, close}
-use Rattle.disc.specs.Reports.{requestSense, readCapacity, readDiscInformation, readTrackInformation, trackVerdict, trackFound, trackNumbered}
-use Rattle.disc.specs.Judge.{testUnitReady, perform}
+use Rattle.commands.specs.Flush.{flush, synchronizeCache}
+use Rattle.commands.specs.Read.{allReadable, read}
+use Rattle.commands.specs.Write.{flushOthers, gather, Writable, writeTo, writeFound, write}
+use Rattle.commands.specs.Reserve.{reservedAt, splitTail, reserve}
+use Rattle.commands.specs.Close.{filledRecord, shortenedRecord, appendTail, closeIncomplete, closeFragment, hasIncompleteReserved, closeTail, openSession, closeSession, finalized, finalize, close}
+use Rattle.reports.specs.Reports.{requestSense, readCapacity, readDiscInformation, readTrackInformation, trackVerdict, trackFound, trackNumbered}
+use Rattle.commands.specs.Judge.{testUnitReady, perform}
 use Rattle.fragments.proofs.Laws.Bool.{by-cases, cond-yes, cond-no, cond-cases}
 use Rattle.fragments.proofs.Laws.Numbers.{equal-cases, below-limit}
 use Rattle.disc.proofs.Laws.Records.{listed-number}
 use Rattle.disc.proofs.Laws.Rules.{sound-rules}
 use Rattle.disc.proofs.Laws.Sound.{none-pending, incomplete-room, pending-in-few}
 use Rattle.disc.proofs.Laws.Grow.{Grown}
-use Rattle.disc.proofs.Laws.Flush.{used-limit, flush-grows, flush-pending, flush-sound, flush-used}
-use Rattle.disc.proofs.Laws.Write.{writable-found, others-sound}
-use Rattle.disc.proofs.Laws.Close.{appended-last}
-use Rattle.disc.proofs.Laws.Session.{kept, kept-few, kept-pending}
-use Rattle.disc.proofs.Laws.Keep.{write-room, gather-grows, gather-sound, fill-grows, fill-sound}
-use Rattle.disc.proofs.Laws.Outcome.{append-pending}
-use Rattle.disc.proofs.Laws.Counts.{SameCounts, same-counts, counts-on, split-counts, split-start, shorten-counts, close-tail-counts, open-counts}
+use Rattle.commands.proofs.Laws.Flush.{used-limit, flush-grows, flush-pending, flush-sound, flush-used}
+use Rattle.commands.proofs.Laws.Write.{writable-found, others-sound}
+use Rattle.commands.proofs.Laws.Close.{appended-last}
+use Rattle.commands.proofs.Laws.Session.{kept, kept-few, kept-pending}
+use Rattle.commands.proofs.Laws.Keep.{write-room, gather-grows, gather-sound, fill-grows, fill-sound}
+use Rattle.commands.proofs.Laws.Outcome.{append-pending}
+use Rattle.commands.proofs.Laws.Counts.{SameCounts, same-counts, counts-on, split-counts, split-start, shorten-counts, close-tail-counts, open-counts}
 use Rattle.history.specs.Types.{Lba, Fragment, Kind, Reserved, Appended, Disc, Found, Number, Nowhere, Accepted, DriveRefusal, WriteProtected, InvalidFieldInCommand, AddressOutOfRange, BlankCheck, InvalidOperationCode, InvalidAddressForWrite, IncompleteTrackInSession, EmptyTrack, NoMoreReservations, EndOfUserArea, Reply, Plan, Verdict, Command, TestUnitReady, RequestSense, ReadCapacity, Read, Write, SynchronizeCache, ReserveTrack, CloseTrackSession, ReadDiscInformation, ReadTrackInformation, Unlisted}
 
 -- the sectors of the fragment with a number: recorded and pending ones

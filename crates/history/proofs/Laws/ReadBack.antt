@@ -9,13 +9,13 @@ use lib.ListN.{length}
 use Rattle.fragments.specs.Address.{lba}
 use Rattle.protocol.specs.Command.{decode}
 use Rattle.disc.specs.Records.{numbered, atAddress, readable}
-use Rattle.disc.specs.Read.{read}
+use Rattle.commands.specs.Read.{read}
 use Rattle.disc.specs.Rules.{Sound}
-use Rattle.disc.specs.Judge.{perform}
-use Rattle.disc.proofs.Laws.Accepts.{accepted-read}
-use Rattle.disc.proofs.Laws.Judge.{perform-read, decided-performed}
-use Rattle.disc.proofs.Laws.Read.{located, located-readable, nowhere-unreadable}
-use Rattle.disc.proofs.Laws.Recorded.{among-between}
+use Rattle.commands.specs.Judge.{perform}
+use Rattle.commands.proofs.Laws.Accepts.{accepted-read}
+use Rattle.commands.proofs.Laws.Judge.{perform-read, decided-performed}
+use Rattle.commands.proofs.Laws.Read.{located, located-readable, nowhere-unreadable}
+use Rattle.commands.proofs.Laws.Recorded.{among-between}
 use Rattle.drive.specs.Alike.{Alike}
 use Rattle.drive.specs.Step.{Drive, verdictOn, carriedOut, step}
 use Rattle.drive.proofs.Laws.Step.{verdict-decided}

@@ -14,16 +14,16 @@ use Rattle.disc.specs.Records.{pendingIn, used, numbered, withRecord}
 use Rattle.fragments.specs.Fragment.{firstUnrecorded}
 use Rattle.disc.specs.Ready.{Ready}
 use Rattle.disc.specs.Rules.{Sound}
-use Rattle.disc.specs.Flush.{flushedRecord, flush, flushPlan}
-use Rattle.disc.specs.Write.{flushOthers, flushOthersPlan, grownRecord, gather}
-use Rattle.disc.specs.Close.{filledRecord}
+use Rattle.commands.specs.Flush.{flushedRecord, flush, flushPlan}
+use Rattle.commands.specs.Write.{flushOthers, flushOthersPlan, grownRecord, gather}
+use Rattle.commands.specs.Close.{filledRecord}
 use Rattle.fragments.proofs.Laws.Bool.{by-cases, cond-yes, cond-no}
 use Rattle.fragments.proofs.Laws.Numbers.{equal-cases}
 use Rattle.disc.proofs.Laws.Rules.{sound-rules}
 use Rattle.disc.proofs.Laws.Sound.{none-pending, other-pending, own-pending, pending-in-few}
-use Rattle.disc.proofs.Laws.Flush.{owner, flush-none, flush-pending}
-use Rattle.disc.proofs.Laws.Keep.{Room}
-use Rattle.disc.proofs.Laws.Outcome.{gathered-list}
+use Rattle.commands.proofs.Laws.Flush.{owner, flush-none, flush-pending}
+use Rattle.commands.proofs.Laws.Keep.{Room}
+use Rattle.commands.proofs.Laws.Outcome.{gathered-list}
 use Rattle.drive.specs.Bytes.{zeros, splice, padded}
 use Rattle.drive.specs.Moves.{stream, gatheredMedium, gatheredPending, flushedMedium, flushedPending}
 use Rattle.drive.proofs.Laws.Bytes.{length-zeros, length-padded}

@@ -8,16 +8,16 @@ use borrow.Author.Tests.{eq-eqb, ne-eqb, ltb-true, ltb-false}
 use lib.Dec.{eqb, ltb}
 use lib.ListN.{length}
 use Rattle.protocol.specs.Command.{decode}
-use Rattle.disc.specs.Recorded.{among}
+use Rattle.commands.specs.Recorded.{among}
 use Rattle.disc.specs.Records.{numbered}
 use Rattle.disc.specs.Ready.{Ready}
 use Rattle.disc.specs.Rules.{Sound}
-use Rattle.disc.specs.Judge.{perform}
-use Rattle.disc.proofs.Laws.Accepts.{Takes, write-takes}
+use Rattle.commands.specs.Judge.{perform}
+use Rattle.commands.proofs.Laws.Accepts.{Takes, write-takes}
 use Rattle.fragments.proofs.Laws.Bool.{contradiction, by-cases, cond-yes, cond-no}
-use Rattle.disc.proofs.Laws.Judge.{allowed-ready, decided-performed}
+use Rattle.commands.proofs.Laws.Judge.{allowed-ready, decided-performed}
 use Rattle.fragments.proofs.Laws.Numbers.{equal-cases}
-use Rattle.disc.proofs.Laws.Recorded.{among-from, among-below, among-between}
+use Rattle.commands.proofs.Laws.Recorded.{among-from, among-below, among-between}
 use Rattle.drive.specs.Bytes.{zeros}
 use Rattle.drive.specs.Step.{Drive, Request, Result, verdictOn, carriedOut, step}
 use Rattle.drive.proofs.Laws.Alike.{step-link, step-refused}

@@ -13,11 +13,11 @@ use Rattle.protocol.specs.Command.{decode}
 use Rattle.fragments.specs.List.{listed, some, every, find, sumRecorded, firstOfSession}
 use Rattle.disc.specs.Sound.{usedFirst, firstAtZero, followsFrom, inOrder, endsWithin, recordedWithin, zeroedWithin, incompleteLast, tailLast, tailOrFull, pendingNamed, finalizedComplete, sound, allowedState}
 use Rattle.protocol.specs.Lengths.{dataLength, replyRoom, lengthsFit}
-use Rattle.disc.specs.Flush.{flush, flushPlan}
-use Rattle.disc.specs.Write.{flushOthers, flushOthersPlan, gather, writeTo, writeFound, write}
-use Rattle.disc.specs.Reports.{sessionState, discStatus, readDiscInformation}
+use Rattle.commands.specs.Flush.{flush, flushPlan}
+use Rattle.commands.specs.Write.{flushOthers, flushOthersPlan, gather, writeTo, writeFound, write}
+use Rattle.reports.specs.Reports.{sessionState, discStatus, readDiscInformation}
 use Rattle.protocol.specs.Reports.{discBytes}
-use Rattle.disc.specs.Judge.{perform, judgeCommand, judge}
+use Rattle.commands.specs.Judge.{perform, judgeCommand, judge}
 use Rattle.disc.specs.Verdict.{accepted, accept}
 use Rattle.drive.specs.Reply.{sentBytes}
 use Rattle.drive.specs.Step.{Drive, Request, lent, verdictOn, carriedOut, step}

@@ -13,10 +13,10 @@ use Rattle.fragments.specs.Address.{lba}
 use Rattle.disc.specs.Blank.{inRange, blank}
 use Rattle.protocol.specs.Command.{decode}
 use Rattle.protocol.specs.Reports.{low, high}
-use Rattle.disc.specs.Write.{write}
-use Rattle.disc.proofs.Laws.Accepts.{Takes, takes-accepted}
+use Rattle.commands.specs.Write.{write}
+use Rattle.commands.proofs.Laws.Accepts.{Takes, takes-accepted}
 use Rattle.disc.proofs.Laws.Blank.{range-least, blank-allowed, blank-capacity}
-use Rattle.disc.proofs.Laws.Judge.{allowed-ready}
+use Rattle.commands.proofs.Laws.Judge.{allowed-ready}
 use Rattle.disc.proofs.Laws.Rules.{sound-rules}
 use Rattle.fragments.proofs.Laws.Bool.{and-left, and-right, and-both, by-cases, cond-yes, cond-no}
 use Rattle.drive.specs.Bytes.{zeros}

@@ -1,6 +1,6 @@
 use borrow.Author.Tests.{eq-eqb}
 use Rattle.disc.specs.Apply.{withEntry}
-use Rattle.disc.proofs.Laws.Decision.{with-entry, past-entry}
+use Rattle.disc.proofs.Laws.Apply.{with-entry, past-entry}
 use lib.ListN.{length}
 use Rattle.fragments.specs.List.{limit}
 use Rattle.fragments.proofs.Laws.List.{array-length}

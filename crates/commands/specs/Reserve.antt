@@ -1,0 +1,39 @@
+-- RESERVE TRACK (53h).
+use Prim.Native.Nat.{ℕ, _+_, _≤_, _<_}
+use mathlib.Core.Bool.{cond, not}
+use lib.Dec.{eqb, leb}
+use Rattle.commands.specs.Types.{Fragment, Reserved, Disc, Verdict, WriteProtected, InvalidFieldInCommand, NoMoreReservations, EndOfUserArea}
+use Rattle.fragments.specs.Address.{blocksFor}
+use Rattle.fragments.specs.Fragment.{end, nextFragmentStart, tailFrom}
+use Rattle.fragments.specs.List.{limit}
+use Rattle.disc.specs.Records.{used, lastRecord, withRecord, hasBlankTail}
+use Rattle.decisions.specs.Plan.{noPlan}
+use Rattle.disc.specs.Verdict.{accept, refuse}
+use Rattle.protocol.specs.Reply.{noReply}
+
+-- the reserved fragment of b blocks in the place of the tail f
+abbrev pub reservedAt : Fragment → ℕ → Fragment
+reservedAt f b =
+    record { session = f .session; start = f .start; length = b; recorded = 0; zeroed = 0; kind = Reserved }
+
+-- the blank tail becomes a reserved fragment of b blocks and a tail after it
+unfoldable pub splitTail : Disc → ℕ → Disc
+splitTail d b =
+    let f = reservedAt (lastRecord d) b in
+    withRecord (withRecord d (used d) f) (used d + 1) (tailFrom (d .capacity) (f .session) (nextFragmentStart (end f)))
+
+-- what the code that splits asks: there is a record, one is free, and the new tail starts within the capacity
+pub record Splitting (d : Disc) (b : ℕ) : Type 0 where
+  pub from : 1 ≤ used d
+  pub free : used d < limit
+  pub start : nextFragmentStart (end (reservedAt (lastRecord d) b)) .0 < d .capacity
+
+-- RESERVE TRACK with its refusals in the table's order; nothing is flushed
+unfoldable pub reserve : Disc → ℕ → Verdict
+reserve d size =
+    cond (d .finalized) (refuse d WriteProtected)
+    (cond (eqb size 0) (refuse d InvalidFieldInCommand)
+    (cond (not (hasBlankTail d)) (refuse d NoMoreReservations)
+    (cond (eqb (used d) limit) (refuse d NoMoreReservations)
+    (cond (leb (d .capacity) (nextFragmentStart (end (reservedAt (lastRecord d) (blocksFor size))) .0)) (refuse d EndOfUserArea)
+    (accept d (splitTail d (blocksFor size)) noReply noPlan)))))

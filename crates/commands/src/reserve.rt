@@ -1,0 +1,51 @@
+// RESERVE TRACK (53h): the blank tail becomes a reserved fragment and a tail after it.
+use crate::change;
+use decisions::Decision;
+use decisions::Effect;
+use decisions::Entry;
+use decisions::Plan;
+use disc::Disc;
+use protocol::DriveRefusal;
+use protocol::Reply;
+ghost use mathlib.Core.Path.{_≡_};
+ghost use Rattle.disc.specs.Ready.{Ready};
+ghost use Rattle.disc.specs.Apply.{affected, decided};
+ghost use Rattle.commands.specs.Reserve.{Splitting, splitTail, reserve};
+
+// The blank tail as a reserved fragment of so many blocks, with a tail after it.
+fn split_tail(disc: Disc, blocks: u32) -> Effect
+    requires { ⌜ Splitting disc blocks ⌝ }
+    ensures { λ r. ⌜ affected disc r ≡ splitTail disc blocks ⌝ }
+{
+    let last = disc.last();
+    let f = change::reserved(last.fragment, blocks);
+    let rest = change::tail_from(disc.capacity, f.session, f.next_start());
+    let reserved = Entry::new(last.number, f);
+    let tail = Entry::new(last.number + 1, rest);
+    Effect::Reserve { reserved, tail }
+}
+
+// RESERVE TRACK: its refusals in order, then the tail is split.
+pub(crate) fn reserve_track(disc: Disc, size: u32) -> Decision
+    requires { ⌜ Ready disc ⌝ }
+    ensures { λ r. ⌜ decided disc r ≡ reserve disc size ⌝ }
+{
+    if disc.finalized {
+        return Decision::refused(DriveRefusal::WriteProtected);
+    }
+    if size == 0 {
+        return Decision::refused(DriveRefusal::InvalidFieldInCommand);
+    }
+    if !disc.has_blank_tail() {
+        return Decision::refused(DriveRefusal::NoMoreReservations);
+    }
+    let last = disc.last();
+    if last.number == Disc::LIMIT {
+        return Decision::refused(DriveRefusal::NoMoreReservations);
+    }
+    let blocks = fragments::blocks_for(size);
+    if disc.capacity as u64 <= change::reserved(last.fragment, blocks).next_start().0 {
+        return Decision::refused(DriveRefusal::EndOfUserArea);
+    }
+    Decision::accepted(split_tail(disc, blocks), 0, Reply::none(), Plan::none())
+}

@@ -1,0 +1,148 @@
+// CLOSE TRACK/SESSION (5Bh) of the session (010) and of the disc (110).
+use crate::change;
+use crate::flush::Flushing;
+use decisions::Decision;
+use decisions::Effect;
+use decisions::Entry;
+use decisions::Plan;
+use decisions::Transfer;
+use disc::Disc;
+use fragments::Fragment;
+use fragments::Last;
+use protocol::DriveRefusal;
+use protocol::Reply;
+ghost use mathlib.Core.Path.{_≡_};
+ghost use Rattle.fragments.specs.List.{lastOf};
+ghost use Rattle.disc.specs.Ready.{Ready};
+ghost use Rattle.disc.specs.Apply.{decided};
+ghost use Rattle.commands.specs.Flush.{flush, flushEntry};
+ghost use Rattle.commands.specs.Close.{hasIncompleteReserved, closeTail, tailClosed, closingLast, closeSession, finalize};
+
+// What closing a session makes of its last record: a blank tail is dropped, a written one ends with its recorded blocks.
+fn tail_closed(last: Last) -> Entry
+    ensures { λ r. ⌜ r ≡ tailClosed last ⌝ }
+{
+    let f = last.fragment;
+    if !f.is_tail() {
+        return Entry::none();
+    }
+    if f.recorded == 0 {
+        return Entry::new(last.number, Fragment::unused());
+    }
+    Entry::new(last.number, change::shortened(f))
+}
+
+// The last record is closed, after a flush, and a tail may begin after it: what 010 and 110 are decided to.
+fn close_last(first: Flushing, last: Last, tail: Entry, finalized: bool) -> Decision
+    ensures { λ r. ⌜ r ≡ closingLast first last tail finalized ⌝ }
+{
+    let flush = first.plan;
+    let plan = Plan::new(flush, Transfer::Nothing);
+    let flushed = first.entry;
+    let closed = tail_closed(last);
+    let effect = Effect::Close {
+        flushed,
+        closed,
+        tail,
+        finalized,
+    };
+    Decision::accepted(effect, first.recorded, Reply::none(), plan)
+}
+
+// Some reserved fragment is incomplete after the flush that leaves `flushed`.
+fn stays_incomplete(disc: Disc, flushed: Entry) -> bool
+    requires { ⌜ Ready disc ⌝ }
+    requires { ⌜ flushed ≡ flushEntry disc ⌝ }
+    ensures { λ r. ⌜ r ≡ hasIncompleteReserved (flush disc) ⌝ }
+{
+    let after = disc.with_entry(flushed);
+    let records = after.fragments;
+    fragments::has_incomplete_reserved(records)
+}
+
+// The last record after that flush, with its number.
+fn last_flushed(disc: Disc, flushed: Entry) -> Last
+    requires { ⌜ Ready disc ⌝ }
+    requires { ⌜ flushed ≡ flushEntry disc ⌝ }
+    ensures { λ r. ⌜ r ≡ lastOf (flush disc .fragments) ⌝ }
+{
+    let last = disc.last();
+    let number = last.number;
+    let fragment = flushed.over(number, last.fragment);
+    Last { number, fragment }
+}
+
+// The last record that is left with the tail closed, after that flush, whose last record is `last`.
+fn last_kept(disc: Disc, flushed: Entry, last: Last) -> Last
+    requires { ⌜ Ready disc ⌝ }
+    requires { ⌜ flushed ≡ flushEntry disc ⌝ }
+    requires { ⌜ last ≡ lastOf (flush disc .fragments) ⌝ }
+    ensures { λ r. ⌜ r ≡ lastOf (closeTail (flush disc) .fragments) ⌝ }
+{
+    let f = last.fragment;
+    if !f.is_tail() {
+        return last;
+    }
+    if f.recorded != 0 {
+        let fragment = change::shortened(f);
+        return Last {
+            number: last.number,
+            fragment,
+        };
+    }
+    let number = last.number - 1;
+    if number == 0 {
+        let fragment = Fragment::unused();
+        return Last { number, fragment };
+    }
+    let fragment = flushed.over(number, disc.numbered(number));
+    Last { number, fragment }
+}
+
+// CLOSE of the session (010).
+pub(crate) fn close_session(disc: Disc) -> Decision
+    requires { ⌜ Ready disc ⌝ }
+    ensures { λ r. ⌜ decided disc r ≡ closeSession disc ⌝ }
+{
+    if disc.finalized | disc.blank_tail_only() {
+        return Decision::unchanged(Reply::none());
+    }
+    let first = Flushing::of_disc(disc);
+    let flushed = first.entry;
+    if stays_incomplete(disc, flushed) {
+        return Decision::refused(DriveRefusal::IncompleteTrackInSession);
+    }
+    let last = last_flushed(disc, flushed);
+    let kept = last_kept(disc, flushed, last);
+    if kept.number == Disc::LIMIT {
+        return Decision::refused(DriveRefusal::NoMoreReservations);
+    }
+    let f = kept.fragment;
+    let start = f.next_session_start();
+    if (disc.capacity as u64) < start.0 + 1 {
+        return Decision::refused(DriveRefusal::EndOfUserArea);
+    }
+    let opened = change::tail_from(disc.capacity, f.session + 1, start);
+    let tail = Entry::new(kept.number + 1, opened);
+    close_last(first, last, tail, disc.finalized)
+}
+
+// CLOSE of the disc (110): finalized.
+pub(crate) fn finalize(disc: Disc) -> Decision
+    requires { ⌜ Ready disc ⌝ }
+    ensures { λ r. ⌜ decided disc r ≡ finalize disc ⌝ }
+{
+    if disc.finalized {
+        return Decision::unchanged(Reply::none());
+    }
+    let first = Flushing::of_disc(disc);
+    let flushed = first.entry;
+    if stays_incomplete(disc, flushed) {
+        return Decision::refused(DriveRefusal::IncompleteTrackInSession);
+    }
+    if disc.is_blank_disc() {
+        return Decision::refused(DriveRefusal::EmptyTrack);
+    }
+    let last = last_flushed(disc, flushed);
+    close_last(first, last, Entry::none(), true)
+}

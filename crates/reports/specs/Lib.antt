@@ -1,0 +1,3 @@
+-- What the reports say of a disc.
+pub mod Types
+pub mod Reports

@@ -1,0 +1,12 @@
+// The reports: what REQUEST SENSE, READ CAPACITY, READ DISC INFORMATION and READ TRACK INFORMATION say of a disc. They ask nothing of it:
+// its list may be any.
+// Document 01 is the specification; specs/ restates it as definitions, and every contract cites those.
+mod capacity;
+mod disc_information;
+mod sense;
+mod track_information;
+
+pub use capacity::read_capacity;
+pub use disc_information::read_disc_information;
+pub use sense::request_sense;
+pub use track_information::read_track_information;

@@ -2,16 +2,14 @@
 use Prim.Native.Nat.{ℕ, _+_, _-_}
 use mathlib.Core.Bool.{Bool, true, cond, not, _&&_, _||_}
 use lib.Dec.{eqb, ltb}
-use Rattle.commands.specs.Types.{Kind, Reserved, Appended, Fragment, Disc, Nothing, Fill, Last, Flushing, Entry, Close, Decision, Verdict, InvalidFieldInCommand, IncompleteTrackInSession, EmptyTrack, NoMoreReservations, EndOfUserArea}
+use Rattle.commands.specs.Types.{Kind, Reserved, Appended, Fragment, Disc, Nothing, Fill, Verdict, InvalidFieldInCommand, IncompleteTrackInSession, EmptyTrack, NoMoreReservations, EndOfUserArea}
 use Rattle.fragments.specs.Address.{sectorsIn}
-use Rattle.fragments.specs.Fragment.{unusedRecord, end, firstUnrecorded, complete, isTail, isIncompleteReserved, nextFragmentStart, nextSessionStart, tailFrom}
+use Rattle.fragments.specs.Fragment.{unusedRecord, end, firstUnrecorded, complete, isIncompleteReserved, nextFragmentStart, nextSessionStart, tailFrom, shortenedRecord}
 use Rattle.disc.specs.Records.{isBlank, records, used, isListed, numbered, lastRecord, withRecord, hasTail, hasBlankTail, blankTailOnly, isBlankDisc}
 use Rattle.fragments.specs.List.{limit, some}
 use Rattle.decisions.specs.Plan.{noPlan, plan}
 use Rattle.disc.specs.Verdict.{accept, refuse}
 use Rattle.protocol.specs.Reply.{noReply}
-use Rattle.decisions.specs.Change.{entry, noEntry}
-use Rattle.decisions.specs.Decision.{accepting}
 use Rattle.disc.specs.Apply.{withFinalized}
 use Rattle.commands.specs.Flush.{flush, flushPlan}
 
@@ -27,29 +25,12 @@ filledRecord f =
       kind = f .kind;
     }
 
--- the fragment ends with its recorded blocks
-abbrev pub shortenedRecord : Fragment → Fragment
-shortenedRecord f =
-    record {
-      session = f .session;
-      start = f .start;
-      length = f .recorded;
-      recorded = f .recorded;
-      zeroed = f .zeroed;
-      kind = f .kind;
-    }
-
 -- a new tail after fragment n, the last one, if there is a block for it and a record
 unfoldable pub appendTail : Disc → ℕ → Disc
 appendTail d n =
     let f = numbered d n in
     cond (ltb (nextFragmentStart (end f) .0) (d .capacity) && ltb n limit)
     (withRecord d (n + 1) (tailFrom (d .capacity) (f .session) (nextFragmentStart (end f)))) d
-
--- the same as a record of its own: the tail after the record f under the number n
-unfoldable pub tailAfter : ℕ → ℕ → Fragment → Entry
-tailAfter capacity n f =
-    cond (ltb (nextFragmentStart (end f) .0) capacity && ltb n limit) (entry (n + 1) (tailFrom capacity (f .session) (nextFragmentStart (end f)))) noEntry
 
 -- 001 on an incomplete fragment of a flushed disc, by its kind; `before` is the disc before the flush
 unfoldable pub closeIncomplete : Disc → Disc → ℕ → Kind → Verdict
@@ -78,21 +59,10 @@ closeTail d =
     cond (hasBlankTail d) (withRecord d (used d) unusedRecord)
     (cond (hasTail d) (withRecord d (used d) (shortenedRecord (lastRecord d))) d)
 
--- what that makes of the last record, with nothing pending
-unfoldable pub tailClosed : Last → Entry
-tailClosed l =
-    cond (isTail (l .fragment))
-    (cond (eqb (l .fragment .recorded) 0) (entry (l .number) unusedRecord) (entry (l .number) (shortenedRecord (l .fragment)))) noEntry
-
 -- a tail of the next session after the last record
 unfoldable pub openSession : Disc → Disc
 openSession d =
     withRecord d (used d + 1) (tailFrom (d .capacity) (lastRecord d .session + 1) (nextSessionStart (end (lastRecord d))))
-
--- what 010 and 110 are decided to where they are not refused: a flush, the last record closed, a tail after it
-unfoldable pub closingLast : Flushing → Last → Entry → Bool → Decision
-closingLast flush last tail finalized =
-    accepting (Close (flush .entry) (tailClosed last) tail finalized) (flush .recorded) noReply (plan (flush .plan) Nothing)
 
 -- 010: nothing is done on a finalized disc or where the last session is only a blank tail. Else no reserved fragment may be
 -- incomplete, a record must be free and a block must be left for the new tail, all judged on the flushed list

@@ -53,9 +53,6 @@ flushEntry d = cond (eqb (d .pending) 0) noEntry (entry (d .owner) (flushedRecor
 abbrev pub flushing : Disc → Flushing
 flushing d = record { entry = flushEntry d; plan = flushPlan d; recorded = flushCount d }
 
-abbrev pub noFlushing : Flushing
-noFlushing = record { entry = noEntry; plan = Skip; recorded = 0 }
-
 -- SYNCHRONIZE CACHE flushes and does nothing else
 unfoldable pub synchronizeCache : Disc → Verdict
 synchronizeCache d = accept d (flush d) noReply (plan (flushPlan d) Nothing)

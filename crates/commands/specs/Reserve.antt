@@ -2,19 +2,14 @@
 use Prim.Native.Nat.{ℕ, _+_, _≤_, _<_}
 use mathlib.Core.Bool.{cond, not}
 use lib.Dec.{eqb, leb}
-use Rattle.commands.specs.Types.{Fragment, Reserved, Disc, Verdict, WriteProtected, InvalidFieldInCommand, NoMoreReservations, EndOfUserArea}
+use Rattle.commands.specs.Types.{Disc, Verdict, WriteProtected, InvalidFieldInCommand, NoMoreReservations, EndOfUserArea}
 use Rattle.fragments.specs.Address.{blocksFor}
-use Rattle.fragments.specs.Fragment.{end, nextFragmentStart, tailFrom}
+use Rattle.fragments.specs.Fragment.{end, nextFragmentStart, tailFrom, reservedAt}
 use Rattle.fragments.specs.List.{limit}
 use Rattle.disc.specs.Records.{used, lastRecord, withRecord, hasBlankTail}
 use Rattle.decisions.specs.Plan.{noPlan}
 use Rattle.disc.specs.Verdict.{accept, refuse}
 use Rattle.protocol.specs.Reply.{noReply}
-
--- the reserved fragment of b blocks in the place of the tail f
-abbrev pub reservedAt : Fragment → ℕ → Fragment
-reservedAt f b =
-    record { session = f .session; start = f .start; length = b; recorded = 0; zeroed = 0; kind = Reserved }
 
 -- the blank tail becomes a reserved fragment of b blocks and a tail after it
 unfoldable pub splitTail : Disc → ℕ → Disc

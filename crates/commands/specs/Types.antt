@@ -23,7 +23,7 @@ pub use Rattle.decisions.specs.declared.plan.Transfer.the-variants.{Nothing, Se
 pub use Rattle.decisions.specs.declared.plan.Plan.{Plan}
 pub use Rattle.disc.specs.declared.verdict.Verdict.{Verdict}
 pub use Rattle.fragments.specs.declared.list.Last.{Last}
-pub use Rattle.commands.specs.declared.flush.Flushing.{Flushing}
+pub use Rattle.decisions.specs.declared.flushing.Flushing.{Flushing}
 pub use Rattle.decisions.specs.declared.change.Entry.{Entry}
 pub use Rattle.decisions.specs.declared.change.Effect.{Effect}
 pub use Rattle.decisions.specs.declared.change.Effect.the-variants.{Keep, Settle, Reserve, Close, Grow}

@@ -1,16 +1,13 @@
 // What a command makes of one record.
 use fragments::Block;
 use fragments::Fragment;
-use fragments::Kind;
-use fragments::WideBlock;
 ghost use mathlib.Core.Path.{_≡_};
 ghost use Prim.Native.Nat.{_+_, _^_, _≤_, _<_};
-ghost use Rattle.fragments.specs.Address.{block, sectorsIn, wholeBlocks};
-ghost use Rattle.fragments.specs.Fragment.{firstUnrecorded, tailFrom};
+ghost use Rattle.fragments.specs.Address.{sectorsIn, wholeBlocks};
+ghost use Rattle.fragments.specs.Fragment.{firstUnrecorded};
 ghost use Rattle.commands.specs.Flush.{flushedRecord};
 ghost use Rattle.commands.specs.Write.{grownRecord};
-ghost use Rattle.commands.specs.Reserve.{reservedAt};
-ghost use Rattle.commands.specs.Close.{filledRecord, shortenedRecord};
+ghost use Rattle.commands.specs.Close.{filledRecord};
 
 // The first block that is not recorded.
 pub(crate) fn first_unrecorded(f: Fragment) -> Block
@@ -47,42 +44,4 @@ pub(crate) fn filled(mut f: Fragment) -> Fragment
     f.zeroed = f.zeroed + fragments::sectors_in(f.length - f.recorded) as u32;
     f.recorded = f.length;
     f
-}
-
-// The record that ends with its recorded blocks.
-pub(crate) fn shortened(mut f: Fragment) -> Fragment
-    ensures { λ r. ⌜ r ≡ shortenedRecord f ⌝ }
-{
-    f.length = f.recorded;
-    f
-}
-
-// A reserved record in the place of the tail.
-pub(crate) fn reserved(f: Fragment, blocks: u32) -> Fragment
-    ensures { λ r. ⌜ r ≡ reservedAt f blocks ⌝ }
-{
-    let start = f.start;
-    Fragment {
-        session: f.session,
-        start,
-        length: blocks,
-        recorded: 0,
-        zeroed: 0,
-        kind: Kind::Reserved,
-    }
-}
-
-// The tail of a session, from a block to the capacity.
-pub(crate) fn tail_from(capacity: u32, session: u8, start: WideBlock) -> Fragment
-    requires { ⌜ start .0 ≤ capacity ⌝ }
-    ensures { λ r. ⌜ r ≡ tailFrom capacity session (block (start .0)) ⌝ }
-{
-    Fragment {
-        session,
-        start: Block(start.0 as u32),
-        length: capacity - start.0 as u32,
-        recorded: 0,
-        zeroed: 0,
-        kind: Kind::Appended,
-    }
 }

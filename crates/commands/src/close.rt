@@ -1,11 +1,11 @@
 // CLOSE TRACK/SESSION (5Bh): of a fragment (001) here, of the session (010) and of the disc (110) in session.rt.
 use crate::change;
 use crate::flush;
-use crate::flush::Flushing;
 use crate::session;
 use decisions::Decision;
 use decisions::Effect;
 use decisions::Entry;
+use decisions::Flushing;
 use decisions::Plan;
 use decisions::Transfer;
 use disc::Disc;
@@ -20,22 +20,7 @@ ghost use Rattle.disc.specs.Records.{used, numbered};
 ghost use Rattle.disc.specs.Ready.{Ready};
 ghost use Rattle.disc.specs.Apply.{decided};
 ghost use Rattle.commands.specs.Flush.{flush, flushing};
-ghost use Rattle.commands.specs.Close.{tailAfter, closeIncomplete, closeFragment, close};
-
-// A new tail after a fragment with a number, the last one, if a block is left for it and a record.
-fn tail_after(capacity: u32, number: usize, f: Fragment) -> Entry
-    ensures { λ r. ⌜ r ≡ tailAfter capacity number f ⌝ }
-{
-    let start = f.next_start();
-    if start.0 >= capacity as u64 {
-        return Entry::none();
-    }
-    if number >= Disc::LIMIT {
-        return Entry::none();
-    }
-    let tail = change::tail_from(capacity, f.session, start);
-    Entry::new(number + 1, tail)
-}
+ghost use Rattle.commands.specs.Close.{closeIncomplete, closeFragment, close};
 
 // An incomplete reserved fragment is closed; `f` is its record after the flush.
 fn close_reserved(disc: Disc, first: Flushing, number: usize, f: Fragment) -> Decision
@@ -72,10 +57,10 @@ fn close_appended(disc: Disc, first: Flushing, number: usize, f: Fragment) -> De
 {
     let flush = first.plan;
     let plan = Plan::new(flush, Transfer::Nothing);
-    let short = change::shortened(f);
+    let short = f.shortened();
     let flushed = first.entry;
     let closed = Entry::new(number, short);
-    let tail = tail_after(disc.capacity, number, short);
+    let tail = Entry::tail_after(disc.capacity, number, short);
     let effect = Effect::Close {
         flushed,
         closed,
@@ -97,7 +82,7 @@ fn close_fragment(disc: Disc, number: usize) -> Decision
     if disc.is_blank(number, before) {
         return Decision::refused(DriveRefusal::EmptyTrack);
     }
-    let first = Flushing::of_disc(disc);
+    let first = flush::flushing(disc);
     let flushed = first.entry;
     let f = flushed.over(number, before);
     if f.is_complete() {

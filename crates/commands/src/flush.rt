@@ -4,6 +4,7 @@ use decisions::Decision;
 use decisions::Effect;
 use decisions::Entry;
 use decisions::Flush;
+use decisions::Flushing;
 use decisions::Plan;
 use decisions::Transfer;
 use disc::Disc;
@@ -11,61 +12,41 @@ use protocol::Reply;
 ghost use mathlib.Core.Path.{_≡_};
 ghost use Rattle.disc.specs.Ready.{Ready};
 ghost use Rattle.disc.specs.Apply.{decided};
-ghost use Rattle.commands.specs.Flush.{noFlushing, flushing, synchronizeCache};
+ghost use Rattle.commands.specs.Flush.{flushing, synchronizeCache};
 ghost use Rattle.commands.specs.Write.{flushingOthers};
 
-// What a flush comes to: the record that it leaves, what it does to the bytes, and how many blocks it records.
-pub(crate) struct Flushing {
-    pub(crate) entry: Entry,
-    pub(crate) plan: Flush,
-    pub(crate) recorded: u32,
+// The flush of the pending block; nothing happens with none pending.
+pub(crate) fn flushing(disc: Disc) -> Flushing
+    requires { ⌜ Ready disc ⌝ }
+    ensures { λ r. ⌜ r ≡ flushing disc ⌝ }
+{
+    let pending = disc.pending;
+    if pending == 0 {
+        return Flushing::none();
+    }
+    let owner = disc.owner as usize;
+    let f = disc.numbered(owner);
+    let block = change::first_unrecorded(f);
+    let entry = Entry::new(owner, change::flushed(f, pending));
+    Flushing {
+        entry,
+        plan: Flush::Record {
+            block,
+            sectors: pending,
+        },
+        recorded: 1,
+    }
 }
 
-impl Flushing {
-    // Nothing is flushed.
-    pub(crate) fn none() -> Flushing
-        ensures { λ r. ⌜ r ≡ noFlushing ⌝ }
-    {
-        let entry = Entry::none();
-        Flushing {
-            entry,
-            plan: Flush::Skip,
-            recorded: 0,
-        }
+// The flush of sectors that are pending in any other fragment.
+pub(crate) fn flushing_others(disc: Disc, number: usize) -> Flushing
+    requires { ⌜ Ready disc ⌝ }
+    ensures { λ r. ⌜ r ≡ flushingOthers disc number ⌝ }
+{
+    if disc.owner as usize == number {
+        return Flushing::none();
     }
-    // The flush of the pending block of a disc; nothing happens with none pending.
-    pub(crate) fn of_disc(disc: Disc) -> Flushing
-        requires { ⌜ Ready disc ⌝ }
-        ensures { λ r. ⌜ r ≡ flushing disc ⌝ }
-    {
-        let pending = disc.pending;
-        if pending == 0 {
-            return Flushing::none();
-        }
-        let owner = disc.owner as usize;
-        let f = disc.numbered(owner);
-        let block = change::first_unrecorded(f);
-        let entry = Entry::new(owner, change::flushed(f, pending));
-        Flushing {
-            entry,
-            plan: Flush::Record {
-                block,
-                sectors: pending,
-            },
-            recorded: 1,
-        }
-    }
-
-    // The flush of sectors that are pending in any other fragment.
-    pub(crate) fn of_others(disc: Disc, number: usize) -> Flushing
-        requires { ⌜ Ready disc ⌝ }
-        ensures { λ r. ⌜ r ≡ flushingOthers disc number ⌝ }
-    {
-        if disc.owner as usize == number {
-            return Flushing::none();
-        }
-        Flushing::of_disc(disc)
-    }
+    flushing(disc)
 }
 
 // SYNCHRONIZE CACHE: the flush.
@@ -73,7 +54,7 @@ pub(crate) fn synchronize_cache(disc: Disc) -> Decision
     requires { ⌜ Ready disc ⌝ }
     ensures { λ r. ⌜ decided disc r ≡ synchronizeCache disc ⌝ }
 {
-    let first = Flushing::of_disc(disc);
+    let first = flushing(disc);
     let flushed = first.entry;
     let flush = first.plan;
     let plan = Plan::new(flush, Transfer::Nothing);

@@ -1,5 +1,4 @@
 // RESERVE TRACK (53h): the blank tail becomes a reserved fragment and a tail after it.
-use crate::change;
 use decisions::Decision;
 use decisions::Effect;
 use decisions::Entry;
@@ -18,10 +17,9 @@ fn split_tail(disc: Disc, blocks: u32) -> Effect
     ensures { λ r. ⌜ affected disc r ≡ splitTail disc blocks ⌝ }
 {
     let last = disc.last();
-    let f = change::reserved(last.fragment, blocks);
-    let rest = change::tail_from(disc.capacity, f.session, f.next_start());
+    let f = last.fragment.reserved(blocks);
     let reserved = Entry::new(last.number, f);
-    let tail = Entry::new(last.number + 1, rest);
+    let tail = Entry::tail(disc.capacity, last.number + 1, f.session, f.next_start());
     Effect::Reserve { reserved, tail }
 }
 
@@ -44,7 +42,7 @@ pub(crate) fn reserve_track(disc: Disc, size: u32) -> Decision
         return Decision::refused(DriveRefusal::NoMoreReservations);
     }
     let blocks = fragments::blocks_for(size);
-    if disc.capacity as u64 <= change::reserved(last.fragment, blocks).next_start().0 {
+    if disc.capacity as u64 <= last.fragment.reserved(blocks).next_start().0 {
         return Decision::refused(DriveRefusal::EndOfUserArea);
     }
     Decision::accepted(split_tail(disc, blocks), 0, Reply::none(), Plan::none())

@@ -1,11 +1,7 @@
 // CLOSE TRACK/SESSION (5Bh) of the session (010) and of the disc (110).
-use crate::change;
-use crate::flush::Flushing;
+use crate::flush;
 use decisions::Decision;
-use decisions::Effect;
 use decisions::Entry;
-use decisions::Plan;
-use decisions::Transfer;
 use disc::Disc;
 use fragments::Fragment;
 use fragments::Last;
@@ -16,38 +12,7 @@ ghost use Rattle.fragments.specs.List.{lastOf};
 ghost use Rattle.disc.specs.Ready.{Ready};
 ghost use Rattle.disc.specs.Apply.{decided};
 ghost use Rattle.commands.specs.Flush.{flush, flushEntry};
-ghost use Rattle.commands.specs.Close.{hasIncompleteReserved, closeTail, tailClosed, closingLast, closeSession, finalize};
-
-// What closing a session makes of its last record: a blank tail is dropped, a written one ends with its recorded blocks.
-fn tail_closed(last: Last) -> Entry
-    ensures { λ r. ⌜ r ≡ tailClosed last ⌝ }
-{
-    let f = last.fragment;
-    if !f.is_tail() {
-        return Entry::none();
-    }
-    if f.recorded == 0 {
-        return Entry::new(last.number, Fragment::unused());
-    }
-    Entry::new(last.number, change::shortened(f))
-}
-
-// The last record is closed, after a flush, and a tail may begin after it: what 010 and 110 are decided to.
-fn close_last(first: Flushing, last: Last, tail: Entry, finalized: bool) -> Decision
-    ensures { λ r. ⌜ r ≡ closingLast first last tail finalized ⌝ }
-{
-    let flush = first.plan;
-    let plan = Plan::new(flush, Transfer::Nothing);
-    let flushed = first.entry;
-    let closed = tail_closed(last);
-    let effect = Effect::Close {
-        flushed,
-        closed,
-        tail,
-        finalized,
-    };
-    Decision::accepted(effect, first.recorded, Reply::none(), plan)
-}
+ghost use Rattle.commands.specs.Close.{hasIncompleteReserved, closeTail, closeSession, finalize};
 
 // Some reserved fragment is incomplete after the flush that leaves `flushed`.
 fn stays_incomplete(disc: Disc, flushed: Entry) -> bool
@@ -84,7 +49,7 @@ fn last_kept(disc: Disc, flushed: Entry, last: Last) -> Last
         return last;
     }
     if f.recorded != 0 {
-        let fragment = change::shortened(f);
+        let fragment = f.shortened();
         return Last {
             number: last.number,
             fragment,
@@ -107,7 +72,7 @@ pub(crate) fn close_session(disc: Disc) -> Decision
     if disc.finalized | disc.blank_tail_only() {
         return Decision::unchanged(Reply::none());
     }
-    let first = Flushing::of_disc(disc);
+    let first = flush::flushing(disc);
     let flushed = first.entry;
     if stays_incomplete(disc, flushed) {
         return Decision::refused(DriveRefusal::IncompleteTrackInSession);
@@ -122,9 +87,8 @@ pub(crate) fn close_session(disc: Disc) -> Decision
     if (disc.capacity as u64) < start.0 + 1 {
         return Decision::refused(DriveRefusal::EndOfUserArea);
     }
-    let opened = change::tail_from(disc.capacity, f.session + 1, start);
-    let tail = Entry::new(kept.number + 1, opened);
-    close_last(first, last, tail, disc.finalized)
+    let tail = Entry::tail(disc.capacity, kept.number + 1, f.session + 1, start);
+    first.closing(last, tail, disc.finalized)
 }
 
 // CLOSE of the disc (110): finalized.
@@ -135,7 +99,7 @@ pub(crate) fn finalize(disc: Disc) -> Decision
     if disc.finalized {
         return Decision::unchanged(Reply::none());
     }
-    let first = Flushing::of_disc(disc);
+    let first = flush::flushing(disc);
     let flushed = first.entry;
     if stays_incomplete(disc, flushed) {
         return Decision::refused(DriveRefusal::IncompleteTrackInSession);
@@ -144,5 +108,5 @@ pub(crate) fn finalize(disc: Disc) -> Decision
         return Decision::refused(DriveRefusal::EmptyTrack);
     }
     let last = last_flushed(disc, flushed);
-    close_last(first, last, Entry::none(), true)
+    first.closing(last, Entry::none(), true)
 }

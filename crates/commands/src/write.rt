@@ -1,6 +1,6 @@
 // WRITE (2Ah): the decision, the new list and the plan.
 use crate::change;
-use crate::flush::Flushing;
+use crate::flush;
 use decisions::Decision;
 use decisions::Effect;
 use decisions::Entry;
@@ -68,7 +68,7 @@ fn write_to(disc: Disc, address: Lba, sectors: u32, number: usize) -> Decision
         sectors,
     };
     let gathered = fragments::whole_blocks(pending as usize + sectors as usize) as u32;
-    let first = Flushing::of_others(disc, number);
+    let first = flush::flushing_others(disc, number);
     let flush = first.plan;
     let plan = Plan::new(flush, transfer);
     let flushed = first.entry;

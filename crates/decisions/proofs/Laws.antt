@@ -1,2 +1,3 @@
 -- One file a topic, named as in specs/.
 pub mod Run
+pub mod Tail

@@ -2,6 +2,7 @@
 pub use Rattle.fragments.specs.declared.address.Block.{Block}
 pub use Rattle.fragments.specs.declared.address.Lba.{Lba}
 pub use Rattle.fragments.specs.declared.fragment.Fragment.{Fragment}
+pub use Rattle.fragments.specs.declared.list.Last.{Last}
 pub use Rattle.protocol.specs.declared.answer.Sense.{Sense}
 pub use Rattle.protocol.specs.declared.answer.LinkRefusal.{LinkRefusal}
 pub use Rattle.protocol.specs.declared.answer.DriveRefusal.{DriveRefusal}
@@ -17,4 +18,5 @@ pub use Rattle.decisions.specs.declared.change.Entry.{Entry}
 pub use Rattle.decisions.specs.declared.change.Effect.{Effect}
 pub use Rattle.decisions.specs.declared.change.Effect.the-variants.{Keep, Settle, Reserve, Close, Grow}
 pub use Rattle.decisions.specs.declared.change.Change.{Change}
+pub use Rattle.decisions.specs.declared.flushing.Flushing.{Flushing}
 pub use Rattle.decisions.specs.declared.decision.Decision.{Decision}

@@ -81,3 +81,19 @@ nextSessionStart e = block (e .0 + 128)
 -- the tail from a block up to the capacity
 abbrev pub tailFrom : ℕ → ℕ → Block → Fragment
 tailFrom capacity s b = record { session = s; start = b; length = capacity - b .0; recorded = 0; zeroed = 0; kind = Appended }
+
+-- the reserved fragment of b blocks in the place of the tail f
+abbrev pub reservedAt : Fragment → ℕ → Fragment
+reservedAt f b = record { session = f .session; start = f .start; length = b; recorded = 0; zeroed = 0; kind = Reserved }
+
+-- the fragment ends with its recorded blocks
+abbrev pub shortenedRecord : Fragment → Fragment
+shortenedRecord f =
+    record {
+      session = f .session;
+      start = f .start;
+      length = f .recorded;
+      recorded = f .recorded;
+      zeroed = f .zeroed;
+      kind = f .kind;
+    }

@@ -4,7 +4,7 @@ use crate::address::Lba;
 use crate::address::WideBlock;
 ghost use mathlib.Core.Path.{_≡_};
 ghost use Rattle.fragments.specs.Address.{wide, firstSector};
-ghost use Rattle.fragments.specs.Fragment.{unusedRecord, end, firstUnrecorded, complete, isReserved, isTail, isIncompleteReserved, nextFragmentStart, nextSessionStart, nextAfter, takes, holds, holdsRun, lastRecorded};
+ghost use Rattle.fragments.specs.Fragment.{unusedRecord, reservedAt, shortenedRecord, end, firstUnrecorded, complete, isReserved, isTail, isIncompleteReserved, nextFragmentStart, nextSessionStart, nextAfter, takes, holds, holdsRun, lastRecorded};
 
 // Blocks between two fragments: the dividing block in a session, Closure and Intro between sessions.
 const DIVIDING: u64 = 1;
@@ -57,6 +57,29 @@ impl Fragment {
             zeroed: 0,
             kind: Kind::Reserved,
         }
+    }
+
+    // A reserved record of so many blocks in the place of the tail.
+    pub fn reserved(self, blocks: u32) -> Fragment
+        ensures { λ r. ⌜ r ≡ reservedAt self blocks ⌝ }
+    {
+        let start = self.start;
+        Fragment {
+            session: self.session,
+            start,
+            length: blocks,
+            recorded: 0,
+            zeroed: 0,
+            kind: Kind::Reserved,
+        }
+    }
+
+    // The record that ends with its recorded blocks.
+    pub fn shortened(mut self) -> Fragment
+        ensures { λ r. ⌜ r ≡ shortenedRecord self ⌝ }
+    {
+        self.length = self.recorded;
+        self
     }
 
     // The first block after the fragment.

@@ -8,14 +8,14 @@ use lib.Dec.{ltb}
 use lib.ListN.{length, getD, set, length-set}
 use lib.Seq.{getD-set-other}
 use Rattle.commands.specs.Types.{Kind, Disc, Appended, EmptyTrack}
-use Rattle.fragments.specs.Fragment.{unusedRecord, end, complete, isReserved, isTail, nextFragmentStart, tailFrom}
+use Rattle.fragments.specs.Fragment.{unusedRecord, end, complete, isReserved, isTail, nextFragmentStart, tailFrom, shortenedRecord}
 use Rattle.disc.specs.Records.{isBlank, used, isListed, numbered, withRecord}
 use Rattle.fragments.specs.List.{limit, sumRecorded}
 use Rattle.disc.specs.Rules.{Sound}
 use Rattle.disc.specs.Ready.{Ready}
 use Rattle.disc.specs.Verdict.{rise, refuse}
 use Rattle.commands.specs.Flush.{flush, flushCount, synchronizeCache}
-use Rattle.commands.specs.Close.{filledRecord, shortenedRecord, appendTail, closeIncomplete, closeFragment}
+use Rattle.commands.specs.Close.{filledRecord, appendTail, closeIncomplete, closeFragment}
 use Rattle.fragments.proofs.Laws.Bool.{and-right, and-both, by-cases, cond-yes, cond-no}
 use Rattle.fragments.proofs.Laws.List.{listed-le, sum-set}
 use Rattle.commands.proofs.Laws.Flush.{flush-sum, flush-sound}

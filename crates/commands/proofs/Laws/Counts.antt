@@ -8,13 +8,13 @@ use borrow.Author.Tests.{ltb-true, ltb-false, eqb-true, eq-eqb}
 use lib.Dec.{eqb, ltb}
 use lib.ListN.{length, getD, set, length-set}
 use lib.Seq.{getD-set-same, getD-set-other}
-use Rattle.fragments.specs.Fragment.{unusedRecord, end, nextFragmentStart}
+use Rattle.fragments.specs.Fragment.{unusedRecord, end, nextFragmentStart, reservedAt, shortenedRecord}
 use Rattle.disc.specs.Records.{isBlank, pendingIn, records, used, numbered, lastRecord, withRecord, hasTail, hasBlankTail, blankTailOnly}
 use Rattle.fragments.specs.List.{limit, firstOfSession}
 use Rattle.disc.specs.Ready.{Ready}
 use Rattle.disc.specs.Rules.{at, Sound}
-use Rattle.commands.specs.Reserve.{reservedAt, splitTail}
-use Rattle.commands.specs.Close.{shortenedRecord, appendTail, closeTail, openSession}
+use Rattle.commands.specs.Reserve.{splitTail}
+use Rattle.commands.specs.Close.{appendTail, closeTail, openSession}
 use Rattle.fragments.proofs.Laws.Bool.{and-left, and-right, by-cases, cond-yes, cond-no}
 use Rattle.fragments.proofs.Laws.Numbers.{equal-cases}
 use Rattle.fragments.proofs.Laws.List.{listed-le, listed-at}

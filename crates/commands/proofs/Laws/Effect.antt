@@ -1,7 +1,7 @@
 -- What each effect makes of the disc, by the definition of the command that it stands for.
 use Prim.Native.Nat.{ℕ, _+_, _-_, _≤_, _<_}
 use mathlib.Core.Path.{_≡_, refl, sym, _∙_, ap}
-use mathlib.Core.Bool.{Bool, true, false, cond, _&&_}
+use mathlib.Core.Bool.{Bool, true, false, cond, _&&_, and-false as and-zero}
 use native.Mathlib.Omega.{arith}
 use borrow.Author.Tests.{eq-eqb, ne-eqb, eqb-true, eqb-false}
 use lib.Dec.{eqb, ltb}
@@ -9,7 +9,7 @@ use lib.ListN.{length}
 use lib.Seq.{getD-set-same, getD-set-other}
 use Rattle.commands.specs.Types.{Fragment, Disc, Last, Entry, Settle, Reserve, Close, Grow}
 use Rattle.fragments.specs.Address.{wholeBlocks, leftOver}
-use Rattle.fragments.specs.Fragment.{unusedRecord, end, nextFragmentStart, nextSessionStart, tailFrom}
+use Rattle.fragments.specs.Fragment.{unusedRecord, end, nextFragmentStart, nextSessionStart, tailFrom, reservedAt, shortenedRecord}
 use Rattle.fragments.specs.List.{limit, lastOf}
 use Rattle.disc.specs.Records.{pendingIn, used, numbered, lastRecord, withRecord, hasTail, hasBlankTail}
 use Rattle.disc.specs.Rules.{Sound}
@@ -18,8 +18,9 @@ use Rattle.decisions.specs.Change.{entry, noEntry}
 use Rattle.disc.specs.Apply.{withEntry, withPending, withFinalized, settled, affected}
 use Rattle.commands.specs.Flush.{flushedRecord, flush, flushEntry}
 use Rattle.commands.specs.Write.{flushOthers, flushOthersEntry, grownRecord, gather}
-use Rattle.commands.specs.Reserve.{reservedAt, splitTail}
-use Rattle.commands.specs.Close.{shortenedRecord, appendTail, tailAfter, closeTail, tailClosed, openSession, finalized}
+use Rattle.commands.specs.Reserve.{splitTail}
+use Rattle.commands.specs.Close.{appendTail, closeTail, openSession, finalized}
+use Rattle.decisions.specs.Tail.{tailEntry, tailAfter, tailClosed}
 use Rattle.fragments.proofs.Laws.Bool.{and-both, by-cases}
 use Rattle.fragments.proofs.Laws.List.{listed-le}
 use Rattle.disc.proofs.Laws.Rules.{sound-rules}
@@ -115,12 +116,15 @@ affected-filled d n g r from =
 tail-appended :
     (d : Disc) (n : ℕ) (g : Fragment) → length (d .fragments) ≡ limit → 1 ≤ n → n ≤ limit
     → withEntry (withRecord d n g) (tailAfter (d .capacity) n g) ≡ appendTail (withRecord d n g) n
-unfolding tailAfter appendTail withEntry
+unfolding tailAfter tailEntry appendTail withEntry
 tail-appended d n g l from to =
     let same : numbered (withRecord d n g) n ≡ g = getD-set-same (d .fragments) (n - 1) g unusedRecord (omega arith) in
-    by-cases (ltb (nextFragmentStart (end g) .0) (d .capacity) && ltb n limit)
-    (λ t. rw (same, t, ne-eqb (n + 1) 0 (λ q. omega arith)))
-    (λ t. rw (same, t))
+    by-cases (ltb n limit)
+    (λ f.
+    by-cases (ltb (nextFragmentStart (end g) .0) (d .capacity))
+    (λ t. rw (same, f, t, ne-eqb (n + 1) 0 (λ q. omega arith)))
+    (λ t. rw (same, f, t)))
+    (λ f. rw (same, f, and-zero (ltb (nextFragmentStart (end g) .0) (d .capacity))))
 
 append-finalized : (d : Disc) (n : ℕ) → appendTail d n .finalized ≡ d .finalized
 unfolding appendTail
@@ -145,11 +149,7 @@ module _ (d : Disc) (s : Sound d) (p : d .pending ≡ 0) where
   blank-tail t z = and-both t (and-both z (eq-eqb _ _ (none-pending d (used d) p)))
 
   written-tail : eqb (lastRecord d .recorded) 0 ≡ false → hasBlankTail d ≡ false
-  written-tail z = rw z (and-false (hasTail d))
-    where
-      and-false : (b : Bool) → (b && false) ≡ false
-      and-false true = refl
-      and-false false = refl
+  written-tail z = rw z (and-zero (hasTail d))
 
   pub tail-closed : withEntry d (tailClosed (lastOf (d .fragments))) ≡ closeTail d
   unfolding tailClosed

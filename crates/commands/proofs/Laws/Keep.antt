@@ -11,15 +11,15 @@ use lib.ListN.{length, getD, set}
 use lib.Seq.{getD-set-same, getD-set-other}
 use Rattle.commands.specs.Types.{Block, Lba, Fragment, Disc}
 use Rattle.fragments.specs.Address.{firstSector}
-use Rattle.fragments.specs.Fragment.{unusedRecord, end, complete, isReserved, isTail, isIncompleteReserved, nextFragmentStart, nextSessionStart, tailFrom}
+use Rattle.fragments.specs.Fragment.{unusedRecord, end, complete, isReserved, isTail, isIncompleteReserved, nextFragmentStart, nextSessionStart, tailFrom, reservedAt, shortenedRecord}
 use Rattle.disc.specs.Records.{pendingIn, isBlank, records, used, numbered, lastRecord, withRecord, hasTail, hasBlankTail, blankTailOnly}
 use Rattle.fragments.specs.List.{limit, listed, some, firstOfSession}
 use Rattle.disc.specs.Rules.{at, Sound}
 use Rattle.disc.specs.Ready.{Ready}
 use Rattle.commands.specs.Flush.{flush}
 use Rattle.commands.specs.Write.{flushOthers, grownRecord, gather, Writable}
-use Rattle.commands.specs.Reserve.{reservedAt, splitTail}
-use Rattle.commands.specs.Close.{filledRecord, shortenedRecord, appendTail, hasIncompleteReserved, closeTail, openSession, finalized}
+use Rattle.commands.specs.Reserve.{splitTail}
+use Rattle.commands.specs.Close.{filledRecord, appendTail, hasIncompleteReserved, closeTail, openSession, finalized}
 use Rattle.fragments.proofs.Laws.Bool.{and-left, and-right, and-both, by-cases, contradiction, cond-yes, cond-no}
 use Rattle.fragments.proofs.Laws.Numbers.{equal-cases, below-limit}
 use Rattle.fragments.proofs.Laws.List.{listed-le, listed-at, at-some}

@@ -9,7 +9,7 @@ use lib.ListN.{length, set}
 use Rattle.commands.specs.Types.{Sense, Accepted, Drive, Lba, Kind, Reserved, Appended, Disc, Found, Number, Nowhere, Reply, Plan, Verdict, DriveRefusal, LinkRefusal, Link, Nothing, Command, Write, WriteProtected, InvalidFieldInCommand, InvalidAddressForWrite, IncompleteTrackInSession, EmptyTrack, NoMoreReservations, EndOfUserArea, Skip, Send, Read, Gather, Fill}
 use Rattle.fragments.specs.Address.{firstSector, blocksFor, sectorsIn}
 use Rattle.protocol.specs.Answer.{noSense, refusalSense}
-use Rattle.fragments.specs.Fragment.{end, complete, nextFragmentStart, nextSessionStart, firstUnrecorded}
+use Rattle.fragments.specs.Fragment.{end, complete, nextFragmentStart, nextSessionStart, firstUnrecorded, reservedAt, shortenedRecord}
 use Rattle.disc.specs.Records.{isBlank, pendingIn, used, isListed, numbered, lastRecord, withRecord, hasBlankTail, writableAt, blankTailOnly, withSense}
 use Rattle.fragments.specs.List.{limit}
 use Rattle.disc.specs.Rules.{Sound}
@@ -20,8 +20,8 @@ use Rattle.disc.specs.Verdict.{rise, accepted, accept, refuse}
 use Rattle.protocol.specs.Reply.{noReply}
 use Rattle.commands.specs.Flush.{flush, flushPlan, synchronizeCache}
 use Rattle.commands.specs.Write.{flushOthers, gather, writeTo, writeFound, write, Writable, flushOthersPlan, grownRecord}
-use Rattle.commands.specs.Reserve.{reservedAt, splitTail, reserve}
-use Rattle.commands.specs.Close.{filledRecord, shortenedRecord, appendTail, closeIncomplete, closeFragment, hasIncompleteReserved, closeTail, openSession, closeSession, finalized, finalize, close}
+use Rattle.commands.specs.Reserve.{splitTail, reserve}
+use Rattle.commands.specs.Close.{filledRecord, appendTail, closeIncomplete, closeFragment, hasIncompleteReserved, closeTail, openSession, closeSession, finalized, finalize, close}
 use Rattle.commands.specs.Read.{allReadable}
 use Rattle.commands.specs.Recorded.{transfers}
 use Rattle.commands.proofs.Laws.Pending.{Pending, pending-same, pending-sent, pending-none, pending-filled, pending-gathered, pending-split}

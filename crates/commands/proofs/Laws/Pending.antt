@@ -8,7 +8,7 @@ use lib.Dec.{eqb}
 use lib.ListN.{length, getD, set}
 use lib.Seq.{getD-set-same, getD-set-other}
 use Rattle.commands.specs.Types.{Block, Lba, Disc, Skip, Record, Transfer, Nothing, Send, Gather, Fill, Plan}
-use Rattle.fragments.specs.Fragment.{unusedRecord, firstUnrecorded}
+use Rattle.fragments.specs.Fragment.{unusedRecord, firstUnrecorded, reservedAt}
 use Rattle.disc.specs.Records.{pendingIn, isBlank, used, numbered, lastRecord, hasTail, hasBlankTail}
 use Rattle.fragments.specs.List.{limit}
 use Rattle.disc.specs.Ready.{Ready}
@@ -16,7 +16,7 @@ use Rattle.decisions.specs.Plan.{plan, noPlan}
 use Rattle.commands.specs.Recorded.{flushedCount, transferredCount, pendingBlock, transferredBlock}
 use Rattle.commands.specs.Flush.{flush, flushPlan}
 use Rattle.commands.specs.Write.{flushOthers, flushOthersPlan, grownRecord, gather}
-use Rattle.commands.specs.Reserve.{reservedAt, splitTail}
+use Rattle.commands.specs.Reserve.{splitTail}
 use Rattle.fragments.proofs.Laws.Bool.{by-cases, cond-no, and-right}
 use Rattle.disc.proofs.Laws.Rules.{sound-rules}
 use Rattle.commands.proofs.Laws.Write.{others-pending, others-numbered, others-length}

@@ -8,7 +8,7 @@ use lib.Dec.{eqb, leb}
 use lib.ListN.{getD, set, length-set}
 use lib.Seq.{getD-set-other}
 use Rattle.commands.specs.Types.{Fragment, Disc, NoMoreReservations, EndOfUserArea}
-use Rattle.fragments.specs.Fragment.{unusedRecord, end, nextFragmentStart, tailFrom}
+use Rattle.fragments.specs.Fragment.{unusedRecord, end, nextFragmentStart, tailFrom, reservedAt}
 use Rattle.disc.specs.Records.{pendingIn, isBlank, used, lastRecord, withRecord, hasTail, hasBlankTail}
 use Rattle.fragments.specs.List.{limit, sumRecorded}
 use Rattle.disc.specs.Rules.{Sound}
@@ -16,7 +16,7 @@ use Rattle.decisions.specs.Plan.{noPlan}
 use Rattle.disc.specs.Verdict.{rise, accepted, refuse}
 use Rattle.protocol.specs.Reply.{noReply}
 use Rattle.fragments.specs.Address.{blocksFor}
-use Rattle.commands.specs.Reserve.{reservedAt, splitTail, reserve}
+use Rattle.commands.specs.Reserve.{splitTail, reserve}
 use Rattle.fragments.proofs.Laws.Bool.{and-left, and-right, cond-no}
 use Rattle.fragments.proofs.Laws.List.{listed-le, sum-set}
 use Rattle.disc.proofs.Laws.Verdict.{accept-count}

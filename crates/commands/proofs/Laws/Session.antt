@@ -9,7 +9,7 @@ use lib.Dec.{eqb, ltb}
 use lib.ListN.{length, getD, set, length-set}
 use lib.Seq.{getD-set-same, getD-set-other}
 use Rattle.commands.specs.Types.{Fragment, Disc, Nothing, IncompleteTrackInSession, EmptyTrack, NoMoreReservations, EndOfUserArea}
-use Rattle.fragments.specs.Fragment.{unusedRecord, end, nextSessionStart, tailFrom}
+use Rattle.fragments.specs.Fragment.{unusedRecord, end, nextSessionStart, tailFrom, shortenedRecord}
 use Rattle.disc.specs.Records.{isBlank, used, lastRecord, withRecord, hasTail, hasBlankTail, blankTailOnly}
 use Rattle.fragments.specs.List.{limit, sumRecorded}
 use Rattle.disc.specs.Rules.{at, Sound}
@@ -18,7 +18,7 @@ use Rattle.decisions.specs.Plan.{noPlan, plan}
 use Rattle.disc.specs.Verdict.{rise, accepted, accept, refuse}
 use Rattle.protocol.specs.Reply.{noReply}
 use Rattle.commands.specs.Flush.{flush, flushPlan, flushCount}
-use Rattle.commands.specs.Close.{shortenedRecord, hasIncompleteReserved, closeTail, openSession, closeSession, finalized, finalize}
+use Rattle.commands.specs.Close.{hasIncompleteReserved, closeTail, openSession, closeSession, finalized, finalize}
 use Rattle.fragments.proofs.Laws.Numbers.{equal-cases, below-limit}
 use Rattle.fragments.proofs.Laws.Bool.{and-false, and-both, contradiction, by-cases, cond-yes, cond-no}
 use Rattle.fragments.proofs.Laws.List.{listed-le, sum-set}

@@ -9,7 +9,7 @@ use lib.Dec.{eqb, leb, ltb}
 use lib.ListN.{length}
 use Rattle.fragments.specs.Address.{lba, firstSector, sectorsIn, blocksFor}
 use Rattle.protocol.specs.Answer.{noSense}
-use Rattle.fragments.specs.Fragment.{end, firstUnrecorded, complete, isReserved, nextFragmentStart, nextSessionStart}
+use Rattle.fragments.specs.Fragment.{end, firstUnrecorded, complete, isReserved, nextFragmentStart, nextSessionStart, reservedAt, shortenedRecord}
 use Rattle.disc.specs.Records.{isBlank, pendingIn, used, isListed, numbered, lastRecord, withRecord, withSense, hasTail, hasBlankTail, writableAt, blankTailOnly, atAddress}
 use Rattle.fragments.specs.List.{limit}
 use Rattle.commands.specs.Recorded.{among}
@@ -21,8 +21,8 @@ use Rattle.protocol.specs.Reply.{noReply}
 use Rattle.commands.specs.Flush.{flush, flushPlan, synchronizeCache}
 use Rattle.commands.specs.Read.{allReadable, read}
 use Rattle.commands.specs.Write.{flushOthers, flushOthersPlan, gather, Writable, writeTo, writeFound, write}
-use Rattle.commands.specs.Reserve.{reservedAt, splitTail, reserve}
-use Rattle.commands.specs.Close.{shortenedRecord, appendTail, closeIncomplete, closeFragment, hasIncompleteReserved, closeTail, openSession, closeSession, finalized, finalize, close}
+use Rattle.commands.specs.Reserve.{splitTail, reserve}
+use Rattle.commands.specs.Close.{appendTail, closeIncomplete, closeFragment, hasIncompleteReserved, closeTail, openSession, closeSession, finalized, finalize, close}
 use Rattle.reports.specs.Reports.{requestSense, readCapacity, readDiscInformation, readTrackInformation, trackVerdict, trackFound, trackNumbered}
 use Rattle.commands.specs.Judge.{testUnitReady, perform}
 use Rattle.fragments.proofs.Laws.Bool.{and-both, and-left, and-right, or-cases, contradiction, by-cases, cond-yes, cond-no, cond-cases}

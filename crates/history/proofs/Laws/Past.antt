@@ -8,7 +8,7 @@ use borrow.Author.Tests.{eq-eqb, ne-eqb, eqb-true, eqb-false, ltb-true, ltb-fals
 use lib.Dec.{eqb, leb, ltb}
 use lib.ListN.{length}
 use Rattle.fragments.specs.Address.{lba, firstSector, sectorsIn, blocksFor}
-use Rattle.fragments.specs.Fragment.{end, firstUnrecorded, complete, isReserved, nextFragmentStart, nextSessionStart}
+use Rattle.fragments.specs.Fragment.{end, firstUnrecorded, complete, isReserved, nextFragmentStart, nextSessionStart, reservedAt, shortenedRecord}
 use Rattle.disc.specs.Records.{isBlank, pendingIn, used, isListed, numbered, lastRecord, withRecord, hasTail, hasBlankTail, writableAt, blankTailOnly, atAddress, readable}
 use Rattle.fragments.specs.List.{limit}
 use Rattle.commands.specs.Recorded.{among, flushes, transfers, recordsBlock, flushedCount, transferredCount, pendingBlock, transferredBlock}
@@ -19,8 +19,8 @@ use Rattle.protocol.specs.Reply.{noReply}
 use Rattle.commands.specs.Flush.{flush, flushPlan, synchronizeCache}
 use Rattle.commands.specs.Read.{allReadable, read}
 use Rattle.commands.specs.Write.{flushOthersPlan, gather, Writable, writeTo, writeFound, write}
-use Rattle.commands.specs.Reserve.{reservedAt, splitTail, reserve}
-use Rattle.commands.specs.Close.{filledRecord, shortenedRecord, appendTail, closeIncomplete, closeFragment, hasIncompleteReserved, closeTail, openSession, closeSession, finalized, finalize, close}
+use Rattle.commands.specs.Reserve.{splitTail, reserve}
+use Rattle.commands.specs.Close.{filledRecord, appendTail, closeIncomplete, closeFragment, hasIncompleteReserved, closeTail, openSession, closeSession, finalized, finalize, close}
 use Rattle.reports.specs.Reports.{requestSense, readCapacity, readDiscInformation, readTrackInformation, trackVerdict, trackFound, trackNumbered}
 use Rattle.commands.specs.Judge.{testUnitReady, perform}
 use Rattle.fragments.proofs.Laws.Bool.{and-both, and-false, by-cases, or-left, or-right, or-cases, same-test, cond-yes, cond-no, cond-cases}

@@ -6,7 +6,7 @@ use native.Mathlib.Omega.{arith}
 use borrow.Author.Tests.{eqb-true, eqb-false, leb-true, leb-false, ltb-false, not-false}
 use lib.Dec.{eqb, leb, ltb}
 use Rattle.fragments.specs.Address.{lba, firstSector, sectorsIn, blocksFor}
-use Rattle.fragments.specs.Fragment.{end, complete, nextFragmentStart, nextSessionStart}
+use Rattle.fragments.specs.Fragment.{end, complete, nextFragmentStart, nextSessionStart, reservedAt, shortenedRecord}
 use Rattle.disc.specs.Records.{isBlank, pendingIn, used, isListed, numbered, lastRecord, withRecord, hasTail, hasBlankTail, writableAt, blankTailOnly, atAddress}
 use Rattle.fragments.specs.List.{limit}
 use Rattle.disc.specs.Rules.{at, Sound}
@@ -17,8 +17,8 @@ use Rattle.protocol.specs.Reply.{noReply}
 use Rattle.commands.specs.Flush.{flush, synchronizeCache}
 use Rattle.commands.specs.Read.{allReadable, read}
 use Rattle.commands.specs.Write.{flushOthers, gather, Writable, writeTo, writeFound, write}
-use Rattle.commands.specs.Reserve.{reservedAt, splitTail, reserve}
-use Rattle.commands.specs.Close.{filledRecord, shortenedRecord, appendTail, closeIncomplete, closeFragment, hasIncompleteReserved, closeTail, openSession, closeSession, finalized, finalize, close}
+use Rattle.commands.specs.Reserve.{splitTail, reserve}
+use Rattle.commands.specs.Close.{filledRecord, appendTail, closeIncomplete, closeFragment, hasIncompleteReserved, closeTail, openSession, closeSession, finalized, finalize, close}
 use Rattle.reports.specs.Reports.{requestSense, readCapacity, readDiscInformation, readTrackInformation, trackVerdict, trackFound, trackNumbered}
 use Rattle.commands.specs.Judge.{testUnitReady, perform}
 use Rattle.fragments.proofs.Laws.Bool.{by-cases, cond-yes, cond-no, cond-cases}

@@ -3,7 +3,8 @@ use Rattle.disc.specs.Verdict.{accepted}
 use Rattle.commands.specs.Types.{Nothing}
 use Rattle.protocol.specs.Reply.{noReply}
 use Rattle.commands.specs.Flush.{flush, flushPlan, flushCount}
-use Rattle.commands.specs.Close.{closeIncomplete, shortenedRecord}
+use Rattle.commands.specs.Close.{closeIncomplete}
+use Rattle.fragments.specs.Fragment.{shortenedRecord}
 use Rattle.disc.specs.Records.{numbered}
 use Rattle.commands.proofs.Laws.Flush.{used-limit, flush-ready, flush-sound}
 use Rattle.disc.proofs.Laws.Verdict.{accept-count}

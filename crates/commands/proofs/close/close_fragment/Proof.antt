@@ -41,8 +41,8 @@ returns-2 c =
     let l = listed-number d n li in
     rw (c .refused2 .ensures, refused-verdict) (sym (close-blank d n li (rw (c .before .before .before .numbered .ensures) at (sym (c .before .before .is-blank .ensures) ∙ c .before .if2 .taken))))
 
-of-disc-requires : tie.Need-of-disc-requires
-of-disc-requires c κs = search needs
+flushing-requires : tie.Need-flushing-requires
+flushing-requires c κs = search needs
 
 over-requires : tie.Need-over-requires
 over-requires c κs = search needs
@@ -60,7 +60,7 @@ returns-3 c =
     let r = c .before .before .before .before .before .before .before .before .before .before .before .pre in
     let li = sym (c .before .before .before .before .before .before .before .before .before .before .is-listed .ensures) ∙ not-false _ (c .before .before .before .before .before .before .before .before .before .if1 .left) in
     let l = listed-number d n li in
-    let fo = rw (c .before .before .before .before .before .of-disc .ensures, c .before .before .before .before .before .before .before .before .numbered .ensures) at (c .before .before .before .over .ensures) ∙ flush-numbered d r n (l .0) in
+    let fo = rw (c .before .before .before .before .before .flushing .ensures, c .before .before .before .before .before .before .before .before .numbered .ensures) at (c .before .before .before .over .ensures) ∙ flush-numbered d r n (l .0) in
     let b = rw (c .before .before .before .before .before .before .before .before .numbered .ensures) at (sym (c .before .before .before .before .before .before .before .is-blank .ensures) ∙ c .before .before .before .before .before .before .if2 .left) in
     c .synchronize-cache .ensures ∙ sym (close-complete d n li b (rw fo at (sym (c .before .before .is-complete .ensures) ∙ c .before .if3 .taken)))
 
@@ -74,8 +74,8 @@ close-reserved-requires c κs =
     let r = c .before .before .before .before .before .before .before .before .before .before .before .before .pre in
     let li = sym (c .before .before .before .before .before .before .before .before .before .before .before .is-listed .ensures) ∙ not-false _ (c .before .before .before .before .before .before .before .before .before .before .if1 .left) in
     let l = listed-number d n li in
-    let fo = rw (c .before .before .before .before .before .before .of-disc .ensures, c .before .before .before .before .before .before .before .before .before .numbered .ensures) at (c .before .before .before .before .over .ensures) ∙ flush-numbered d r n (l .0) in
-    (r, (c .before .before .before .before .before .before .of-disc .ensures, ((l .0, omega (arith, l, flush-used d r)), fo)))
+    let fo = rw (c .before .before .before .before .before .before .flushing .ensures, c .before .before .before .before .before .before .before .before .before .numbered .ensures) at (c .before .before .before .before .over .ensures) ∙ flush-numbered d r n (l .0) in
+    (r, (c .before .before .before .before .before .before .flushing .ensures, ((l .0, omega (arith, l, flush-used d r)), fo)))
 
 enum-told-2 : tie.Need-enum-told-2
 enum-told-2 c = search needs
@@ -87,10 +87,10 @@ close-appended-requires c κs =
     let r = c .before .before .before .before .before .before .before .before .before .before .before .before .pre in
     let li = sym (c .before .before .before .before .before .before .before .before .before .before .before .is-listed .ensures) ∙ not-false _ (c .before .before .before .before .before .before .before .before .before .before .if1 .left) in
     let l = listed-number d n li in
-    let fo = rw (c .before .before .before .before .before .before .of-disc .ensures, c .before .before .before .before .before .before .before .before .before .numbered .ensures) at (c .before .before .before .before .over .ensures) ∙ flush-numbered d r n (l .0) in
+    let fo = rw (c .before .before .before .before .before .before .flushing .ensures, c .before .before .before .before .before .before .before .before .before .numbered .ensures) at (c .before .before .before .before .over .ensures) ∙ flush-numbered d r n (l .0) in
     let b = rw (c .before .before .before .before .before .before .before .before .before .numbered .ensures) at (sym (c .before .before .before .before .before .before .before .before .is-blank .ensures) ∙ c .before .before .before .before .before .before .before .if2 .left) in
     let cf = rw fo at (sym (c .before .before .before .is-complete .ensures) ∙ c .before .before .if3 .left) in
-    (r, (c .before .before .before .before .before .before .of-disc .ensures, (appended-last (flush d) n (flush-sound d r) (l .0) (omega (arith, l, flush-used d r)) cf (rw fo at (c .enum-told2 .given .1)), fo)))
+    (r, (c .before .before .before .before .before .before .flushing .ensures, (appended-last (flush d) n (flush-sound d r) (l .0) (omega (arith, l, flush-used d r)) cf (rw fo at (c .enum-told2 .given .1)), fo)))
 
 returns-4 : tie.Need-returns-4
 returns-4 c =
@@ -99,7 +99,7 @@ returns-4 c =
     let r = c .before .before .before .before .before .before .before .before .before .before .before .before .before .pre in
     let li = sym (c .before .before .before .before .before .before .before .before .before .before .before .before .is-listed .ensures) ∙ not-false _ (c .before .before .before .before .before .before .before .before .before .before .before .if1 .left) in
     let l = listed-number d n li in
-    let fo = rw (c .before .before .before .before .before .before .before .of-disc .ensures, c .before .before .before .before .before .before .before .before .before .before .numbered .ensures) at (c .before .before .before .before .before .over .ensures) ∙ flush-numbered d r n (l .0) in
+    let fo = rw (c .before .before .before .before .before .before .before .flushing .ensures, c .before .before .before .before .before .before .before .before .before .before .numbered .ensures) at (c .before .before .before .before .before .over .ensures) ∙ flush-numbered d r n (l .0) in
     let b = rw (c .before .before .before .before .before .before .before .before .before .before .numbered .ensures) at (sym (c .before .before .before .before .before .before .before .before .before .is-blank .ensures) ∙ c .before .before .before .before .before .before .before .before .if2 .left) in
     let cf = rw fo at (sym (c .before .before .before .before .is-complete .ensures) ∙ c .before .before .before .if3 .left) in
     c .close-reserved .ensures ∙ sym (close-incomplete d n li b Reserved cf (rw fo at (c .before .enum-told .given .1)))
@@ -111,7 +111,7 @@ returns-5 c =
     let r = c .before .before .before .before .before .before .before .before .before .before .before .before .before .pre in
     let li = sym (c .before .before .before .before .before .before .before .before .before .before .before .before .is-listed .ensures) ∙ not-false _ (c .before .before .before .before .before .before .before .before .before .before .before .if1 .left) in
     let l = listed-number d n li in
-    let fo = rw (c .before .before .before .before .before .before .before .of-disc .ensures, c .before .before .before .before .before .before .before .before .before .before .numbered .ensures) at (c .before .before .before .before .before .over .ensures) ∙ flush-numbered d r n (l .0) in
+    let fo = rw (c .before .before .before .before .before .before .before .flushing .ensures, c .before .before .before .before .before .before .before .before .before .before .numbered .ensures) at (c .before .before .before .before .before .over .ensures) ∙ flush-numbered d r n (l .0) in
     let b = rw (c .before .before .before .before .before .before .before .before .before .before .numbered .ensures) at (sym (c .before .before .before .before .before .before .before .before .before .is-blank .ensures) ∙ c .before .before .before .before .before .before .before .before .if2 .left) in
     let cf = rw fo at (sym (c .before .before .before .before .is-complete .ensures) ∙ c .before .before .before .if3 .left) in
     c .close-appended .ensures ∙ sym (close-incomplete d n li b Appended cf (rw fo at (c .before .enum-told2 .given .1)))
@@ -127,7 +127,7 @@ close-fragment-spec =
     is-blank-requires
     refused-requires-2
     returns-2
-    of-disc-requires
+    flushing-requires
     over-requires
     is-complete-requires
     synchronize-cache-requires

@@ -12,8 +12,8 @@ use borrow.Author.Needs.{needs}
 use Rattle.commands.proofs.flush.synchronize_cache.Statement.{statement}
 use Rattle.commands.proofs.flush.synchronize_cache.Tie as tie
 
-of-disc-requires : tie.Need-of-disc-requires
-of-disc-requires c κs = search needs
+flushing-requires : tie.Need-flushing-requires
+flushing-requires c κs = search needs
 
 new-requires : tie.Need-new-requires
 new-requires c κs = search needs
@@ -28,9 +28,9 @@ returns : tie.Need-returns
 unfolding synchronizeCache
 returns c =
     let d = c .before .before .before .before .before .args .disc in
-    rw (c .accepted .ensures, accepted-verdict, c .before .none .ensures, c .before .before .new .ensures, c .before .before .before .before .of-disc .ensures)
+    rw (c .accepted .ensures, accepted-verdict, c .before .none .ensures, c .before .before .new .ensures, c .before .before .before .before .flushing .ensures)
     (ap (λ x. accepted x (flushCount d) noReply (plan (flushPlan d) Nothing)) (affected-settled d (c .before .before .before .before .before .pre)) ∙ sym (accept-count d (flush d) _ _ _ (rise-flush d (c .before .before .before .before .before .pre))))
 
 pub synchronize-cache-spec : {M : Type 1} → statement M
 synchronize-cache-spec =
-    tie.close (tie.spec of-disc-requires new-requires none-requires accepted-requires returns)
+    tie.close (tie.spec flushing-requires new-requires none-requires accepted-requires returns)

@@ -1,17 +1,21 @@
+use Rattle.decisions.proofs.Laws.Tail.{tail-left}
 use Rattle.fragments.proofs.Laws.Address.{wide-number}
 use Rattle.decisions.specs.Plan.{plan}
 use Rattle.disc.specs.Verdict.{accepted}
 use Rattle.commands.specs.Types.{Nothing}
 use Rattle.protocol.specs.Reply.{noReply}
 use Rattle.commands.specs.Flush.{flush, flushPlan, flushCount}
-use Rattle.commands.specs.Close.{closeTail, closingLast}
+use Rattle.commands.specs.Close.{closeTail}
+use Rattle.decisions.specs.Flushing.{closingLast}
 use Rattle.fragments.specs.List.{limit}
-use Rattle.disc.specs.Records.{used}
+use Rattle.fragments.specs.Fragment.{end, nextSessionStart}
+use Rattle.disc.specs.Records.{used, lastRecord}
 use Rattle.commands.proofs.Laws.Flush.{flush-sound, flush-pending}
 use Rattle.commands.proofs.Laws.Session.{kept, kept-few, session-idle, session-incomplete, session-full, session-past, session-done}
 use Rattle.disc.proofs.Laws.Apply.{refused-verdict, accepted-verdict, unchanged-verdict}
 use Rattle.commands.proofs.Laws.Effect.{affected-session}
-use mathlib.Core.Path.{_≡_, sym, _∙_, ap}
+use Prim.Native.Nat.{_<_}
+use mathlib.Core.Path.{_≡_, refl, sym, _∙_, ap}
 use native.Mathlib.Omega.{arith}
 use borrow.Author.Needs.{needs}
 use Rattle.commands.proofs.session.close_session.Statement.{statement}
@@ -29,13 +33,13 @@ unchanged-requires c κs = search needs
 returns : tie.Need-returns
 returns c = rw (c .unchanged .ensures, c .before .none .ensures, unchanged-verdict) (sym (session-idle (c .before .before .before .before .before .args .disc) (rw (c .before .before .before .before .blank-tail-only .ensures) at (c .before .before .if1 .taken))))
 
-of-disc-requires : tie.Need-of-disc-requires
-of-disc-requires c κs = search needs
+flushing-requires : tie.Need-flushing-requires
+flushing-requires c κs = search needs
 
 stays-incomplete-requires : tie.Need-stays-incomplete-requires
 stays-incomplete-requires c κs =
     let d = c .before .before .before .before .before .args .disc in
-    let fe = ap (λ x. x .entry) (c .before .of-disc .ensures) in
+    let fe = ap (λ x. x .entry) (c .before .flushing .ensures) in
     (c .before .before .before .before .before .pre, fe)
 
 refused-requires : tie.Need-refused-requires
@@ -44,20 +48,19 @@ refused-requires c κs = search needs
 returns-2 : tie.Need-returns-2
 returns-2 c =
     let d = c .before .before .before .before .before .before .before .before .args .disc in
-    let fe = ap (λ x. x .entry) (c .before .before .before .before .of-disc .ensures) in
     let h = rw (c .before .before .before .before .before .before .before .blank-tail-only .ensures) at (c .before .before .before .before .before .if1 .left) in
     rw (c .refused .ensures, refused-verdict) (sym (session-incomplete d h (sym (c .before .before .stays-incomplete .ensures) ∙ c .before .if2 .taken)))
 
 last-flushed-requires : tie.Need-last-flushed-requires
 last-flushed-requires c κs =
     let d = c .before .before .before .before .before .before .before .args .disc in
-    let fe = ap (λ x. x .entry) (c .before .before .before .of-disc .ensures) in
+    let fe = ap (λ x. x .entry) (c .before .before .before .flushing .ensures) in
     (c .before .before .before .before .before .before .before .pre, fe)
 
 last-kept-requires : tie.Need-last-kept-requires
 last-kept-requires c κs =
     let d = c .before .before .before .before .before .before .before .before .args .disc in
-    let fe = ap (λ x. x .entry) (c .before .before .before .before .of-disc .ensures) in
+    let fe = ap (λ x. x .entry) (c .before .before .before .before .flushing .ensures) in
     (c .before .before .before .before .before .before .before .before .pre, (fe, c .last-flushed .ensures))
 
 refused-requires-2 : tie.Need-refused-requires-2
@@ -66,7 +69,6 @@ refused-requires-2 c κs = search needs
 returns-3 : tie.Need-returns-3
 returns-3 c =
     let d = c .before .before .before .before .before .before .before .before .before .before .before .before .args .disc in
-    let fe = ap (λ x. x .entry) (c .before .before .before .before .before .before .before .before .of-disc .ensures) in
     let h = rw (c .before .before .before .before .before .before .before .before .before .before .before .blank-tail-only .ensures) at (c .before .before .before .before .before .before .before .before .before .if1 .left) in
     let i = sym (c .before .before .before .before .before .before .stays-incomplete .ensures) ∙ c .before .before .before .before .before .if2 .left in
     let l = c .before .before .before .last-kept .ensures in
@@ -87,7 +89,6 @@ refused-requires-3 c κs = search needs
 returns-4 : tie.Need-returns-4
 returns-4 c =
     let d = c .before .before .before .before .before .before .before .before .before .before .before .before .before .before .before .before .before .args .disc in
-    let fe = ap (λ x. x .entry) (c .before .before .before .before .before .before .before .before .before .before .before .before .before .of-disc .ensures) in
     let h = rw (c .before .before .before .before .before .before .before .before .before .before .before .before .before .before .before .before .blank-tail-only .ensures) at (c .before .before .before .before .before .before .before .before .before .before .before .before .before .before .if1 .left) in
     let i = sym (c .before .before .before .before .before .before .before .before .before .before .before .stays-incomplete .ensures) ∙ c .before .before .before .before .before .before .before .before .before .before .if2 .left in
     let l = c .before .before .before .before .before .before .before .before .last-kept .ensures in
@@ -95,40 +96,39 @@ returns-4 c =
     let n = wide-number (rw l at (c .before .before .before .before .next-session-start .ensures)) in
     rw (c .refused3 .ensures, refused-verdict) (sym (session-past d h i u (rw n at (c .before .if4 .taken))))
 
-add-tail-from : tie.Need-add-tail-from
-add-tail-from c =
+add-tail : tie.Need-add-tail
+add-tail c =
     let d = c .before .before .before .before .before .before .before .before .before .before .before .before .before .before .before .before .before .args .disc in
-    let m = kept (flush d) (flush-sound d (c .before .before .before .before .before .before .before .before .before .before .before .before .before .before .before .before .before .pre)) (flush-pending d) in
-    omega (arith, ap (λ x. x .fragment .session) (c .before .before .before .before .before .before .before .before .last-kept .ensures), m .sessions)
+    let l = c .before .before .before .before .before .before .before .before .last-kept .ensures in
+    omega (arith, ap (λ x. x .number) l, kept-few (flush d) (flush-sound d (c .before .before .before .before .before .before .before .before .before .before .before .before .before .before .before .before .before .pre)) (flush-pending d) (λ e. c .before .before .before .before .before .before .if3 .left (ap (λ x. x .number) l ∙ e)))
 
-tail-from-requires : tie.Need-tail-from-requires
-tail-from-requires c κs = search needs
+add-tail-2 : tie.Need-add-tail-2
+add-tail-2 c =
+    let d = c .before .before .before .before .before .before .before .before .before .before .before .before .before .before .before .before .before .before .args .disc in
+    let m = kept (flush d) (flush-sound d (c .before .before .before .before .before .before .before .before .before .before .before .before .before .before .before .before .before .before .pre)) (flush-pending d) in
+    omega (arith, ap (λ x. x .fragment .session) (c .before .before .before .before .before .before .before .before .before .last-kept .ensures), m .sessions)
 
-add-new : tie.Need-add-new
-add-new c =
-    let d = c .before .before .before .before .before .before .before .before .before .before .before .before .before .before .before .before .before .before .before .args .disc in
-    let l = c .before .before .before .before .before .before .before .before .before .before .last-kept .ensures in
-    omega (arith, ap (λ x. x .number) l, kept-few (flush d) (flush-sound d (c .before .before .before .before .before .before .before .before .before .before .before .before .before .before .before .before .before .before .before .pre)) (flush-pending d) (λ e. c .before .before .before .before .before .before .before .before .if3 .left (ap (λ x. x .number) l ∙ e)))
+tail-requires : tie.Need-tail-requires
+tail-requires c κs = search needs
 
-new-requires : tie.Need-new-requires
-new-requires c κs = search needs
-
-close-last-requires : tie.Need-close-last-requires
-close-last-requires c κs = search needs
+closing-requires : tie.Need-closing-requires
+closing-requires c κs = search needs
 
 returns-5 : tie.Need-returns-5
 unfolding closingLast
 returns-5 c =
-    let d = c .before .before .before .before .before .before .before .before .before .before .before .before .before .before .before .before .before .before .before .before .before .args .disc in
-    let fe = ap (λ x. x .entry) (c .before .before .before .before .before .before .before .before .before .before .before .before .before .before .before .before .before .of-disc .ensures) in
-    let h = rw (c .before .before .before .before .before .before .before .before .before .before .before .before .before .before .before .before .before .before .before .before .blank-tail-only .ensures) at (c .before .before .before .before .before .before .before .before .before .before .before .before .before .before .before .before .before .before .if1 .left) in
-    let i = sym (c .before .before .before .before .before .before .before .before .before .before .before .before .before .before .before .stays-incomplete .ensures) ∙ c .before .before .before .before .before .before .before .before .before .before .before .before .before .before .if2 .left in
-    let l = c .before .before .before .before .before .before .before .before .before .before .before .before .last-kept .ensures in
-    let u : used (closeTail (flush d)) ≡ limit → ⊥ = λ e. c .before .before .before .before .before .before .before .before .before .before .if3 .left (ap (λ x. x .number) l ∙ e) in
-    let n = wide-number (rw l at (c .before .before .before .before .before .before .before .before .next-session-start .ensures)) in
-    rw (c .close-last .ensures, accepted-verdict, c .before .new .ensures, c .before .before .before .before .before .before .before .before .before .before .before .before .before .last-flushed .ensures, c .before .before .before .before .before .before .before .before .before .before .before .before .before .before .before .before .before .of-disc .ensures)
-    (ap (λ x. accepted x (flushCount d) noReply (plan (flushPlan d) Nothing)) (affected-session d (c .before .before .before .before .before .before .before .before .before .before .before .before .before .before .before .before .before .before .before .before .before .pre) _ _ (ap (λ x. x .number) l) (rw (c .before .before .before .before .before .before .before .before .next-session-start .ensures, l) at (c .before .before .before .tail-from .ensures)))
-    ∙ sym (session-done d h i u (c .before .before .before .before .before .before .before .before .before .before .before .before .before .before .before .before .before .before .before .before .before .pre) (rw n at (c .before .before .before .before .before .if4 .left))))
+    let d = c .before .before .before .before .before .before .before .before .before .before .before .before .before .before .before .before .before .before .before .before .args .disc in
+    let h = rw (c .before .before .before .before .before .before .before .before .before .before .before .before .before .before .before .before .before .before .before .blank-tail-only .ensures) at (c .before .before .before .before .before .before .before .before .before .before .before .before .before .before .before .before .before .if1 .left) in
+    let i = sym (c .before .before .before .before .before .before .before .before .before .before .before .before .before .before .stays-incomplete .ensures) ∙ c .before .before .before .before .before .before .before .before .before .before .before .before .before .if2 .left in
+    let l = c .before .before .before .before .before .before .before .before .before .before .before .last-kept .ensures in
+    let u : used (closeTail (flush d)) ≡ limit → ⊥ = λ e. c .before .before .before .before .before .before .before .before .before .if3 .left (ap (λ x. x .number) l ∙ e) in
+    let n = wide-number (rw l at (c .before .before .before .before .before .before .before .next-session-start .ensures)) in
+    let s = nextSessionStart (end (lastRecord (closeTail (flush d)))) in
+    let w : s .0 < d .capacity = omega (arith, n, c .before .before .before .before .if4 .left) in
+    let t = rw (c .before .before .before .before .before .before .before .next-session-start .ensures, l) at (c .before .tail .ensures) in
+    rw (c .closing .ensures, accepted-verdict, t, tail-left _ _ _ s w, c .before .before .before .before .before .before .before .before .before .before .before .before .last-flushed .ensures, c .before .before .before .before .before .before .before .before .before .before .before .before .before .before .before .before .flushing .ensures)
+    (ap (λ x. accepted x (flushCount d) noReply (plan (flushPlan d) Nothing)) (affected-session d (c .before .before .before .before .before .before .before .before .before .before .before .before .before .before .before .before .before .before .before .before .pre) _ _ refl refl)
+    ∙ sym (session-done d h i u (c .before .before .before .before .before .before .before .before .before .before .before .before .before .before .before .before .before .before .before .before .pre) (rw n at (c .before .before .before .before .if4 .left))))
 
 pub close-session-spec : {M : Type 1} → statement M
 close-session-spec =
@@ -138,7 +138,7 @@ close-session-spec =
     none-requires
     unchanged-requires
     returns
-    of-disc-requires
+    flushing-requires
     stays-incomplete-requires
     refused-requires
     returns-2
@@ -151,9 +151,8 @@ close-session-spec =
     add-if4
     refused-requires-3
     returns-4
-    add-tail-from
-    tail-from-requires
-    add-new
-    new-requires
-    close-last-requires
+    add-tail
+    add-tail-2
+    tail-requires
+    closing-requires
     returns-5)

@@ -3,7 +3,7 @@ use Rattle.disc.specs.Verdict.{accepted}
 use Rattle.commands.specs.Types.{Nothing}
 use Rattle.protocol.specs.Reply.{noReply}
 use Rattle.commands.specs.Flush.{flushPlan, flushCount}
-use Rattle.commands.specs.Close.{closingLast}
+use Rattle.decisions.specs.Flushing.{closingLast}
 use Rattle.commands.proofs.Laws.Session.{finalize-idle, finalize-incomplete, finalize-blank, finalize-done}
 use Rattle.disc.proofs.Laws.Apply.{refused-verdict, accepted-verdict, unchanged-verdict}
 use Rattle.commands.proofs.Laws.Effect.{affected-finalized}
@@ -21,13 +21,13 @@ unchanged-requires c κs = search needs
 returns : tie.Need-returns
 returns c = rw (c .unchanged .ensures, c .before .none .ensures, unchanged-verdict) (sym (finalize-idle (c .before .before .before .args .disc) (c .before .before .if1 .taken)))
 
-of-disc-requires : tie.Need-of-disc-requires
-of-disc-requires c κs = search needs
+flushing-requires : tie.Need-flushing-requires
+flushing-requires c κs = search needs
 
 stays-incomplete-requires : tie.Need-stays-incomplete-requires
 stays-incomplete-requires c κs =
     let d = c .before .before .before .args .disc in
-    let fe = ap (λ x. x .entry) (c .before .of-disc .ensures) in
+    let fe = ap (λ x. x .entry) (c .before .flushing .ensures) in
     (c .before .before .before .pre, fe)
 
 refused-requires : tie.Need-refused-requires
@@ -48,20 +48,20 @@ returns-3 c = rw (c .refused2 .ensures, refused-verdict) (sym (finalize-blank (c
 last-flushed-requires : tie.Need-last-flushed-requires
 last-flushed-requires c κs =
     let d = c .before .before .before .before .before .before .before .args .disc in
-    let fe = ap (λ x. x .entry) (c .before .before .before .before .before .of-disc .ensures) in
+    let fe = ap (λ x. x .entry) (c .before .before .before .before .before .flushing .ensures) in
     (c .before .before .before .before .before .before .before .pre, fe)
 
 none-requires-2 : tie.Need-none-requires-2
 none-requires-2 c κs = search needs
 
-close-last-requires : tie.Need-close-last-requires
-close-last-requires c κs = search needs
+closing-requires : tie.Need-closing-requires
+closing-requires c κs = search needs
 
 returns-4 : tie.Need-returns-4
 unfolding closingLast
 returns-4 c =
     let d = c .before .before .before .before .before .before .before .before .before .before .args .disc in
-    rw (c .close-last .ensures, accepted-verdict, c .before .none2 .ensures, c .before .before .last-flushed .ensures, c .before .before .before .before .before .before .before .before .of-disc .ensures)
+    rw (c .closing .ensures, accepted-verdict, c .before .none2 .ensures, c .before .before .last-flushed .ensures, c .before .before .before .before .before .before .before .before .flushing .ensures)
     (ap (λ x. accepted x (flushCount d) noReply (plan (flushPlan d) Nothing)) (affected-finalized d (c .before .before .before .before .before .before .before .before .before .before .pre))
     ∙ sym (finalize-done d (c .before .before .before .before .before .before .before .before .before .if1 .left) (sym (c .before .before .before .before .before .before .stays-incomplete .ensures) ∙ c .before .before .before .before .before .if2 .left) (c .before .before .before .before .before .before .before .before .before .before .pre) (sym (c .before .before .before .before .is-blank-disc .ensures) ∙ c .before .before .before .if3 .left)))
 
@@ -72,7 +72,7 @@ finalize-spec =
     none-requires
     unchanged-requires
     returns
-    of-disc-requires
+    flushing-requires
     stays-incomplete-requires
     refused-requires
     returns-2
@@ -81,5 +81,5 @@ finalize-spec =
     returns-3
     last-flushed-requires
     none-requires-2
-    close-last-requires
+    closing-requires
     returns-4)

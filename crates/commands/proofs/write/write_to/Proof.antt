@@ -54,8 +54,8 @@ whole-blocks-requires c κs = search needs
 cast-gathered : tie.Need-cast-gathered
 cast-gathered c = search needs
 
-of-others-requires : tie.Need-of-others-requires
-of-others-requires c κs = search needs
+flushing-others-requires : tie.Need-flushing-others-requires
+flushing-others-requires c κs = search needs
 
 new-requires : tie.Need-new-requires
 new-requires c κs = search needs
@@ -68,7 +68,7 @@ gather-requires c κs =
     let k = c .before .before .before .before .before .before .before .before .before .before .args .sectors in
     let p = place d a n (c .before .before .before .before .before .before .before .before .before .before .pre .0) (c .before .before .before .before .before .before .before .before .before .before .pre .1) in
     let h = ltb-false (firstSector (end (numbered d n)) .0) (a .0 + k) (sym (c .before .before .before .before .before .before .before .passes .ensures ∙ ap (λ e. ltb (e .0) (c .before .before .before .before .before .before .before .before .before .before .args .address .0 + c .before .before .before .before .before .before .before .before .before .before .args .sectors)) (c .before .before .before .before .before .before .before .before .end-address .ensures ∙ ap (λ f. firstSector (end f)) (c .before .before .before .before .before .before .before .before .before .numbered .ensures))) ∙ c .before .before .before .before .before .before .if1 .left) in
-    (c .before .before .before .before .before .before .before .before .before .before .pre .0, (ap (λ x. x .entry) (c .before .before .of-others .ensures), gathering d a n k (c .before .before .before .before .before .before .before .before .before .before .pre .0) (c .before .before .before .before .before .before .before .before .before .before .pre .1) h))
+    (c .before .before .before .before .before .before .before .before .before .before .pre .0, (ap (λ x. x .entry) (c .before .before .flushing-others .ensures), gathering d a n k (c .before .before .before .before .before .before .before .before .before .before .pre .0) (c .before .before .before .before .before .before .before .before .before .before .pre .1) h))
 
 add-accepted : tie.Need-add-accepted
 add-accepted c =
@@ -79,7 +79,7 @@ add-accepted c =
     let p = place d a n (c .before .before .before .before .before .before .before .before .before .before .before .before .pre .0) (c .before .before .before .before .before .before .before .before .before .before .before .before .pre .1) in
     let h = ltb-false (firstSector (end (numbered d n)) .0) (a .0 + k) (sym (c .before .before .before .before .before .before .before .before .before .passes .ensures ∙ ap (λ e. ltb (e .0) (c .before .before .before .before .before .before .before .before .before .before .before .before .args .address .0 + c .before .before .before .before .before .before .before .before .before .before .before .before .args .sectors)) (c .before .before .before .before .before .before .before .before .before .before .end-address .ensures ∙ ap (λ f. firstSector (end f)) (c .before .before .before .before .before .before .before .before .before .before .before .numbered .ensures))) ∙ c .before .before .before .before .before .before .before .before .if1 .left) in
     let f = fit d a n k p (c .before .before .before .before .before .before .before .before .before .before .before .before .pre .1) h in
-    rw (c .before .before .before .before .of-others .ensures, c .before .before .before .before .before .whole-blocks .ensures)
+    rw (c .before .before .before .before .flushing-others .ensures, c .before .before .before .before .before .whole-blocks .ensures)
     (omega (arith, f .sectors, c .before .before .before .before .before .before .before .pending-in .ensures, p .few, others-count-most d n))
 
 none-requires : tie.Need-none-requires
@@ -97,7 +97,7 @@ returns-2 c =
     let k = c .before .before .before .before .before .before .before .before .before .before .before .before .before .before .args .sectors in
     let p = place d a n (c .before .before .before .before .before .before .before .before .before .before .before .before .before .before .pre .0) (c .before .before .before .before .before .before .before .before .before .before .before .before .before .before .pre .1) in
     let h = ltb-false (firstSector (end (numbered d n)) .0) (a .0 + k) (sym (c .before .before .before .before .before .before .before .before .before .before .before .passes .ensures ∙ ap (λ e. ltb (e .0) (c .before .before .before .before .before .before .before .before .before .before .before .before .before .before .args .address .0 + c .before .before .before .before .before .before .before .before .before .before .before .before .before .before .args .sectors)) (c .before .before .before .before .before .before .before .before .before .before .before .before .end-address .ensures ∙ ap (λ f. firstSector (end f)) (c .before .before .before .before .before .before .before .before .before .before .before .before .before .numbered .ensures))) ∙ c .before .before .before .before .before .before .before .before .before .before .if1 .left) in
-    rw (c .accepted .ensures, accepted-verdict, c .before .before .before .gather .ensures, c .before .none .ensures, c .before .before .before .before .before .new .ensures, c .before .before .before .before .before .before .of-others .ensures, c .before .before .before .before .before .before .before .whole-blocks .ensures, c .before .before .before .before .before .before .before .before .first-unrecorded .ensures, c .before .before .before .before .before .before .before .before .before .pending-in .ensures, c .before .before .before .before .before .before .before .before .before .before .before .before .before .numbered .ensures, le-ltb _ _ h, write-count d n k (c .before .before .before .before .before .before .before .before .before .before .before .before .before .before .pre .0) (c .before .before .before .before .before .before .before .before .before .before .before .before .before .before .pre .1 .from) (p .slot))
+    rw (c .accepted .ensures, accepted-verdict, c .before .before .before .gather .ensures, c .before .none .ensures, c .before .before .before .before .before .new .ensures, c .before .before .before .before .before .before .flushing-others .ensures, c .before .before .before .before .before .before .before .whole-blocks .ensures, c .before .before .before .before .before .before .before .before .first-unrecorded .ensures, c .before .before .before .before .before .before .before .before .before .pending-in .ensures, c .before .before .before .before .before .before .before .before .before .before .before .before .before .numbered .ensures, le-ltb _ _ h, write-count d n k (c .before .before .before .before .before .before .before .before .before .before .before .before .before .before .pre .0) (c .before .before .before .before .before .before .before .before .before .before .before .before .before .before .pre .1 .from) (p .slot))
 
 pub write-to-spec : {M : Type 1} → statement M
 write-to-spec =
@@ -114,7 +114,7 @@ write-to-spec =
     add-whole-blocks
     whole-blocks-requires
     cast-gathered
-    of-others-requires
+    flushing-others-requires
     new-requires
     gather-requires
     add-accepted

@@ -1,9 +1,9 @@
 use borrow.Author.Tests.{eq-eqb, ne-eqb, not-true, not-false}
-use Rattle.commands.specs.Close.{tailClosed}
+use Rattle.decisions.specs.Tail.{tailClosed}
 use mathlib.Core.Path.{sym, _∙_}
 use borrow.Author.Needs.{needs}
-use Rattle.commands.proofs.session.tail_closed.Statement.{statement}
-use Rattle.commands.proofs.session.tail_closed.Tie as tie
+use Rattle.decisions.proofs.change.Entry.tail_closed.Statement.{statement}
+use Rattle.decisions.proofs.change.Entry.tail_closed.Tie as tie
 
 is-tail-requires : tie.Need-is-tail-requires
 is-tail-requires c κs = search needs

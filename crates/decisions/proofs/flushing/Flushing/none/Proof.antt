@@ -1,6 +1,6 @@
 use borrow.Author.Needs.{needs}
-use Rattle.commands.proofs.flush.Flushing.none.Statement.{statement}
-use Rattle.commands.proofs.flush.Flushing.none.Tie as tie
+use Rattle.decisions.proofs.flushing.Flushing.none.Statement.{statement}
+use Rattle.decisions.proofs.flushing.Flushing.none.Tie as tie
 
 none-requires : tie.Need-none-requires
 none-requires c κs = search needs

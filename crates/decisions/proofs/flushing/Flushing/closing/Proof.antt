@@ -1,7 +1,7 @@
-use Rattle.commands.specs.Close.{closingLast}
+use Rattle.decisions.specs.Flushing.{closingLast}
 use borrow.Author.Needs.{needs}
-use Rattle.commands.proofs.session.close_last.Statement.{statement}
-use Rattle.commands.proofs.session.close_last.Tie as tie
+use Rattle.decisions.proofs.flushing.Flushing.closing.Statement.{statement}
+use Rattle.decisions.proofs.flushing.Flushing.closing.Tie as tie
 
 new-requires : tie.Need-new-requires
 new-requires c κs = search needs
@@ -19,6 +19,6 @@ returns : tie.Need-returns
 unfolding closingLast
 returns c = rw (c .accepted .ensures, c .before .none .ensures, c .before .before .tail-closed .ensures, c .before .before .before .before .new .ensures)
 
-pub close-last-spec : {M : Type 1} → statement M
-close-last-spec =
+pub closing-spec : {M : Type 1} → statement M
+closing-spec =
     tie.close (tie.spec new-requires tail-closed-requires none-requires accepted-requires returns)

@@ -3,8 +3,8 @@ use Rattle.commands.specs.Flush.{flushEntry, flushPlan, flushCount}
 use Rattle.commands.proofs.Laws.Flush.{owner}
 use native.Mathlib.Omega.{arith}
 use borrow.Author.Needs.{needs}
-use Rattle.commands.proofs.flush.Flushing.of_disc.Statement.{statement}
-use Rattle.commands.proofs.flush.Flushing.of_disc.Tie as tie
+use Rattle.commands.proofs.flush.flushing.Statement.{statement}
+use Rattle.commands.proofs.flush.flushing.Tie as tie
 
 none-requires : tie.Need-none-requires
 none-requires c κs = search needs
@@ -36,8 +36,8 @@ returns-2 : tie.Need-returns-2
 unfolding flushEntry flushPlan flushCount
 returns-2 c = rw (c .new .ensures, c .before .flushed .ensures, c .before .before .first-unrecorded .ensures, c .before .before .before .numbered .ensures, ne-eqb _ _ (c .before .before .before .before .before .if1 .left))
 
-pub of-disc-spec : {M : Type 1} → statement M
-of-disc-spec =
+pub flushing-spec : {M : Type 1} → statement M
+flushing-spec =
     tie.close
     (tie.spec
     none-requires

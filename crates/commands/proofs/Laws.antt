@@ -1,19 +1,9 @@
 -- One file a topic, named as in specs/.
-pub mod Recorded
-pub mod Plan
 pub mod Flush
+pub mod Read
 pub mod Write
 pub mod Reserve
 pub mod Close
 pub mod Session
 pub mod Effect
-pub mod Keep
-pub mod Counts
-pub mod Pending
-pub mod Outcome
-pub mod Accepts
-pub mod Cut
-pub mod Read
-pub mod Run
 pub mod Judge
-pub mod Lent

@@ -6,6 +6,3 @@ pub mod Write
 pub mod Reserve
 pub mod Close
 pub mod Judge
-pub mod Run
-pub mod Recorded
-pub mod Lent

@@ -1,12 +1,7 @@
--- The types of src/ and of the crates below by their short names.
-pub use Rattle.fragments.specs.declared.address.Block.{Block}
+-- The types of the crates below by their short names.
 pub use Rattle.fragments.specs.declared.address.Lba.{Lba}
-pub use Rattle.protocol.specs.declared.answer.Sense.{Sense}
-pub use Rattle.protocol.specs.declared.answer.LinkRefusal.{LinkRefusal}
 pub use Rattle.protocol.specs.declared.answer.LinkRefusal.the-variants.{CommandBlockLength, MediumSize, UnsoundState, TransferLength}
-pub use Rattle.protocol.specs.declared.answer.DriveRefusal.{DriveRefusal}
 pub use Rattle.protocol.specs.declared.answer.DriveRefusal.the-variants.{InvalidOperationCode, WriteProtected, InvalidFieldInCommand, AddressOutOfRange, BlankCheck, InvalidAddressForWrite, IncompleteTrackInSession, EmptyTrack, NoMoreReservations, EndOfUserArea}
-pub use Rattle.protocol.specs.declared.answer.Answer.the-variants.{Accepted, Link, Drive}
 pub use Rattle.protocol.specs.declared.command.Command.{Command}
 pub use Rattle.protocol.specs.declared.command.Command.the-variants.{TestUnitReady, RequestSense, ReadCapacity, Read, Write, SynchronizeCache, ReserveTrack, CloseTrackSession, ReadDiscInformation, ReadTrackInformation, Unlisted}
 pub use Rattle.fragments.specs.declared.fragment.Kind.{Kind}
@@ -15,16 +10,11 @@ pub use Rattle.fragments.specs.declared.fragment.Fragment.{Fragment}
 pub use Rattle.disc.specs.declared.state.Disc.{Disc}
 pub use Rattle.fragments.specs.declared.list.Found.{Found}
 pub use Rattle.fragments.specs.declared.list.Found.the-variants.{Number, Nowhere}
-pub use Rattle.protocol.specs.declared.reply.Reply.{Reply}
 pub use Rattle.decisions.specs.declared.plan.Flush.{Flush}
 pub use Rattle.decisions.specs.declared.plan.Flush.the-variants.{Skip, Record}
-pub use Rattle.decisions.specs.declared.plan.Transfer.{Transfer}
 pub use Rattle.decisions.specs.declared.plan.Transfer.the-variants.{Nothing, Send, Gather, Fill}
-pub use Rattle.decisions.specs.declared.plan.Plan.{Plan}
 pub use Rattle.disc.specs.declared.verdict.Verdict.{Verdict}
 pub use Rattle.fragments.specs.declared.list.Last.{Last}
 pub use Rattle.decisions.specs.declared.flushing.Flushing.{Flushing}
 pub use Rattle.decisions.specs.declared.change.Entry.{Entry}
-pub use Rattle.decisions.specs.declared.change.Effect.{Effect}
 pub use Rattle.decisions.specs.declared.change.Effect.the-variants.{Keep, Settle, Reserve, Close, Grow}
-pub use Rattle.decisions.specs.declared.decision.Decision.{Decision}

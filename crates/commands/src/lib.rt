@@ -8,11 +8,9 @@ mod flush;
 mod perform;
 mod read;
 mod reserve;
-mod run;
 mod session;
 mod write;
 
 pub use entry::decide;
 pub use entry::judge;
 pub use entry::judge_as_asked;
-pub use run::recorded_run;

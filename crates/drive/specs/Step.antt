@@ -11,7 +11,7 @@ use Rattle.protocol.specs.Command.{decode}
 use Rattle.disc.specs.Verdict.{refuseLink, rise}
 use Rattle.disc.specs.Apply.{changed}
 use Rattle.commands.specs.Judge.{judge}
-use Rattle.commands.specs.Lent.{FlushFits, TransferFits}
+use Rattle.outcomes.specs.Lent.{FlushFits, TransferFits}
 use Rattle.drive.specs.Bytes.{splice}
 use Rattle.drive.specs.Reply.{sentBytes, Sendable}
 use Rattle.drive.specs.Moves.{movedMedium, movedPending}

@@ -15,7 +15,7 @@ use Rattle.disc.specs.Records.{used, lastRecord, tailNext}
 use Rattle.disc.specs.Blank.{blank, made}
 use Rattle.disc.specs.Sound.{usedFirst, firstAtZero, followsFrom, inOrder, endsWithin, recordedWithin, zeroedWithin, incompleteLast, tailLast, tailOrFull, pendingNamed, finalizedComplete, sound, allowedState}
 use Rattle.commands.specs.Judge.{judgeAsAsked, JudgedAsAsked}
-use Rattle.commands.specs.Run.{served}
+use Rattle.outcomes.specs.Run.{served}
 
 -- 256 to 143,444 blocks are a disc; a block less or more is L2
 pub capacities : map (λ c. number (made c .answer)) (255 ∷ 256 ∷ 143444 ∷ 143445 ∷ []) ≡ (2 ∷ 0 ∷ 0 ∷ 2 ∷ [])

@@ -8,7 +8,7 @@ use lib.Dec.{eqb, ltb}
 use Rattle.fragments.specs.Address.{lba, firstSector, sectorsIn}
 use Rattle.protocol.specs.Command.{decode}
 use Rattle.fragments.specs.Fragment.{isReserved}
-use Rattle.commands.specs.Recorded.{among}
+use Rattle.outcomes.specs.Recorded.{among}
 use Rattle.disc.specs.Records.{numbered, atAddress}
 use Rattle.drive.specs.Bytes.{zeros}
 use Rattle.drive.specs.Step.{Drive, Request}

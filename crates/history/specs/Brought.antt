@@ -8,7 +8,7 @@ use lib.ListN.{length}
 use Rattle.fragments.specs.Address.{sectorsIn}
 use Rattle.protocol.specs.Command.{decode}
 use Rattle.disc.specs.Records.{pendingIn, numbered}
-use Rattle.commands.specs.Recorded.{among}
+use Rattle.outcomes.specs.Recorded.{among}
 use Rattle.drive.specs.Bytes.{zeros}
 use Rattle.drive.specs.Step.{Drive, Request}
 use Rattle.drive.specs.Alike.{Alike}

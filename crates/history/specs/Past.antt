@@ -8,7 +8,7 @@ use lib.Dec.{eqb}
 use lib.ListN.{length, getD, take}
 use Rattle.fragments.specs.Address.{lba}
 use Rattle.protocol.specs.Command.{decode}
-use Rattle.commands.specs.Recorded.{among}
+use Rattle.outcomes.specs.Recorded.{among}
 use Rattle.disc.specs.Records.{readable}
 use Rattle.drive.specs.Step.{Drive, Request}
 use Rattle.drive.specs.Alike.{Alike}

@@ -9,15 +9,16 @@ use mathlib.Core.Logic.{_⊎_}
 use Rattle.drive.specs.Alike.{Alike}
 use Rattle.fragments.specs.Address.{lba, block}
 use Rattle.disc.specs.Blank.{inRange}
-use Rattle.commands.specs.Lent.{FlushFits, TransferFits, Fits}
+use Rattle.outcomes.specs.Lent.{FlushFits, TransferFits, Fits}
 use Rattle.disc.specs.Ready.{Ready}
 use Rattle.disc.specs.Sound.{allowedState}
 use Rattle.decisions.specs.Plan.{plan}
 use Rattle.disc.specs.Verdict.{refuseLink}
 use Rattle.commands.specs.Write.{write}
-use Rattle.commands.proofs.Laws.Accepts.{takes-accepted, write-takes}
-use Rattle.commands.proofs.Laws.Cut.{cut-accepted, cut-plans, parts-takes}
-use Rattle.commands.proofs.Laws.Judge.{allowed-ready, judge-writes, decided-served, decided-allowed, decided-capacity, judge-link}
+use Rattle.outcomes.proofs.Laws.Accepts.{takes-accepted, write-takes}
+use Rattle.outcomes.proofs.Laws.Cut.{cut-accepted, cut-plans, parts-takes}
+use Rattle.commands.proofs.Laws.Judge.{allowed-ready}
+use Rattle.outcomes.proofs.Laws.Judge.{judge-writes, decided-served, decided-allowed, decided-capacity, judge-link}
 use Rattle.drive.proofs.Laws.Moves.{cut-pending, cut-medium}
 use Rattle.drive.proofs.Laws.Kept.{length-flushed-medium, length-flushed-pending}
 use Rattle.drive.specs.Types.{Lba, Disc, Accepted, LinkRefusal, Verdict, Block, Flush, Skip, Gather, Plan, Link, CommandBlockLength, TransferLength}

@@ -9,10 +9,10 @@ use mathlib.Core.List.{List, []}
 use lib.ListN.{length, getD, take, length-take}
 use borrow.Author.Tests.{eq-eqb, eqb-true}
 use lib.Dec.{eqb}
-use Rattle.commands.specs.Lent.{FlushFits, TransferFits}
-use Rattle.commands.specs.Recorded.{flushes, transfers, recordsBlock, flushedCount, transferredCount, among}
+use Rattle.outcomes.specs.Lent.{FlushFits, TransferFits}
+use Rattle.outcomes.specs.Recorded.{flushes, transfers, recordsBlock, flushedCount, transferredCount, among}
 use Rattle.fragments.proofs.Laws.Bool.{or-right, contradiction, by-cases, or-false-left}
-use Rattle.commands.proofs.Laws.Recorded.{among-between, among-from, among-below}
+use Rattle.outcomes.proofs.Laws.Recorded.{among-between, among-from, among-below}
 use Rattle.drive.specs.Types.{Flush, Skip, Record, Transfer, Nothing, Send, Gather, Fill, Plan, Block}
 use Rattle.drive.specs.Bytes.{zeros, padded}
 use Rattle.drive.specs.Moves.{stream, gatheredMedium, flushedMedium, flushedPending, transferredMedium, transferredPending, movedMedium, movedPending}

@@ -13,8 +13,8 @@ use Rattle.decisions.specs.Run.{stretch}
 use Rattle.decisions.specs.Plan.{noPlan}
 use Rattle.disc.specs.Verdict.{accept, accepted}
 use Rattle.protocol.specs.Reply.{noReply}
-use Rattle.commands.proofs.Laws.Accepts.{read-accepted, accepted-read, read-sends, read-none}
-use Rattle.commands.proofs.Laws.Judge.{judge-reads, perform-read, decided-performed}
+use Rattle.outcomes.proofs.Laws.Accepts.{read-accepted, accepted-read, read-sends, read-none}
+use Rattle.outcomes.proofs.Laws.Judge.{judge-reads, perform-read, decided-performed}
 use Rattle.fragments.proofs.Laws.Numbers.{equal-cases}
 use Rattle.drive.specs.Types.{Lba, Disc, Read, Accepted, Send, Reply, Transfer, Verdict}
 use Rattle.drive.specs.Reply.{sentBytes}

@@ -10,12 +10,12 @@ use lib.ListN.{length, length-take}
 use Rattle.protocol.specs.Answer.{number}
 use Rattle.protocol.specs.Command.{decode}
 use Rattle.commands.specs.Judge.{judge}
-use Rattle.commands.specs.Lent.{TransferFits, RunFits, Fits}
+use Rattle.outcomes.specs.Lent.{TransferFits, RunFits, Fits}
 use Rattle.disc.specs.Verdict.{refuseLink, rise}
 use Rattle.disc.specs.Apply.{affected, changed, decided}
 use Rattle.fragments.proofs.Laws.Bool.{and-left, and-right, cond-cases, by-cases}
-use Rattle.commands.proofs.Laws.Judge.{Decided, onLink, judge-decided, decided-rise, decided-most, judge-block}
-use Rattle.commands.proofs.Laws.Lent.{judge-fits}
+use Rattle.outcomes.proofs.Laws.Judge.{Decided, onLink, judge-decided, decided-rise, decided-most, judge-block}
+use Rattle.outcomes.proofs.Laws.Lent.{judge-fits}
 use Rattle.drive.specs.Types.{Lba, Disc, LinkRefusal, Decision, Outcome, CommandBlockLength, MediumSize, Reply, Transfer, Nothing, Send, Gather, Fill, Verdict, Response}
 use Rattle.drive.specs.Moves.{flushedMedium, flushedPending, transferredMedium, transferredPending, movedMedium, movedPending}
 use Rattle.drive.specs.Reply.{sentBytes}

@@ -9,9 +9,9 @@ use lib.Dec.{eqb, ltb}
 use lib.ListN.{length, take, drop, take-append-drop, length-append, length-drop}
 use lib.Seq.{take-at, take-append-le, drop-at, drop-append-le, drop-append-add, length-take-le}
 use Rattle.disc.specs.Records.{pendingIn, numbered}
-use Rattle.commands.specs.Recorded.{among}
+use Rattle.outcomes.specs.Recorded.{among}
 use Rattle.fragments.proofs.Laws.Bool.{by-cases, cond-yes, cond-no}
-use Rattle.commands.proofs.Laws.Recorded.{among-from, among-below, among-between}
+use Rattle.outcomes.proofs.Laws.Recorded.{among-from, among-below, among-between}
 use Rattle.drive.specs.Bytes.{zeros}
 use Rattle.drive.specs.Moves.{stream, gatheredPending}
 use Rattle.drive.proofs.Laws.Bytes.{length-zeros, zeros-add}

@@ -7,11 +7,11 @@ use native.Mathlib.Omega.{arith}
 use borrow.Author.Tests.{ltb-true, ltb-false, leb-true, leb-false}
 use lib.Dec.{eqb, leb, ltb}
 use lib.ListN.{length}
-use Rattle.commands.specs.Recorded.{among}
+use Rattle.outcomes.specs.Recorded.{among}
 use Rattle.disc.specs.Records.{used, numbered}
 use Rattle.disc.specs.Rules.{Sound}
 use Rattle.fragments.proofs.Laws.Bool.{by-cases, cond-yes, cond-no}
-use Rattle.commands.proofs.Laws.Recorded.{among-from, among-below, among-between}
+use Rattle.outcomes.proofs.Laws.Recorded.{among-from, among-below, among-between}
 use Rattle.disc.proofs.Laws.Sound.{disjoint}
 use Rattle.drive.specs.Bytes.{zeros}
 use Rattle.history.specs.Types.{Fragment, Disc}

@@ -12,9 +12,9 @@ use Rattle.protocol.specs.Answer.{noSense}
 use Rattle.fragments.specs.Fragment.{end, firstUnrecorded, complete, isReserved, nextFragmentStart, nextSessionStart, reservedAt, shortenedRecord}
 use Rattle.disc.specs.Records.{isBlank, pendingIn, used, isListed, numbered, lastRecord, withRecord, withSense, hasTail, hasBlankTail, writableAt, blankTailOnly, atAddress}
 use Rattle.fragments.specs.List.{limit}
-use Rattle.commands.specs.Recorded.{among}
+use Rattle.outcomes.specs.Recorded.{among}
 use Rattle.disc.specs.Ready.{Ready}
-use Rattle.commands.specs.Lent.{FlushFits, TransferFits}
+use Rattle.outcomes.specs.Lent.{FlushFits, TransferFits}
 use Rattle.decisions.specs.Plan.{noPlan, plan}
 use Rattle.disc.specs.Verdict.{accepted, accept, refuse}
 use Rattle.protocol.specs.Reply.{noReply}
@@ -28,22 +28,22 @@ use Rattle.commands.specs.Judge.{testUnitReady, perform}
 use Rattle.fragments.proofs.Laws.Bool.{and-both, and-left, and-right, or-cases, contradiction, by-cases, cond-yes, cond-no, cond-cases}
 use Rattle.fragments.proofs.Laws.Numbers.{equal-cases, below-limit}
 use Rattle.disc.proofs.Laws.Records.{listed-number}
-use Rattle.commands.proofs.Laws.Recorded.{among-from, among-below, among-between}
+use Rattle.outcomes.proofs.Laws.Recorded.{among-from, among-below, among-between}
 use Rattle.disc.proofs.Laws.Rules.{sound-rules}
 use Rattle.disc.proofs.Laws.Sound.{none-pending, disjoint, incomplete-room, pending-in-few}
 use Rattle.commands.proofs.Laws.Flush.{used-limit, flush-grows, flush-pending, flush-sound, flush-used, flush-capacity}
 use Rattle.commands.proofs.Laws.Write.{writable-found, others-numbered, others-pending, others-sound}
 use Rattle.commands.proofs.Laws.Close.{appended-last}
 use Rattle.commands.proofs.Laws.Session.{kept, kept-few, kept-pending}
-use Rattle.commands.proofs.Laws.Keep.{write-room}
-use Rattle.commands.proofs.Laws.Outcome.{append-pending}
+use Rattle.outcomes.proofs.Laws.Keep.{write-room}
+use Rattle.outcomes.proofs.Laws.Outcome.{append-pending}
 use Rattle.drive.specs.Moves.{gatheredMedium, gatheredPending, flushedMedium, flushedPending, transferredMedium, transferredPending, movedMedium, movedPending}
 use Rattle.drive.proofs.Laws.Kept.{length-flushed-medium, length-flushed-pending}
 use Rattle.history.specs.Types.{Lba, Fragment, Kind, Reserved, Appended, Disc, Found, Number, Nowhere, Accepted, DriveRefusal, WriteProtected, InvalidFieldInCommand, AddressOutOfRange, BlankCheck, InvalidOperationCode, InvalidAddressForWrite, IncompleteTrackInSession, EmptyTrack, NoMoreReservations, EndOfUserArea, Reply, Plan, Verdict, Skip, Nothing, Send, Gather, Command, TestUnitReady, RequestSense, ReadCapacity, Read, Write, SynchronizeCache, ReserveTrack, CloseTrackSession, ReadDiscInformation, ReadTrackInformation, Unlisted}
 use Rattle.history.specs.Account.{Account, extentOf, written, zeroed, flushed, filled, credited}
 use Rattle.history.proofs.Laws.Account.{Holds, same-holds, zeroed-none, flushed-none}
 use Rattle.history.proofs.Laws.Recording.{holds-as, holds-at, flush-holds, others-own, others-else, gather-holds-own, gather-holds-else, fill-holds-own, fill-holds-else}
-use Rattle.commands.proofs.Laws.Counts.{SameCounts, same-counts, counts-on, split-counts, split-start, shorten-counts, close-tail-counts, open-counts, blank-only-none}
+use Rattle.outcomes.proofs.Laws.Counts.{SameCounts, same-counts, counts-on, split-counts, split-start, shorten-counts, close-tail-counts, open-counts, blank-only-none}
 
 -- the fragment that a WRITE goes to is the one that its address lies in
 module _ (d : Disc) (a : Lba) (j n : ℕ) (r : Ready d) (w : Writable d a j) where

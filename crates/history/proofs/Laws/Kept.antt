@@ -16,12 +16,13 @@ use Rattle.fragments.specs.Fragment.{unusedRecord}
 use Rattle.disc.specs.Records.{pendingIn, used, numbered, withSense, atAddress, readable}
 use Rattle.fragments.specs.List.{limit}
 use Rattle.disc.specs.Rules.{at, Sound}
-use Rattle.commands.specs.Lent.{Fits}
+use Rattle.outcomes.specs.Lent.{Fits}
 use Rattle.commands.specs.Read.{read}
 use Rattle.commands.specs.Judge.{perform}
-use Rattle.commands.proofs.Laws.Accepts.{accepted-read}
+use Rattle.outcomes.proofs.Laws.Accepts.{accepted-read}
 use Rattle.fragments.proofs.Laws.Bool.{by-cases, cond-yes, cond-no}
-use Rattle.commands.proofs.Laws.Judge.{allowed-ready, perform-read, decided-performed}
+use Rattle.commands.proofs.Laws.Judge.{allowed-ready}
+use Rattle.outcomes.proofs.Laws.Judge.{perform-read, decided-performed}
 use Rattle.commands.proofs.Laws.Read.{readable-cases, recorded-below, held-readable, Located, located, located-readable, nowhere-unreadable}
 use Rattle.disc.proofs.Laws.Rules.{sound-rules}
 use Rattle.fragments.proofs.Laws.Numbers.{equal-cases}

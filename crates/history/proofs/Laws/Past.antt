@@ -11,7 +11,7 @@ use Rattle.fragments.specs.Address.{lba, firstSector, sectorsIn, blocksFor}
 use Rattle.fragments.specs.Fragment.{end, firstUnrecorded, complete, isReserved, nextFragmentStart, nextSessionStart, reservedAt, shortenedRecord}
 use Rattle.disc.specs.Records.{isBlank, pendingIn, used, isListed, numbered, lastRecord, withRecord, hasTail, hasBlankTail, writableAt, blankTailOnly, atAddress, readable}
 use Rattle.fragments.specs.List.{limit}
-use Rattle.commands.specs.Recorded.{among, flushes, transfers, recordsBlock, flushedCount, transferredCount, pendingBlock, transferredBlock}
+use Rattle.outcomes.specs.Recorded.{among, flushes, transfers, recordsBlock, flushedCount, transferredCount, pendingBlock, transferredBlock}
 use Rattle.disc.specs.Ready.{Ready}
 use Rattle.decisions.specs.Plan.{noPlan, plan}
 use Rattle.disc.specs.Verdict.{accepted, accept, refuse}
@@ -26,13 +26,13 @@ use Rattle.commands.specs.Judge.{testUnitReady, perform}
 use Rattle.fragments.proofs.Laws.Bool.{and-both, and-false, by-cases, or-left, or-right, or-cases, same-test, cond-yes, cond-no, cond-cases}
 use Rattle.fragments.proofs.Laws.Numbers.{equal-cases}
 use Rattle.commands.proofs.Laws.Read.{readable-held, held-readable, readable-onward}
-use Rattle.commands.proofs.Laws.Recorded.{among-from, among-below, among-between, flush-onward}
+use Rattle.outcomes.proofs.Laws.Recorded.{among-from, among-below, among-between, flush-onward}
 use Rattle.disc.proofs.Laws.Records.{listed-number}
 use Rattle.disc.proofs.Laws.Rules.{sound-rules}
 use Rattle.disc.proofs.Laws.Sound.{none-pending, other-pending, own-pending, writable-once, pending-in-few}
 use Rattle.commands.proofs.Laws.Flush.{owner, flush-grows, flush-sound, flush-used}
 use Rattle.commands.proofs.Laws.Write.{writable-found}
-use Rattle.commands.proofs.Laws.Counts.{blank-only-none}
+use Rattle.outcomes.proofs.Laws.Counts.{blank-only-none}
 use Rattle.history.specs.Types.{Lba, Fragment, Kind, Reserved, Appended, Disc, Found, Number, Nowhere, Accepted, DriveRefusal, WriteProtected, InvalidFieldInCommand, AddressOutOfRange, BlankCheck, InvalidOperationCode, InvalidAddressForWrite, IncompleteTrackInSession, EmptyTrack, NoMoreReservations, EndOfUserArea, Reply, Flush, Plan, Verdict, Skip, Record, Nothing, Send, Gather, Fill, Command, TestUnitReady, RequestSense, ReadCapacity, Read, Write, SynchronizeCache, ReserveTrack, CloseTrackSession, ReadDiscInformation, ReadTrackInformation, Unlisted}
 use Rattle.history.specs.Account.{extentOf}
 use Rattle.history.specs.Past.{Past, blockRecorded, sectorGathered, sectorsGathered, pastFlushed, pastFilled, pastAfter}

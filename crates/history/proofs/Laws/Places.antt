@@ -31,9 +31,9 @@ use Rattle.commands.proofs.Laws.Flush.{used-limit, flush-grows, flush-pending, 
 use Rattle.commands.proofs.Laws.Write.{writable-found, others-sound}
 use Rattle.commands.proofs.Laws.Close.{appended-last}
 use Rattle.commands.proofs.Laws.Session.{kept, kept-few, kept-pending}
-use Rattle.commands.proofs.Laws.Keep.{write-room, gather-grows, gather-sound, fill-grows, fill-sound}
-use Rattle.commands.proofs.Laws.Outcome.{append-pending}
-use Rattle.commands.proofs.Laws.Counts.{SameCounts, same-counts, counts-on, split-counts, split-start, shorten-counts, close-tail-counts, open-counts}
+use Rattle.outcomes.proofs.Laws.Keep.{write-room, gather-grows, gather-sound, fill-grows, fill-sound}
+use Rattle.outcomes.proofs.Laws.Outcome.{append-pending}
+use Rattle.outcomes.proofs.Laws.Counts.{SameCounts, same-counts, counts-on, split-counts, split-start, shorten-counts, close-tail-counts, open-counts}
 use Rattle.history.specs.Types.{Lba, Fragment, Kind, Reserved, Appended, Disc, Found, Number, Nowhere, Accepted, DriveRefusal, WriteProtected, InvalidFieldInCommand, AddressOutOfRange, BlankCheck, InvalidOperationCode, InvalidAddressForWrite, IncompleteTrackInSession, EmptyTrack, NoMoreReservations, EndOfUserArea, Reply, Plan, Verdict, Command, TestUnitReady, RequestSense, ReadCapacity, Read, Write, SynchronizeCache, ReserveTrack, CloseTrackSession, ReadDiscInformation, ReadTrackInformation, Unlisted}
 
 -- the sectors of the fragment with a number: recorded and pending ones

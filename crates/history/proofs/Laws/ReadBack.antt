@@ -12,10 +12,10 @@ use Rattle.disc.specs.Records.{numbered, atAddress, readable}
 use Rattle.commands.specs.Read.{read}
 use Rattle.disc.specs.Rules.{Sound}
 use Rattle.commands.specs.Judge.{perform}
-use Rattle.commands.proofs.Laws.Accepts.{accepted-read}
-use Rattle.commands.proofs.Laws.Judge.{perform-read, decided-performed}
+use Rattle.outcomes.proofs.Laws.Accepts.{accepted-read}
+use Rattle.outcomes.proofs.Laws.Judge.{perform-read, decided-performed}
 use Rattle.commands.proofs.Laws.Read.{located, located-readable, nowhere-unreadable}
-use Rattle.commands.proofs.Laws.Recorded.{among-between}
+use Rattle.outcomes.proofs.Laws.Recorded.{among-between}
 use Rattle.drive.specs.Alike.{Alike}
 use Rattle.drive.specs.Step.{Drive, verdictOn, carriedOut, step}
 use Rattle.drive.proofs.Laws.Step.{verdict-decided}

@@ -9,10 +9,11 @@ use Rattle.fragments.specs.Address.{lba}
 use Rattle.disc.specs.Blank.{blank}
 use Rattle.protocol.specs.Command.{decode}
 use Rattle.disc.specs.Records.{readable}
-use Rattle.commands.specs.Recorded.{recordsBlock, flushedCount, transferredCount}
+use Rattle.outcomes.specs.Recorded.{recordsBlock, flushedCount, transferredCount}
 use Rattle.fragments.proofs.Laws.Bool.{by-cases}
 use Rattle.disc.proofs.Laws.Blank.{blank-pending}
-use Rattle.commands.proofs.Laws.Judge.{allowed-ready, decided-performed, decided-recorded, decided-pending}
+use Rattle.commands.proofs.Laws.Judge.{allowed-ready}
+use Rattle.outcomes.proofs.Laws.Judge.{decided-performed, decided-recorded, decided-pending}
 use Rattle.commands.proofs.Laws.Read.{blank-unreadable}
 use Rattle.drive.specs.Alike.{Alike}
 use Rattle.drive.specs.Step.{Drive, Request, Result, verdictOn, carriedOut, step}

@@ -22,8 +22,8 @@ use Rattle.fragments.proofs.Laws.Numbers.{equal-cases}
 use Rattle.disc.proofs.Laws.Rules.{sound-rules}
 use Rattle.disc.proofs.Laws.Sound.{none-pending, other-pending, own-pending, pending-in-few}
 use Rattle.commands.proofs.Laws.Flush.{owner, flush-none, flush-pending}
-use Rattle.commands.proofs.Laws.Keep.{Room}
-use Rattle.commands.proofs.Laws.Outcome.{gathered-list}
+use Rattle.outcomes.proofs.Laws.Keep.{Room}
+use Rattle.outcomes.proofs.Laws.Outcome.{gathered-list}
 use Rattle.drive.specs.Bytes.{zeros, splice, padded}
 use Rattle.drive.specs.Moves.{stream, gatheredMedium, gatheredPending, flushedMedium, flushedPending}
 use Rattle.drive.proofs.Laws.Bytes.{length-zeros, length-padded}

@@ -5,7 +5,7 @@ use mathlib.Core.Bool.{true}
 use mathlib.Core.List.{List, [], _∷_, _++_}
 use native.Mathlib.Omega.{arith}
 use Rattle.fragments.specs.Address.{lba}
-use Rattle.commands.proofs.Laws.Judge.{decided-readable}
+use Rattle.outcomes.proofs.Laws.Judge.{decided-readable}
 use Rattle.drive.specs.Step.{Drive, Request, verdictOn, carriedOut, step}
 use Rattle.drive.specs.Alike.{recordedByte, Alike}
 use Rattle.drive.proofs.Laws.Step.{verdict-decided}

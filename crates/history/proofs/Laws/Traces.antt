@@ -8,16 +8,17 @@ use borrow.Author.Tests.{eq-eqb, ne-eqb, ltb-true, ltb-false}
 use lib.Dec.{eqb, ltb}
 use lib.ListN.{length}
 use Rattle.protocol.specs.Command.{decode}
-use Rattle.commands.specs.Recorded.{among}
+use Rattle.outcomes.specs.Recorded.{among}
 use Rattle.disc.specs.Records.{numbered}
 use Rattle.disc.specs.Ready.{Ready}
 use Rattle.disc.specs.Rules.{Sound}
 use Rattle.commands.specs.Judge.{perform}
-use Rattle.commands.proofs.Laws.Accepts.{Takes, write-takes}
+use Rattle.outcomes.proofs.Laws.Accepts.{Takes, write-takes}
 use Rattle.fragments.proofs.Laws.Bool.{contradiction, by-cases, cond-yes, cond-no}
-use Rattle.commands.proofs.Laws.Judge.{allowed-ready, decided-performed}
+use Rattle.commands.proofs.Laws.Judge.{allowed-ready}
+use Rattle.outcomes.proofs.Laws.Judge.{decided-performed}
 use Rattle.fragments.proofs.Laws.Numbers.{equal-cases}
-use Rattle.commands.proofs.Laws.Recorded.{among-from, among-below, among-between}
+use Rattle.outcomes.proofs.Laws.Recorded.{among-from, among-below, among-between}
 use Rattle.drive.specs.Bytes.{zeros}
 use Rattle.drive.specs.Step.{Drive, Request, Result, verdictOn, carriedOut, step}
 use Rattle.drive.proofs.Laws.Alike.{step-link, step-refused}

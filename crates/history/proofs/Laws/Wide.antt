@@ -14,7 +14,7 @@ use Rattle.disc.specs.Blank.{inRange, blank}
 use Rattle.protocol.specs.Command.{decode}
 use Rattle.protocol.specs.Reports.{low, high}
 use Rattle.commands.specs.Write.{write}
-use Rattle.commands.proofs.Laws.Accepts.{Takes, takes-accepted}
+use Rattle.outcomes.proofs.Laws.Accepts.{Takes, takes-accepted}
 use Rattle.disc.proofs.Laws.Blank.{range-least, blank-allowed, blank-capacity}
 use Rattle.commands.proofs.Laws.Judge.{allowed-ready}
 use Rattle.disc.proofs.Laws.Rules.{sound-rules}

@@ -10,7 +10,8 @@ use Rattle.disc.specs.Blank.{inRange}
 use Rattle.protocol.specs.Lengths.{dataLength, replyRoom}
 use Rattle.commands.specs.Judge.{perform, judgeAsAsked}
 use Rattle.disc.proofs.Laws.Blank.{blank-allowed, blank-capacity}
-use Rattle.commands.proofs.Laws.Judge.{allowed-ready, judge-decided, decided-ready, decided-allowed, as-asked-performs}
+use Rattle.commands.proofs.Laws.Judge.{allowed-ready}
+use Rattle.outcomes.proofs.Laws.Judge.{judge-decided, decided-ready, decided-allowed, as-asked-performs}
 use Rattle.playback.specs.Types.{Disc, Replay}
 use Rattle.playback.specs.Replay.{start, after, onward, replayed}
 

@@ -1,5 +1,4 @@
 use Rattle.decisions.proofs.Laws.Tail.{tail-left}
-use Rattle.fragments.proofs.Laws.Address.{wide-number}
 use Rattle.commands.proofs.Laws.Effect.{affected-split}
 use mathlib.Core.Path.{refl, ap}
 use native.Mathlib.Omega.{arith}

@@ -2,7 +2,7 @@ use Rattle.drive.specs.Moves.{flushedMedium, flushedPending}
 use Rattle.drive.proofs.Laws.Moves.{flushed-record}
 use mathlib.Core.Path.{subst, refl}
 use lib.ListN.{length, length-take}
-use Rattle.commands.specs.Lent.{FlushFits}
+use Rattle.outcomes.specs.Lent.{FlushFits}
 use native.Mathlib.Omega.{arith}
 use borrow.Author.Needs.{needs}
 use Rattle.drive.proofs.medium.flush.Statement.{statement}

@@ -1,7 +1,7 @@
 use mathlib.Core.Path.{subst, _≡_}
 use Prim.Native.Nat.{ℕ}
 use lib.ListN.{length}
-use Rattle.commands.specs.Lent.{TransferFits}
+use Rattle.outcomes.specs.Lent.{TransferFits}
 use Rattle.drive.proofs.Laws.Moves.{moved-both}
 use native.Mathlib.Omega.{arith}
 use borrow.Author.Needs.{needs}

@@ -1,6 +1,6 @@
 use mathlib.Core.Path.{subst, refl}
 use lib.ListN.{length}
-use Rattle.commands.specs.Lent.{TransferFits}
+use Rattle.outcomes.specs.Lent.{TransferFits}
 use Rattle.drive.specs.Moves.{transferredMedium, transferredPending}
 use Rattle.drive.proofs.Laws.Moves.{nothing-moved}
 use native.Mathlib.Omega.{arith}

@@ -9,22 +9,22 @@ use borrow.Author.Tests.{eq-eqb, eqb-true, eqb-false, leb-true, le-leb, ltb-true
 use lib.Dec.{eqb, leb, ltb}
 use lib.ListN.{length, getD, set}
 use lib.Seq.{getD-set-same, getD-set-other}
-use Rattle.commands.specs.Types.{Lba, Fragment, Disc, Flush, Skip, Transfer, Nothing, Send, Plan}
+use Rattle.outcomes.specs.Types.{Lba, Fragment, Disc, Flush, Skip, Transfer, Nothing, Send, Plan}
 use Rattle.fragments.specs.Fragment.{unusedRecord, firstUnrecorded}
 use Rattle.disc.specs.Records.{used, numbered}
 use Rattle.disc.specs.Rules.{at, Sound}
 use Rattle.disc.specs.Ready.{Ready}
 use Rattle.decisions.specs.Plan.{plan, noPlan}
-use Rattle.commands.specs.Recorded.{among, flushes, transfers, recordsBlock}
+use Rattle.outcomes.specs.Recorded.{among, flushes, transfers, recordsBlock}
 use Rattle.commands.specs.Flush.{flushedRecord, flush, flushPlan}
 use Rattle.commands.specs.Write.{flushOthers, flushOthersPlan}
 use Rattle.fragments.proofs.Laws.Bool.{and-left, and-right, and-both, or-left, or-right, or-cases, by-cases, contradiction}
 use Rattle.fragments.proofs.Laws.Numbers.{equal-cases}
 use Rattle.fragments.proofs.Laws.List.{listed-le}
 use Rattle.disc.proofs.Laws.Rules.{sound-rules}
 use Rattle.disc.proofs.Laws.Grow.{Grown}
 use Rattle.disc.proofs.Laws.Onward.{Onward, NoBlock, Grew, same-onward, grown-onward, onward-as}
 use Rattle.commands.proofs.Laws.Flush.{owner, flush-grows}
 
 -- the blocks of a plan
 abbrev pub Records : Plan → ℕ → Type 0

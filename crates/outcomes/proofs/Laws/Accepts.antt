@@ -8,7 +8,7 @@ use native.Mathlib.Omega.{arith}
 use borrow.Author.Tests.{eq-eqb, ne-eqb, le-ltb, ltb-false}
 use lib.Dec.{eqb, ltb}
 use lib.ListN.{length, getD}
-use Rattle.commands.specs.Types.{Lba, Fragment, Disc, Found, Number, Nowhere, Verdict, Accepted, Drive, WriteProtected, EndOfUserArea, AddressOutOfRange, BlankCheck, Send, Skip}
+use Rattle.outcomes.specs.Types.{Lba, Fragment, Disc, Found, Number, Nowhere, Verdict, Accepted, Drive, WriteProtected, EndOfUserArea, AddressOutOfRange, BlankCheck, Send, Skip}
 use Rattle.fragments.specs.Address.{firstSector, lba, sectorsIn}
 use Rattle.fragments.specs.Fragment.{unusedRecord, end, complete}
 use Rattle.disc.specs.Records.{nextWritable, pendingIn, records, used, numbered, writableAt, readable}

@@ -2,7 +2,7 @@
 use Prim.Native.Nat.{ℕ, _+_, _/_, _%_}
 use mathlib.Core.Bool.{Bool, false, _&&_, _||_}
 use lib.Dec.{eqb, leb, ltb}
-use Rattle.commands.specs.Types.{Flush, Skip, Record, Transfer, Nothing, Send, Gather, Fill, Plan, Disc}
+use Rattle.outcomes.specs.Types.{Flush, Skip, Record, Transfer, Nothing, Send, Gather, Fill, Plan, Disc}
 use Rattle.fragments.specs.Fragment.{firstUnrecorded}
 use Rattle.disc.specs.Records.{numbered}
 

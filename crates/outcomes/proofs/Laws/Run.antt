@@ -4,23 +4,26 @@ use mathlib.Core.Path.{_≡_, refl}
 use mathlib.Core.Bool.{true, _&&_}
 use mathlib.Core.List.{List, []}
 use native.Mathlib.Omega.{arith}
-use borrow.Author.Tests.{eqb-true, le-ltb}
+use borrow.Author.Tests.{eqb-true, eq-eqb, le-ltb}
 use lib.Dec.{eqb, ltb}
 use lib.ListN.{length, drop, length-take}
-use Rattle.commands.specs.Types.{Lba, Disc, Transfer, Command}
+use Rattle.outcomes.specs.Types.{Lba, Disc, Transfer, Command}
 use Rattle.fragments.specs.Address.{lba}
 use Rattle.disc.specs.Records.{readable}
-use Rattle.disc.specs.Sound.{sound, allowedState}
-use Rattle.protocol.specs.Answer.{allowedSense}
+use Rattle.disc.specs.Sound.{allowedState}
 use Rattle.disc.specs.Blank.{inRange}
-use Rattle.disc.specs.Ready.{Ready}
 use Rattle.commands.specs.Read.{read}
-use Rattle.commands.specs.Judge.{perform}
+use Rattle.disc.specs.Verdict.{refuseLink}
+use Rattle.protocol.specs.Command.{decode}
+use Rattle.commands.specs.Judge.{perform, judgeCommand, judge, judgeAsAsked}
+use Rattle.commands.proofs.Laws.Judge.{allowed-ready}
+use Rattle.outcomes.proofs.Laws.Outcome.{outcome-placed}
+use Rattle.outcomes.proofs.Laws.Judge.{perform-outcome, asked-fit}
 use Rattle.decisions.specs.Run.{stretch, sent, sentWithin}
-use Rattle.commands.specs.Run.{served, recordedRun, RunOf}
+use Rattle.outcomes.specs.Run.{served, recordedRun, RunOf}
 use Rattle.fragments.proofs.Laws.Bool.{and-left, and-right, by-cases, cond-no}
 use Rattle.commands.proofs.Laws.Read.{all-readable-at, transfer-cases}
-use Rattle.commands.proofs.Laws.Plan.{Moved, nothing, sends, gathers, fills}
+use Rattle.outcomes.proofs.Laws.Plan.{Moved, nothing, sends, gathers, fills}
 
 -- what a plan sends lies in a medium of whole blocks
 pub moved-within :
@@ -32,31 +35,12 @@ moved-within d c t medium l (sends a n q h r) =
 moved-within d c t medium l (gathers a b p n q few u) = refl
 moved-within d c t medium l (fills b n u) = refl
 
--- what is known after the link
-module _ (d : Disc) (b m : ℕ) (e : served d b m ≡ true) where
-  served-whole : (eqb b 12 && inRange (d .capacity) && eqb m (32768 * d .capacity)) ≡ true
-  served-whole = and-left (eqb b 12 && inRange (d .capacity) && eqb m (32768 * d .capacity)) (allowedState d) e
-
-  pub served-block : b ≡ 12
-  served-block =
-      eqb-true b 12
-      (and-left (eqb b 12) (inRange (d .capacity)) (and-left (eqb b 12 && inRange (d .capacity)) (eqb m (32768 * d .capacity)) served-whole))
-
-  pub served-medium : m ≡ 32768 * d .capacity
-  served-medium =
-      eqb-true m (32768 * d .capacity) (and-right (eqb b 12 && inRange (d .capacity)) (eqb m (32768 * d .capacity)) served-whole)
-
-  pub served-ready : Ready d
-  unfolding allowedState
-  served-ready =
-      record {
-        sound =
-            and-left (sound d) (allowedSense (d .sense))
-            (and-right (eqb b 12 && inRange (d .capacity) && eqb m (32768 * d .capacity)) (sound d && allowedSense (d .sense)) e);
-        range =
-            and-right (eqb b 12) (inRange (d .capacity))
-            (and-left (eqb b 12 && inRange (d .capacity)) (eqb m (32768 * d .capacity)) served-whole);
-      }
+-- what is served has a medium of that length
+served-medium : (d : Disc) (b m : ℕ) → served d b m ≡ true → m ≡ 32768 * d .capacity
+served-medium d b m e =
+    let whole = eqb m (32768 * d .capacity) in
+    eqb-true m (32768 * d .capacity)
+    (and-right (eqb b 12 && inRange (d .capacity)) whole (and-left (eqb b 12 && inRange (d .capacity) && whole) (allowedState d) e))
 
 -- every sector of what it sends is readable
 pub sent-readable :
@@ -84,3 +68,30 @@ run-of d b medium r e =
           sent-readable d a n medium k (rw y at h))
           (λ t. absurd (let y : r ≡ [] = rw t at e in let z : 2048 * k < 0 = rw y at h in omega arith));
     }
+
+-- a medium of another length is served nothing
+pub other-medium : (d : Disc) (b medium : List ℕ) → (length medium ≡ 32768 * d .capacity → ⊥) → [] ≡ recordedRun d b medium
+unfolding recordedRun
+other-medium d b medium h =
+    by-cases (served d (length b) (length medium))
+    (λ e. absurd (h (served-medium d (length b) (length medium) e)))
+    (λ e. rw e)
+
+-- what is decided with the lengths that the block asks for sends the recorded run: a link refusal sends nothing
+pub asked-run :
+    (d : Disc) (b medium : List ℕ) → length medium ≡ 32768 * d .capacity
+    → sentWithin (judgeAsAsked d b .plan .transfer) medium ≡ recordedRun d b medium
+unfolding recordedRun judge judgeCommand refuseLink sentWithin
+asked-run d b medium l =
+    by-cases (eqb (length b) 12)
+    (λ w.
+    by-cases (inRange (d .capacity))
+    (λ r.
+    by-cases (allowedState d)
+    (λ a.
+    let c = decode b in
+    let o = perform-outcome d c (allowed-ready d r a) in
+    rw (w, r, a, eq-eqb _ _ l, asked-fit c) (moved-within d c (perform d c .plan .transfer) medium l (outcome-placed d c (perform d c) o .moved)))
+    (λ a. rw (w, r, a, eq-eqb _ _ l)))
+    (λ r. rw (w, r)))
+    (λ w. rw w)

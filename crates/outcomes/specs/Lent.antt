@@ -2,7 +2,7 @@
 use Prim.Native.Nat.{ℕ, _+_, _*_, _/_, _^_, _≤_, _<_}
 use mathlib.Core.Path.{_≡_}
 use lib.ListN.{length}
-use Rattle.commands.specs.Types.{Flush, Skip, Record, Transfer, Nothing, Send, Gather, Fill, Verdict}
+use Rattle.outcomes.specs.Types.{Flush, Skip, Record, Transfer, Nothing, Send, Gather, Fill, Verdict}
 
 -- the pending block has 1 to 15 sectors, and its block lies in the medium
 abbrev pub FlushFits : ℕ → Flush → Type 0

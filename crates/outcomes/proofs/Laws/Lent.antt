@@ -7,22 +7,23 @@ use native.Mathlib.Omega.{arith}
 use borrow.Author.Tests.{eq-eqb, eqb-true, leb-true}
 use lib.Dec.{eqb, leb}
 use lib.ListN.{length}
-use Rattle.commands.specs.Types.{Lba, Disc, Flush, Transfer, Send, Verdict, Command}
+use Rattle.outcomes.specs.Types.{Lba, Disc, Flush, Transfer, Send, Verdict, Command}
 use Rattle.protocol.specs.Command.{decode}
 use Rattle.disc.specs.Rules.{Sound}
 use Rattle.disc.specs.Blank.{inRange}
 use Rattle.disc.specs.Ready.{Ready}
 use Rattle.protocol.specs.Lengths.{dataLength, replyRoom, lengthsFit}
-use Rattle.commands.specs.Lent.{FlushFits, TransferFits, RunFits, Fits}
+use Rattle.outcomes.specs.Lent.{FlushFits, TransferFits, RunFits, Fits}
 use Rattle.disc.specs.Verdict.{refuseLink}
 use Rattle.commands.specs.Judge.{perform, judge}
 use Rattle.decisions.specs.Run.{stretch, sent}
-use Rattle.commands.specs.Run.{served, recordedRun}
+use Rattle.outcomes.specs.Run.{served, recordedRun}
 use Rattle.fragments.proofs.Laws.Bool.{and-both, and-left, and-right}
 use Rattle.disc.proofs.Laws.Rules.{sound-rules}
-use Rattle.commands.proofs.Laws.Plan.{Flushed, skips, records, Moved, nothing, sends, gathers, fills, unrecorded-inside}
-use Rattle.commands.proofs.Laws.Outcome.{outcome-placed, outcome-room}
-use Rattle.commands.proofs.Laws.Judge.{allowed-ready, allowed-outcome, Decided, onLink, byDrive, judge-decided}
+use Rattle.outcomes.proofs.Laws.Plan.{Flushed, skips, records, Moved, nothing, sends, gathers, fills, unrecorded-inside}
+use Rattle.outcomes.proofs.Laws.Outcome.{outcome-placed, outcome-room}
+use Rattle.commands.proofs.Laws.Judge.{allowed-ready}
+use Rattle.outcomes.proofs.Laws.Judge.{allowed-outcome, Decided, onLink, byDrive, judge-decided}
 
 flush-fits : (d : Disc) (f : Flush) (m : ℕ) → Sound d → m ≡ 32768 * d .capacity → Flushed d f → FlushFits m f
 flush-fits d f m s e skips = tt

@@ -5,24 +5,24 @@ use mathlib.Core.Bool.{true}
 use native.Mathlib.Omega.{arith}
 use borrow.Author.Tests.{eqb-false, eqb-true}
 use lib.Dec.{eqb}
-use Rattle.commands.specs.Types.{Block, Lba, Disc, Flush, Skip, Record, Transfer, Nothing, Send, Gather, Fill, Plan, Command, Read, Write}
+use Rattle.outcomes.specs.Types.{Block, Lba, Disc, Flush, Skip, Record, Transfer, Nothing, Send, Gather, Fill, Plan, Command, Read, Write}
 use Rattle.fragments.specs.Address.{firstSector, sectorsIn}
 use Rattle.fragments.specs.Fragment.{end, firstUnrecorded}
 use Rattle.disc.specs.Records.{pendingIn, used, numbered, readable}
 use Rattle.disc.specs.Rules.{at, Sound}
 use Rattle.disc.specs.Ready.{Ready}
 use Rattle.decisions.specs.Plan.{noPlan, plan}
 use Rattle.commands.specs.Read.{allReadable}
 use Rattle.commands.specs.Flush.{flush, flushPlan}
 use Rattle.commands.specs.Write.{flushOthersPlan, Writable}
-use Rattle.commands.specs.Recorded.{among, flushes, transfers, recordsBlock}
-use Rattle.commands.proofs.Laws.Recorded.{among-from, among-below}
+use Rattle.outcomes.specs.Recorded.{among, flushes, transfers, recordsBlock}
+use Rattle.outcomes.proofs.Laws.Recorded.{among-from, among-below}
 use Rattle.fragments.proofs.Laws.Bool.{cond-cases, contradiction, or-cases}
 use Rattle.fragments.proofs.Laws.Numbers.{order-cases}
 use Rattle.disc.proofs.Laws.Rules.{sound-rules}
 use Rattle.disc.proofs.Laws.Sound.{starts-rise, pending-in-few}
 use Rattle.commands.proofs.Laws.Read.{readable-cases, recorded-from, recorded-below}
 use Rattle.commands.proofs.Laws.Flush.{owner, flush-grows, flush-sound, flush-used}
 
 -- k blocks from block b on lie in one fragment, after its recorded blocks
 pub record Unrecorded (d : Disc) (b k : ℕ) : Type 0 where

@@ -9,26 +9,26 @@ use borrow.Author.Tests.{eq-eqb, ne-eqb, eqb-true, eqb-false, ltb-true, ltb-fals
 use lib.Dec.{eqb, ltb}
 use lib.ListN.{length, getD, set}
 use lib.Seq.{getD-set-same, getD-set-other}
-use Rattle.commands.specs.Types.{Block, Lba, Fragment, Disc}
+use Rattle.outcomes.specs.Types.{Block, Lba, Fragment, Disc}
 use Rattle.fragments.specs.Address.{firstSector}
 use Rattle.fragments.specs.Fragment.{unusedRecord, end, complete, isReserved, isTail, isIncompleteReserved, nextFragmentStart, nextSessionStart, tailFrom, reservedAt, shortenedRecord}
 use Rattle.disc.specs.Records.{pendingIn, isBlank, records, used, numbered, lastRecord, withRecord, hasTail, hasBlankTail, blankTailOnly}
 use Rattle.fragments.specs.List.{limit, listed, some, firstOfSession}
 use Rattle.disc.specs.Rules.{at, Sound}
 use Rattle.disc.specs.Ready.{Ready}
 use Rattle.commands.specs.Flush.{flush}
 use Rattle.commands.specs.Write.{flushOthers, grownRecord, gather, Writable}
 use Rattle.commands.specs.Reserve.{splitTail}
 use Rattle.commands.specs.Close.{filledRecord, appendTail, hasIncompleteReserved, closeTail, openSession, finalized}
 use Rattle.fragments.proofs.Laws.Bool.{and-left, and-right, and-both, by-cases, contradiction, cond-yes, cond-no}
 use Rattle.fragments.proofs.Laws.Numbers.{equal-cases, below-limit}
 use Rattle.fragments.proofs.Laws.List.{listed-le, listed-at, at-some}
 use Rattle.disc.proofs.Laws.Rules.{sound-rules}
 use Rattle.disc.proofs.Laws.Grow.{Grown, set-grown, grown-used, grown-sound}
 use Rattle.commands.proofs.Laws.Reserve.{blank-recorded}
 use Rattle.commands.proofs.Laws.Flush.{owner, flush-used, flush-none, flush-records}
 use Rattle.commands.proofs.Laws.Write.{others-numbered, others-pending, others-used, others-alone, place}
 use Rattle.commands.proofs.Laws.Session.{kept-blank, kept-tail, kept-same, tail-written}
 use Rattle.disc.proofs.Laws.Onward.{Onward, same-onward, onward-before, replace-onward, drop-onward, extend-onward, NoBlock}
 use Rattle.disc.proofs.Laws.Order.{Ordered, sound-ordered, open-sound, Replaces, replace-last, drop-last, Extends, extend-sound, extended-last, last-used, drop-used}
 

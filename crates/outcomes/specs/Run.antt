@@ -6,14 +6,14 @@ use mathlib.Core.Bool.{Bool, true, cond, _&&_}
 use mathlib.Core.List.{List, []}
 use lib.ListN.{length}
 use lib.Dec.{eqb}
-use Rattle.commands.specs.Types.{Lba, Disc, Read}
+use Rattle.outcomes.specs.Types.{Lba, Disc, Read}
 use Rattle.decisions.specs.Run.{sent}
 use Rattle.fragments.specs.Address.{lba}
 use Rattle.protocol.specs.Command.{decode}
 use Rattle.disc.specs.Records.{readable}
 use Rattle.disc.specs.Sound.{allowedState}
 use Rattle.disc.specs.Blank.{inRange}
 use Rattle.commands.specs.Judge.{perform}
 
 -- what L1 to L3 test of command block, medium and state: twelve bytes, a capacity in range with a medium of so many whole blocks, a state
 -- that is allowed

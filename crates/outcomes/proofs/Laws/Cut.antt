@@ -7,7 +7,7 @@ use borrow.Author.Tests.{eq-eqb, ne-eqb, eqb-true, le-ltb}
 use lib.Dec.{eqb, ltb}
 use lib.ListN.{length, set}
 use lib.Seq.{getD-set-same, set-set}
-use Rattle.commands.specs.Types.{Lba, Fragment, Disc, Verdict, Accepted, Gather, Write, Block, Flush, Skip, Plan}
+use Rattle.outcomes.specs.Types.{Lba, Fragment, Disc, Verdict, Accepted, Gather, Write, Block, Flush, Skip, Plan}
 use Rattle.fragments.specs.Fragment.{unusedRecord, end, firstUnrecorded}
 use Rattle.disc.specs.Records.{pendingIn, nextWritable, used, numbered, withSense}
 use Rattle.fragments.specs.Address.{lba, firstSector, block}
@@ -16,19 +16,19 @@ use Rattle.disc.specs.Ready.{Ready}
 use Rattle.decisions.specs.Plan.{plan}
 use Rattle.disc.specs.Verdict.{accepted, accept}
 use Rattle.protocol.specs.Reply.{noReply}
 use Rattle.commands.specs.Write.{flushOthers, flushOthersPlan, flushOthersCount, grownRecord, gather, writeTo, writeFound, write}
 use Rattle.fragments.proofs.Laws.Bool.{cond-yes, cond-no, by-cases, contradiction}
 use Rattle.disc.proofs.Laws.Rules.{sound-rules}
 use Rattle.commands.proofs.Laws.Write.{place, write-count, others-numbered, others-pending, others-used, others-sound, others-length}
 use Rattle.fragments.proofs.Laws.Numbers.{order-cases}
 use Rattle.disc.proofs.Laws.Sound.{starts-rise, writable-within}
 use Rattle.disc.specs.Rules.{at}
 use Rattle.commands.proofs.Laws.Flush.{flush-none}
 use Rattle.disc.proofs.Laws.Grow.{grown-used}
-use Rattle.commands.proofs.Laws.Keep.{gather-grows, write-room}
+use Rattle.outcomes.proofs.Laws.Keep.{gather-grows, write-room}
 use Rattle.commands.specs.Flush.{flushCount, flushPlan}
-use Rattle.commands.proofs.Laws.Outcome.{outcome-ready, write-outcome}
-use Rattle.commands.proofs.Laws.Accepts.{Takes, takes-found, takes-accepted}
+use Rattle.outcomes.proofs.Laws.Outcome.{outcome-ready, write-outcome}
+use Rattle.outcomes.proofs.Laws.Accepts.{Takes, takes-found, takes-accepted}
 
 -- the fragment and its pending sectors after gathering
 module _ (d : Disc) (number n : ℕ) (from : 1 ≤ number) (slot : number ≤ length (d .fragments)) where

@@ -6,7 +6,7 @@ use native.Mathlib.Omega.{arith}
 use borrow.Author.Tests.{eq-eqb, eqb-false, leb-false, ltb-false, not-false}
 use lib.Dec.{eqb, leb, ltb}
 use lib.ListN.{length, set}
-use Rattle.commands.specs.Types.{Sense, Accepted, Drive, Lba, Kind, Reserved, Appended, Disc, Found, Number, Nowhere, Reply, Plan, Verdict, DriveRefusal, LinkRefusal, Link, Nothing, Command, Write, WriteProtected, InvalidFieldInCommand, InvalidAddressForWrite, IncompleteTrackInSession, EmptyTrack, NoMoreReservations, EndOfUserArea, Skip, Send, Read, Gather, Fill}
+use Rattle.outcomes.specs.Types.{Sense, Accepted, Drive, Lba, Kind, Reserved, Appended, Disc, Found, Number, Nowhere, Reply, Plan, Verdict, DriveRefusal, LinkRefusal, Link, Nothing, Command, Write, WriteProtected, InvalidFieldInCommand, InvalidAddressForWrite, IncompleteTrackInSession, EmptyTrack, NoMoreReservations, EndOfUserArea, Skip, Send, Read, Gather, Fill}
 use Rattle.fragments.specs.Address.{firstSector, blocksFor, sectorsIn}
 use Rattle.protocol.specs.Answer.{noSense, refusalSense}
 use Rattle.fragments.specs.Fragment.{end, complete, nextFragmentStart, nextSessionStart, firstUnrecorded, reservedAt, shortenedRecord}
@@ -18,25 +18,25 @@ use Rattle.protocol.specs.Lengths.{replyRoom}
 use Rattle.decisions.specs.Plan.{noPlan, plan}
 use Rattle.disc.specs.Verdict.{rise, accepted, accept, refuse}
 use Rattle.protocol.specs.Reply.{noReply}
 use Rattle.commands.specs.Flush.{flush, flushPlan, synchronizeCache}
 use Rattle.commands.specs.Write.{flushOthers, gather, writeTo, writeFound, write, Writable, flushOthersPlan, grownRecord}
 use Rattle.commands.specs.Reserve.{splitTail, reserve}
 use Rattle.commands.specs.Close.{filledRecord, appendTail, closeIncomplete, closeFragment, hasIncompleteReserved, closeTail, openSession, closeSession, finalized, finalize, close}
 use Rattle.commands.specs.Read.{allReadable}
-use Rattle.commands.specs.Recorded.{transfers}
-use Rattle.commands.proofs.Laws.Pending.{Pending, pending-same, pending-sent, pending-none, pending-filled, pending-gathered, pending-split}
-use Rattle.commands.proofs.Laws.Recorded.{Records, set-onward, flush-onward, others-onward, flush-records, both-record, nothing-records, sent-records}
+use Rattle.outcomes.specs.Recorded.{transfers}
+use Rattle.outcomes.proofs.Laws.Pending.{Pending, pending-same, pending-sent, pending-none, pending-filled, pending-gathered, pending-split}
+use Rattle.outcomes.proofs.Laws.Recorded.{Records, set-onward, flush-onward, others-onward, flush-records, both-record, nothing-records, sent-records}
 use Rattle.fragments.proofs.Laws.Bool.{and-both, by-cases, cond-cases, or-right, or-false-left, contradiction}
 use Rattle.fragments.proofs.Laws.Numbers.{equal-cases, below-limit}
 use Rattle.disc.proofs.Laws.Records.{listed-number}
 use Rattle.disc.proofs.Laws.Rules.{sound-rules, rules-sound}
 use Rattle.commands.proofs.Laws.Flush.{used-limit, flush-sound, flush-capacity, flush-finalized, flush-pending, flush-used, flush-written}
 use Rattle.commands.proofs.Laws.Write.{writable-found, others-sound, others-numbered, others-pending}
 use Rattle.commands.proofs.Laws.Close.{appended-last}
 use Rattle.commands.proofs.Laws.Session.{kept-few, kept-capacity, kept-finalized, kept-pending}
 use Rattle.disc.proofs.Laws.Onward.{Onward, same-onward, onward-on, NoBlock, onward-as, onward-before, onward-after, list-onward}
-use Rattle.commands.proofs.Laws.Plan.{Placed, placed-none, placed-flush, placed-gather, placed-fill, placed-send}
-use Rattle.commands.proofs.Laws.Keep.{split-onward, fill-grows, shorten-onward, close-tail-onward, open-session-onward, gather-grows, split-sound, fill-sound, shorten-sound, close-tail-closed, open-session-sound, finalize-sound, only-blank, gather-sound, write-room}
+use Rattle.outcomes.proofs.Laws.Plan.{Placed, placed-none, placed-flush, placed-gather, placed-fill, placed-send}
+use Rattle.outcomes.proofs.Laws.Keep.{split-onward, fill-grows, shorten-onward, close-tail-onward, open-session-onward, gather-grows, split-sound, fill-sound, shorten-sound, close-tail-closed, open-session-sound, finalize-sound, only-blank, gather-sound, write-room}
 
 -- a report's bytes are there, and the command asks for room for them
 pub record Room (c : Command) (r : Reply) : Type 0 where

@@ -13,16 +13,16 @@ use Rattle.disc.specs.Records.{isBlank, pendingIn, records, used, numbered, las
 use Rattle.fragments.specs.List.{limit, firstOfSession}
 use Rattle.disc.specs.Ready.{Ready}
 use Rattle.disc.specs.Rules.{at, Sound}
 use Rattle.commands.specs.Reserve.{splitTail}
 use Rattle.commands.specs.Close.{appendTail, closeTail, openSession}
 use Rattle.fragments.proofs.Laws.Bool.{and-left, and-right, by-cases, cond-yes, cond-no}
 use Rattle.fragments.proofs.Laws.Numbers.{equal-cases}
 use Rattle.fragments.proofs.Laws.List.{listed-le, listed-at}
 use Rattle.disc.proofs.Laws.Rules.{sound-rules}
 use Rattle.commands.proofs.Laws.Reserve.{blank-recorded}
 use Rattle.commands.proofs.Laws.Session.{kept-blank, kept-tail, kept-same, Kept}
-use Rattle.commands.proofs.Laws.Keep.{blank-unowned}
-use Rattle.commands.specs.Types.{Fragment, Disc}
+use Rattle.outcomes.proofs.Laws.Keep.{blank-unowned}
+use Rattle.outcomes.specs.Types.{Fragment, Disc}
 
 -- at every index the same blocks recorded and the same sectors zero-filled
 pub record SameCounts (d e : Disc) : Type 0 where

@@ -1,0 +1,2 @@
+-- Laws about every decision, for proofs in this crate and above it.
+pub mod Laws

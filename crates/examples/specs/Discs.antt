@@ -1,18 +1,25 @@
--- What the simple promises of `disc` say on chosen inputs: the disc that is made of a capacity, the tail's next writable address, what is
--- judged as asked, what the lower read serves.
-use Prim.Native.Nat.{ℕ, _-_}
+-- What the simple promises about a disc say on chosen inputs: the disc that is made of a capacity, what is asked of a list, the tail's next
+-- writable address, a decision applied, what is judged as asked, what the lower read serves.
+use Prim.Native.Nat.{ℕ, _+_, _-_}
 use mathlib.Core.Path.{_≡_, refl}
 use mathlib.Core.Bool.{Bool, true, false}
 use mathlib.Core.List.{List, [], _∷_, _++_, map}
 use lib.ListN.{length, replicate}
 use Rattle.disc.specs.declared.state.TailNext.{TailNext}
 use Rattle.disc.specs.declared.state.TailNext.the-variants.{Address, NoTail}
-use Rattle.examples.specs.Types.{Disc, Fragment, Reserved, Appended, Verdict}
-use Rattle.protocol.specs.Answer.{noSense, number, isRefusalSense, allowedSense}
+use Rattle.examples.specs.Types.{Disc, Fragment, Found, Number, Nowhere, Reserved, Appended, Settle, Verdict}
+use Rattle.protocol.specs.Answer.{sense, noSense, number, isRefusalSense, allowedSense}
+use Rattle.protocol.specs.Reply.{report}
+use Rattle.protocol.specs.Reports.{capacityBytes}
+use Rattle.decisions.specs.Change.{entry}
+use Rattle.decisions.specs.Plan.{noPlan}
+use Rattle.decisions.specs.Decision.{accepting}
 use Rattle.fragments.specs.Fragment.{fragment, unusedRecord}
-use Rattle.fragments.specs.List.{limit, listed, some, every, sumRecorded}
-use Rattle.disc.specs.Records.{used, lastRecord, tailNext}
-use Rattle.disc.specs.Blank.{blank, made}
+use Rattle.fragments.specs.Address.{lba}
+use Rattle.fragments.specs.List.{limit, listed, lastOf, firstOfSession, find, some, every, sumRecorded}
+use Rattle.disc.specs.Records.{records, used, isListed, numbered, lastRecord, withSense, pendingIn, isBlank, nextWritable, tailNext, atAddress, writableAt, hasBlankTail, blankTailOnly, isBlankDisc}
+use Rattle.disc.specs.Apply.{withEntry, withPending, affected, changed, decided}
+use Rattle.disc.specs.Blank.{inRange, blank, made}
 use Rattle.disc.specs.Sound.{usedFirst, firstAtZero, followsFrom, inOrder, endsWithin, recordedWithin, zeroedWithin, incompleteLast, tailLast, tailOrFull, pendingNamed, finalizedComplete, sound, allowedState}
 use Rattle.commands.specs.Judge.{judgeAsAsked, JudgedAsAsked}
 use Rattle.outcomes.specs.Run.{served}
@@ -44,6 +51,76 @@ holding pending owner fs =
       owner = owner;
       fragments = fs ++ replicate (limit - length fs) unusedRecord;
     }
+
+-- a closed fragment of two blocks, a reserved one with a block of three recorded and five sectors pending, a blank tail
+abbrev listing : Disc
+listing = holding 5 2 (fragment 1 0 2 2 12 Appended ∷ fragment 1 3 3 1 0 Reserved ∷ fragment 1 7 293 0 0 Appended ∷ [])
+
+abbrev found : Found → ℕ
+found (Number n) = n
+found Nowhere = 0
+
+-- by number: which are listed, where they start, what is pending in them, which are blank, their next writable addresses; then the last
+-- one, the fragments that addresses lie in or can be written at, and where a session begins
+pub asked-of-a-list :
+    (map (isListed listing) (0 ∷ 1 ∷ 3 ∷ 4 ∷ []) ≡ (false ∷ true ∷ true ∷ false ∷ []))
+    × (map (λ n. numbered listing n .start .0) (1 ∷ 2 ∷ 3 ∷ 4 ∷ (limit + 1) ∷ []) ≡ (0 ∷ 3 ∷ 7 ∷ 0 ∷ 0 ∷ []))
+    × (map (pendingIn listing) (0 ∷ 1 ∷ 2 ∷ 3 ∷ []) ≡ (0 ∷ 0 ∷ 5 ∷ 0 ∷ []))
+    × (map (λ n. isBlank listing n (numbered listing n)) (1 ∷ 2 ∷ 3 ∷ []) ≡ (false ∷ false ∷ true ∷ []))
+    × (isBlank listing 2 (fragment 1 3 3 0 0 Reserved) ≡ false)
+    × (map (λ n. nextWritable listing n (numbered listing n) .0) (1 ∷ 2 ∷ 3 ∷ []) ≡ (32 ∷ 69 ∷ 112 ∷ []))
+    × (lastOf (listing .fragments) .number ≡ 3)
+    × (map (λ a. found (atAddress listing (lba a))) (31 ∷ 32 ∷ 48 ∷ 95 ∷ 96 ∷ 112 ∷ []) ≡ (1 ∷ 0 ∷ 2 ∷ 2 ∷ 0 ∷ 3 ∷ []))
+    × (map (λ a. found (writableAt listing (lba a))) (32 ∷ 64 ∷ 69 ∷ 112 ∷ []) ≡ (0 ∷ 0 ∷ 2 ∷ 3 ∷ []))
+    × (map (λ s. firstOfSession s 1 (records listing)) (1 ∷ 2 ∷ []) ≡ (1 ∷ 4 ∷ []))
+unfolding listed find firstOfSession
+asked-of-a-list = (refl, refl, refl, refl, refl, refl, refl, refl, refl, refl)
+
+-- a blank disc, one with a block written, one with a sector pending, one with a blank tail after a fragment, one with a blank tail alone in
+-- session 2, one with none there
+abbrev endings : List Disc
+endings =
+    holding 0 0 (fragment 1 0 300 0 0 Appended ∷ []) ∷ holding 0 0 (fragment 1 0 300 1 0 Appended ∷ [])
+    ∷ holding 1 1 (fragment 1 0 300 0 0 Appended ∷ []) ∷ holding 0 0 (fragment 1 0 2 2 0 Appended ∷ fragment 1 3 297 0 0 Appended ∷ [])
+    ∷ holding 0 0 (fragment 1 0 2 2 0 Appended ∷ fragment 2 130 170 0 0 Appended ∷ [])
+    ∷ holding 0 0 (fragment 1 0 300 300 0 Appended ∷ []) ∷ []
+
+pub blank-endings :
+    (map hasBlankTail endings ≡ (true ∷ false ∷ false ∷ true ∷ true ∷ false ∷ []))
+    × (map blankTailOnly endings ≡ (true ∷ false ∷ false ∷ false ∷ true ∷ false ∷ []))
+    × (map isBlankDisc endings ≡ (true ∷ false ∷ false ∷ false ∷ false ∷ false ∷ []))
+unfolding listed firstOfSession
+blank-endings = (refl, refl, refl)
+
+-- the smallest and the largest capacity are in range, a block less or more is not
+pub ranges : map inRange (255 ∷ 256 ∷ 143444 ∷ 143445 ∷ []) ≡ (false ∷ true ∷ true ∷ false ∷ [])
+ranges = refl
+
+-- a blank disc may be worked on; not with a sense that no command leaves, nor with pending sectors and no fragment for them
+pub states :
+    map allowedState (blank 300 ∷ withSense (blank 300) (sense 0x5 0x21 0x02) ∷ withSense (blank 300) (sense 0x5 0x21 0x01) ∷ withPending (blank 300) 1 0 ∷ [])
+    ≡ (true ∷ true ∷ false ∷ false ∷ [])
+unfolding
+    blank listed some every usedFirst firstAtZero followsFrom inOrder endsWithin recordedWithin zeroedWithin incompleteLast tailLast
+    tailOrFull pendingNamed finalizedComplete sound allowedState allowedSense isRefusalSense
+states = refl
+
+-- a record put under its number, under 0 and past the list
+pub puts :
+    map (λ n. withEntry listing (entry n (fragment 1 3 3 3 11 Reserved))) (2 ∷ 0 ∷ (limit + 1) ∷ [])
+    ≡ (holding 5 2 (fragment 1 0 2 2 12 Appended ∷ fragment 1 3 3 3 11 Reserved ∷ fragment 1 7 293 0 0 Appended ∷ []) ∷ listing ∷ listing ∷ [])
+unfolding withEntry
+puts = refl
+
+-- a decision applied: answer, count, report and plan are its own, the disc is changed by its change
+abbrev told : Verdict → List ℕ
+told v = number (v .answer) ∷ v .recorded ∷ v .reply .length ∷ v .disc .pending ∷ []
+
+pub applied :
+    told (decided listing (accepting (Settle (entry 2 (fragment 1 3 3 2 11 Reserved))) 1 (report (capacityBytes (lba 0)) 8) noPlan))
+    ≡ (0 ∷ 1 ∷ 8 ∷ 0 ∷ [])
+unfolding decided changed affected accepting
+applied = refl
 
 -- the address, or 0 where there is no tail
 abbrev addressOf : TailNext → ℕ

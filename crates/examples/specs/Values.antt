@@ -5,10 +5,10 @@ use mathlib.Core.Path.{_≡_, refl}
 use mathlib.Core.Bool.{Bool, true, false}
 use mathlib.Core.List.{List, [], _∷_, _++_, map}
 use lib.ListN.{length, take, replicate}
-use Rattle.examples.specs.Types.{Sense, Fragment, Reserved, Appended, Disc, Found, Number, Nowhere, Accepted, Link, Drive, CommandBlockLength, MediumSize, UnsoundState, TransferLength, BlankCheck, Read, Write, RequestSense, ReadCapacity, SynchronizeCache, ReadDiscInformation, ReadTrackInformation, Keep, Settle, Reserve, Close, Grow, Effect, Skip, Record, Nothing, Send, Gather, Fill, Decision}
+use Rattle.examples.specs.Types.{Sense, Fragment, Reserved, Appended, Disc, Found, Number, Nowhere, Accepted, Link, Drive, CommandBlockLength, MediumSize, UnsoundState, TransferLength, BlankCheck, Read, Write, RequestSense, ReadCapacity, SynchronizeCache, ReadDiscInformation, ReadTrackInformation, Keep, Settle, Reserve, Close, Grow, Effect, Skip, Record, Nothing, Send, Gather, Fill, Entry, Decision}
 use Rattle.fragments.specs.Address.{sectorsIn, blocksFor, wholeBlocks, leftOver, missing, block, lba, firstSector, passes}
-use Rattle.fragments.specs.Fragment.{fragment, unusedRecord, isReserved, complete, isTail, isIncompleteReserved, end, nextFragmentStart, nextSessionStart, nextAfter, lastRecorded, holdsRun}
-use Rattle.fragments.specs.List.{limit, listed, lastOf, holderOf, takerOf, pendingOf, firstOfSession, lastReadable, some, find}
+use Rattle.fragments.specs.Fragment.{fragment, unusedRecord, isReserved, complete, isTail, isIncompleteReserved, end, nextFragmentStart, nextSessionStart, nextAfter, lastRecorded, holdsRun, reservedAt, shortenedRecord}
+use Rattle.fragments.specs.List.{limit, listed, recordNumbered, lastOf, holderOf, takerOf, pendingOf, firstOfSession, lastReadable, some, find}
 use Rattle.protocol.specs.Answer.{sense, noSense, senseNumber, refusalSense, driveRefusals, allowedSense, isRefusalSense, number}
 use Rattle.protocol.specs.Lengths.{dataLength, replyRoom, lengthsFit}
 use Rattle.protocol.specs.Reply.{report, noReply}
@@ -16,6 +16,8 @@ use Rattle.protocol.specs.Reports.{senseBytes, capacityBytes, discBytes, trackB
 use Rattle.decisions.specs.Change.{entry, noEntry, over}
 use Rattle.decisions.specs.Plan.{plan, noPlan}
 use Rattle.decisions.specs.Decision.{accepting, refusing, refusingLink}
+use Rattle.decisions.specs.Tail.{tailEntry, tailAfter, tailClosed}
+use Rattle.decisions.specs.Flushing.{noFlushing, closingLast}
 use Rattle.decisions.specs.Run.{sentWithin}
 use Rattle.disc.specs.Apply.{withEntry, affected, changed}
 
@@ -69,6 +71,17 @@ pub walks :
     ≡ (3 ∷ 3 ∷ 134 ∷ 1 ∷ 0 ∷ 2 ∷ 0 ∷ 2 ∷ 0 ∷ 3 ∷ 0 ∷ 5 ∷ 0 ∷ 1 ∷ 2 ∷ 4 ∷ 2111 ∷ [])
 unfolding listed find firstOfSession lastReadable
 walks = refl
+
+-- by number: from 1, unused ones after those in use and past the end; under 0 stands the first
+pub numbers :
+    map (λ n. recordNumbered list n .length) (0 ∷ 1 ∷ 2 ∷ 3 ∷ 4 ∷ limit ∷ (limit + 1) ∷ []) ≡ (2 ∷ 2 ∷ 3 ∷ 166 ∷ 0 ∷ 0 ∷ 0 ∷ [])
+numbers = refl
+
+-- one made of another: reserved in the place of the tail, and ended with its recorded blocks, the zero-filled sectors kept
+pub made-records :
+    (reservedAt third 10 ≡ fragment 2 134 10 0 0 Reserved)
+    × (map shortenedRecord (fragment 1 0 300 2 12 Appended ∷ second ∷ []) ≡ (first ∷ fragment 2 130 2 2 0 Reserved ∷ []))
+made-records = (refl, refl)
 
 -- a run lies in the first fragment, in the dividing block too, in both fragments; in the second, past what is recorded of it
 pub tests :
@@ -168,6 +181,35 @@ pub entries :
     ∷ noEntry .number ∷ noEntry .fragment .length ∷ [])
     ≡ (2 ∷ 130 ∷ 134 ∷ 2 ∷ 0 ∷ 0 ∷ [])
 entries = refl
+
+-- of a tail that begins: in the last block, none after it; after a record of ten blocks, none after the last record of the list, none
+-- where the dividing block is the last one
+pub tails-begun :
+    (map (λ b. tailEntry 300 4 2 (block b)) (145 ∷ 299 ∷ 300 ∷ [])
+    ≡ (entry 4 (fragment 2 145 155 0 0 Appended) ∷ entry 4 (fragment 2 299 1 0 0 Appended) ∷ noEntry ∷ []))
+    × (map (λ n. tailAfter 300 n (fragment 2 134 10 0 0 Reserved)) (3 ∷ (limit - 1) ∷ limit ∷ [])
+    ≡ (entry 4 (fragment 2 145 155 0 0 Appended) ∷ entry limit (fragment 2 145 155 0 0 Appended) ∷ noEntry ∷ []))
+    × (map (λ l. tailAfter 300 3 (fragment 2 134 l 0 0 Reserved) .number) (164 ∷ 165 ∷ []) ≡ (4 ∷ 0 ∷ []))
+unfolding tailEntry tailAfter
+tails-begun = (refl, refl, refl)
+
+-- of the last record closed: a blank tail is dropped, a written one ends with its block, a reserved fragment stays
+abbrev closed : ℕ → Fragment → Entry
+closed n f = tailClosed (record { number = n; fragment = f })
+
+pub tails-closed :
+    (closed 3 third ∷ closed 3 (fragment 2 134 166 1 0 Appended) ∷ closed 2 second ∷ [])
+    ≡ (entry 3 unusedRecord ∷ entry 3 (fragment 2 134 1 1 0 Appended) ∷ noEntry ∷ [])
+unfolding tailClosed
+tails-closed = refl
+
+-- of a flush with the last record closed after it: the flush's record, block and count, the tail closed, the one begun, the flag
+pub closings :
+    (closingLast (record { entry = entry 2 first; plan = Record (block 132) 5; recorded = 1 }) (record { number = 3; fragment = third }) (entry 3 second) false
+    ≡ accepting (Close (entry 2 first) (entry 3 unusedRecord) (entry 3 second) false) 1 noReply (plan (Record (block 132) 5) Nothing))
+    × (closingLast noFlushing (record { number = 2; fragment = second }) noEntry true ≡ accepting (Close noEntry noEntry noEntry true) 0 noReply noPlan)
+unfolding closingLast tailClosed
+closings = (refl, refl)
 
 -- of a run that is sent, on a medium of two sectors, 7s and then 8s: the sectors addressed, none past the end, none of a part of one, and
 -- nothing for what sends nothing

@@ -19,7 +19,7 @@ use Rattle.commands.specs.Read.{read}
 use Rattle.commands.specs.Write.{write}
 use Rattle.commands.specs.Reserve.{reserve}
 use Rattle.commands.specs.Close.{close}
-use Rattle.reports.specs.Reports.{requestSense, readCapacity, readDiscInformation, readTrackInformation}
+use Rattle.reporting.specs.Reports.{requestSense, readCapacity, readDiscInformation, readTrackInformation}
 
 -- TEST UNIT READY (00h) is accepted
 unfoldable pub testUnitReady : Disc → Verdict

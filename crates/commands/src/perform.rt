@@ -21,8 +21,8 @@ pub(crate) fn perform(disc: Disc, command: Command) -> Decision
 {
     match command {
         Command::TestUnitReady => Decision::unchanged(Reply::none()),
-        Command::RequestSense { allocation } => reports::request_sense(disc, allocation),
-        Command::ReadCapacity => reports::read_capacity(disc),
+        Command::RequestSense { allocation } => reporting::request_sense(disc, allocation),
+        Command::ReadCapacity => reporting::read_capacity(disc),
         Command::Read { address, length } => read::read(disc, address, length),
         Command::Write { address, length } => write::write(disc, address, length),
         Command::SynchronizeCache => flush::synchronize_cache(disc),
@@ -35,12 +35,12 @@ pub(crate) fn perform(disc: Disc, command: Command) -> Decision
         Command::ReadDiscInformation {
             data_type,
             allocation,
-        } => reports::read_disc_information(disc, data_type, allocation),
+        } => reporting::read_disc_information(disc, data_type, allocation),
         Command::ReadTrackInformation {
             address_type,
             number,
             allocation,
-        } => { reports::read_track_information(disc, address_type, number, allocation) }
+        } => { reporting::read_track_information(disc, address_type, number, allocation) }
         Command::Unlisted => Decision::refused(DriveRefusal::InvalidOperationCode),
     }
 }

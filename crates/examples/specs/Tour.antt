@@ -20,7 +20,7 @@ use Rattle.commands.specs.Write.{flushOthers, flushOthersPlan, gather, writeTo,
 use Rattle.commands.specs.Reserve.{splitTail, reserve}
 use Rattle.commands.specs.Close.{appendTail, closeIncomplete, closeFragment, closeTail, openSession, closeSession, finalize, close}
 use Rattle.protocol.specs.Reports.{senseBytes, discBytes, trackBytes}
-use Rattle.reports.specs.Reports.{requestSense, readCapacity, sessionState, discStatus, readDiscInformation, nextWritableOrZero, freeSectors, trackVerdict, trackFound, trackNumbered, readTrackInformation}
+use Rattle.reporting.specs.Reports.{requestSense, readCapacity, sessionState, discStatus, readDiscInformation, nextWritableOrZero, freeSectors, trackVerdict, trackFound, trackNumbered, readTrackInformation}
 use Rattle.commands.specs.Judge.{testUnitReady, perform, judgeCommand, judge}
 use Rattle.examples.specs.Shift.{Shown, shown}
 use Rattle.examples.specs.Types.{Sense, Reserved, Appended, Fragment, Disc}

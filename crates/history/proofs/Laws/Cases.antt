@@ -22,7 +22,7 @@ use Rattle.commands.specs.Flush.{flush, flushPlan, synchronizeCache}
 use Rattle.commands.specs.Read.{allReadable, read}
 use Rattle.commands.specs.Write.{flushOthers, flushOthersPlan, gather, writeTo, writeFound, write}
 use Rattle.commands.specs.Reserve.{splitTail, reserve}
-use Rattle.reports.specs.Reports.{nextWritableOrZero, freeSectors, trackVerdict, trackFound, trackNumbered, readTrackInformation}
+use Rattle.reporting.specs.Reports.{nextWritableOrZero, freeSectors, trackVerdict, trackFound, trackNumbered, readTrackInformation}
 use Rattle.protocol.specs.Reports.{trackBytes}
 use Rattle.commands.specs.Judge.{perform, judgeCommand, judge}
 use Rattle.disc.specs.Verdict.{accepted, accept, refuse}

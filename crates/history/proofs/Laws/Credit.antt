@@ -23,7 +23,7 @@ use Rattle.commands.specs.Read.{allReadable, read}
 use Rattle.commands.specs.Write.{flushOthers, flushOthersPlan, gather, Writable, writeTo, writeFound, write}
 use Rattle.commands.specs.Reserve.{splitTail, reserve}
 use Rattle.commands.specs.Close.{appendTail, closeIncomplete, closeFragment, hasIncompleteReserved, closeTail, openSession, closeSession, finalized, finalize, close}
-use Rattle.reports.specs.Reports.{requestSense, readCapacity, readDiscInformation, readTrackInformation, trackVerdict, trackFound, trackNumbered}
+use Rattle.reporting.specs.Reports.{requestSense, readCapacity, readDiscInformation, readTrackInformation, trackVerdict, trackFound, trackNumbered}
 use Rattle.commands.specs.Judge.{testUnitReady, perform}
 use Rattle.fragments.proofs.Laws.Bool.{and-both, and-left, and-right, or-cases, contradiction, by-cases, cond-yes, cond-no, cond-cases}
 use Rattle.fragments.proofs.Laws.Numbers.{equal-cases, below-limit}

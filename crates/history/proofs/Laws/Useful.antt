@@ -15,7 +15,7 @@ use Rattle.disc.specs.Sound.{usedFirst, firstAtZero, followsFrom, inOrder, ends
 use Rattle.protocol.specs.Lengths.{dataLength, replyRoom, lengthsFit}
 use Rattle.commands.specs.Flush.{flush, flushPlan}
 use Rattle.commands.specs.Write.{flushOthers, flushOthersPlan, gather, writeTo, writeFound, write}
-use Rattle.reports.specs.Reports.{sessionState, discStatus, readDiscInformation}
+use Rattle.reporting.specs.Reports.{sessionState, discStatus, readDiscInformation}
 use Rattle.protocol.specs.Reports.{discBytes}
 use Rattle.commands.specs.Judge.{perform, judgeCommand, judge}
 use Rattle.disc.specs.Verdict.{accepted, accept}

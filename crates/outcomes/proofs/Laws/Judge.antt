@@ -22,7 +22,7 @@ use Rattle.decisions.specs.Plan.{noPlan}
 use Rattle.disc.specs.Verdict.{refuseLink, refuse, accepted, accept, rise}
 use Rattle.protocol.specs.Reply.{report}
 use Rattle.commands.specs.Read.{allReadable, read}
-use Rattle.reports.specs.Reports.{requestSense, readCapacity, discReport, readDiscInformation, trackReport, trackVerdict, trackFound, trackNumbered, readTrackInformation}
+use Rattle.reporting.specs.Reports.{requestSense, readCapacity, discReport, readDiscInformation, trackReport, trackVerdict, trackFound, trackNumbered, readTrackInformation}
 use Rattle.protocol.specs.Reports.{senseBytes, capacityBytes, discBytes, trackBytes}
 use Rattle.commands.specs.Judge.{judgeAsAsked, testUnitReady, perform, judgeCommand, judge}
 use mathlib.Core.Logic.{⊎-elim, _⊎_, inl, inr}

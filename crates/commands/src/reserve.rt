@@ -4,19 +4,21 @@ use decisions::Effect;
 use decisions::Entry;
 use decisions::Plan;
 use disc::Disc;
+use fragments::Last;
 use protocol::DriveRefusal;
 use protocol::Reply;
 ghost use mathlib.Core.Path.{_≡_};
+ghost use Rattle.fragments.specs.List.{lastOf};
 ghost use Rattle.disc.specs.Ready.{Ready};
 ghost use Rattle.disc.specs.Apply.{affected, decided};
 ghost use Rattle.commands.specs.Reserve.{Splitting, splitTail, reserve};
 
-// The blank tail as a reserved fragment of so many blocks, with a tail after it.
-fn split_tail(disc: Disc, blocks: u32) -> Effect
+// The blank tail, the last record, as a reserved fragment of so many blocks, with a tail after it.
+fn split_tail(disc: Disc, last: Last, blocks: u32) -> Effect
     requires { ⌜ Splitting disc blocks ⌝ }
+    requires { ⌜ last ≡ lastOf (disc .fragments) ⌝ }
     ensures { λ r. ⌜ affected disc r ≡ splitTail disc blocks ⌝ }
 {
-    let last = disc.last();
     let f = last.fragment.reserved(blocks);
     let reserved = Entry::new(last.number, f);
     let tail = Entry::tail(disc.capacity, last.number + 1, f.session, f.next_start());
@@ -34,10 +36,10 @@ pub(crate) fn reserve_track(disc: Disc, size: u32) -> Decision
     if size == 0 {
         return Decision::refused(DriveRefusal::InvalidFieldInCommand);
     }
-    if !disc.has_blank_tail() {
+    let last = disc.last();
+    if !disc.is_blank_tail(last) {
         return Decision::refused(DriveRefusal::NoMoreReservations);
     }
-    let last = disc.last();
     if last.number == Disc::LIMIT {
         return Decision::refused(DriveRefusal::NoMoreReservations);
     }
@@ -45,5 +47,10 @@ pub(crate) fn reserve_track(disc: Disc, size: u32) -> Decision
     if disc.capacity as u64 <= last.fragment.reserved(blocks).next_start().0 {
         return Decision::refused(DriveRefusal::EndOfUserArea);
     }
-    Decision::accepted(split_tail(disc, blocks), 0, Reply::none(), Plan::none())
+    Decision::accepted(
+        split_tail(disc, last, blocks),
+        0,
+        Reply::none(),
+        Plan::none(),
+    )
 }

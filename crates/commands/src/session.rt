@@ -20,21 +20,9 @@ fn stays_incomplete(disc: Disc, flushed: Entry) -> bool
     requires { ⌜ flushed ≡ flushEntry disc ⌝ }
     ensures { λ r. ⌜ r ≡ hasIncompleteReserved (flush disc) ⌝ }
 {
-    let after = disc.with_entry(flushed);
-    let records = after.fragments;
+    let before = disc.fragments;
+    let records = flushed.put(before);
     fragments::has_incomplete_reserved(records)
-}
-
-// The last record after that flush, with its number.
-fn last_flushed(disc: Disc, flushed: Entry) -> Last
-    requires { ⌜ Ready disc ⌝ }
-    requires { ⌜ flushed ≡ flushEntry disc ⌝ }
-    ensures { λ r. ⌜ r ≡ lastOf (flush disc .fragments) ⌝ }
-{
-    let last = disc.last();
-    let number = last.number;
-    let fragment = flushed.over(number, last.fragment);
-    Last { number, fragment }
 }
 
 // The last record that is left with the tail closed, after that flush, whose last record is `last`.
@@ -69,7 +57,8 @@ pub(crate) fn close_session(disc: Disc) -> Decision
     requires { ⌜ Ready disc ⌝ }
     ensures { λ r. ⌜ decided disc r ≡ closeSession disc ⌝ }
 {
-    if disc.finalized | disc.blank_tail_only() {
+    let before = disc.last();
+    if disc.finalized | disc.is_only_tail(before) {
         return Decision::unchanged(Reply::none());
     }
     let first = flush::flushing(disc);
@@ -77,7 +66,7 @@ pub(crate) fn close_session(disc: Disc) -> Decision
     if stays_incomplete(disc, flushed) {
         return Decision::refused(DriveRefusal::IncompleteTrackInSession);
     }
-    let last = last_flushed(disc, flushed);
+    let last = flushed.over_last(before);
     let kept = last_kept(disc, flushed, last);
     if kept.number == Disc::LIMIT {
         return Decision::refused(DriveRefusal::NoMoreReservations);
@@ -104,9 +93,10 @@ pub(crate) fn finalize(disc: Disc) -> Decision
     if stays_incomplete(disc, flushed) {
         return Decision::refused(DriveRefusal::IncompleteTrackInSession);
     }
-    if disc.is_blank_disc() {
+    let before = disc.last();
+    if disc.is_only_tail(before) & (before.fragment.session == 1) {
         return Decision::refused(DriveRefusal::EmptyTrack);
     }
-    let last = last_flushed(disc, flushed);
+    let last = flushed.over_last(before);
     first.closing(last, Entry::none(), true)
 }

@@ -1,8 +1,9 @@
 // What a command changes of a disc, as a value without the disc. Making the new disc of it is the disc's.
 use fragments::Fragment;
+use fragments::Last;
 use protocol::Sense;
 ghost use mathlib.Core.Path.{_≡_};
-ghost use Rattle.decisions.specs.Change.{entry, noEntry, over};
+ghost use Rattle.decisions.specs.Change.{entry, noEntry, put, over, overLast};
 
 // A record put under a number of the list; under the number 0 none is put.
 pub struct Entry {
@@ -59,6 +60,22 @@ impl Entry {
         Entry::new(0, Fragment::unused())
     }
 
+    // The records with this one put under its number; under 0 and past the list none is put.
+    pub fn put(self, mut records: [Fragment; fragments::LIMIT]) -> [Fragment; fragments::LIMIT]
+        ensures { λ r. ⌜ r ≡ put self records ⌝ }
+    {
+        let number = self.number;
+        if number == 0 {
+            return records;
+        }
+        if number > fragments::LIMIT {
+            return records;
+        }
+        let f = self.fragment;
+        records[number - 1] = f;
+        records
+    }
+
     // What stands under a number once the record is put, with another one there before.
     pub fn over(self, number: usize, before: Fragment) -> Fragment
         ensures { λ r. ⌜ r ≡ over self number before ⌝ }
@@ -67,5 +84,14 @@ impl Entry {
             return self.fragment;
         }
         before
+    }
+
+    // The last record once this one is put, with its number and what was there before.
+    pub fn over_last(self, last: Last) -> Last
+        ensures { λ r. ⌜ r ≡ overLast self last ⌝ }
+    {
+        let number = last.number;
+        let fragment = self.over(number, last.fragment);
+        Last { number, fragment }
     }
 }

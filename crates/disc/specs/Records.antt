@@ -4,9 +4,9 @@ use mathlib.Core.Bool.{Bool, not, cond, _&&_}
 use mathlib.Core.List.{List}
 use lib.ListN.{length, set}
 use lib.Dec.{eqb, leb}
-use Rattle.disc.specs.Types.{Lba, Sense, Fragment, Disc, Found, TailNext, Address, NoTail}
+use Rattle.disc.specs.Types.{Lba, Sense, Fragment, Disc, Found, Last, TailNext, Address, NoTail}
 use Rattle.fragments.specs.Fragment.{isTail, nextAfter, holdsRecorded}
-use Rattle.fragments.specs.List.{listed, recordNumbered, some, pendingOf, holderOf, takerOf, firstOfSession}
+use Rattle.fragments.specs.List.{listed, recordNumbered, lastOf, some, pendingOf, holderOf, takerOf, firstOfSession}
 
 -- the records in use
 abbrev pub records : Disc → List Fragment
@@ -68,8 +68,12 @@ hasTail d = isTail (lastRecord d)
 abbrev pub tailNext : Disc → TailNext
 tailNext d = cond (hasTail d) (Address (nextWritable d (used d) (lastRecord d))) NoTail
 
+-- the last record, with its number, is a blank tail
+abbrev pub isBlankTail : Disc → Last → Bool
+isBlankTail d l = isTail (l .fragment) && isBlank d (l .number) (l .fragment)
+
 abbrev pub hasBlankTail : Disc → Bool
-hasBlankTail d = hasTail d && isBlank d (used d) (lastRecord d)
+hasBlankTail d = isBlankTail d (lastOf (d .fragments))
 
 -- the fragment that an address lies in
 abbrev pub atAddress : Disc → Lba → Found
@@ -83,9 +87,12 @@ writableAt d a = takerOf (d .fragments) (d .pending) (d .owner) a
 abbrev pub readable : Disc → Lba → Bool
 readable d a = some (holdsRecorded a) (records d)
 
--- the last session has one record, and that is a blank tail
+-- its session has one record, and that is a blank tail
+abbrev pub isOnlyTail : Disc → Last → Bool
+isOnlyTail d l = isBlankTail d l && eqb (firstOfSession (l .fragment .session) 1 (records d)) (l .number)
+
 abbrev pub blankTailOnly : Disc → Bool
-blankTailOnly d = hasBlankTail d && eqb (firstOfSession (lastRecord d .session) 1 (records d)) (used d)
+blankTailOnly d = isOnlyTail d (lastOf (d .fragments))
 
 -- so has session 1: nothing was ever written
 abbrev pub isBlankDisc : Disc → Bool

@@ -11,19 +11,11 @@ ghost use Rattle.disc.specs.Apply.{withEntry, settled, affected, changed
 
 impl Disc {
     // The disc with a record put under its number.
-    pub fn with_entry(mut self, entry: Entry) -> Disc
+    pub(crate) fn with_entry(mut self, entry: Entry) -> Disc
         ensures { λ r. ⌜ r ≡ withEntry self entry ⌝ }
     {
-        let number = entry.number;
-        if number == 0 {
-            return self;
-        }
-        if number > Disc::LIMIT {
-            return self;
-        }
-        let f = entry.fragment;
-        let mut fragments = self.fragments;
-        fragments[number - 1] = f;
+        let before = self.fragments;
+        let fragments = entry.put(before);
         self.fragments = fragments;
         self
     }

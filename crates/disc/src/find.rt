@@ -6,10 +6,8 @@ use fragments::Fragment;
 use fragments::Last;
 use fragments::Lba;
 ghost use mathlib.Core.Path.{_≡_};
-ghost use mathlib.Core.Bool.{_&&_};
-ghost use Rattle.fragments.specs.Fragment.{isTail};
 ghost use Rattle.fragments.specs.List.{lastOf, firstOfSession};
-ghost use Rattle.disc.specs.Records.{used, isListed, numbered, pendingIn, isBlank, nextWritable, tailNext, atAddress, writableAt, records, hasBlankTail, blankTailOnly, isBlankDisc};
+ghost use Rattle.disc.specs.Records.{used, isListed, numbered, pendingIn, isBlank, nextWritable, tailNext, atAddress, writableAt, records, isBlankTail, isOnlyTail};
 
 impl Disc {
     // How many records are in use, which is the last one's number.
@@ -100,33 +98,17 @@ impl Disc {
     }
 
     // The last record, given with its number, is a tail with no block recorded and no sector pending.
-    fn is_blank_tail(self, last: Last) -> bool
-        ensures { λ r. ⌜ r ≡ (isTail (last .fragment) && isBlank self (last .number) (last .fragment)) ⌝ }
+    pub fn is_blank_tail(self, last: Last) -> bool
+        ensures { λ r. ⌜ r ≡ isBlankTail self last ⌝ }
     {
         let f = last.fragment;
         f.is_tail() & self.is_blank(last.number, f)
     }
 
-    // There is such a record.
-    pub fn has_blank_tail(self) -> bool
-        ensures { λ r. ⌜ r ≡ hasBlankTail self ⌝ }
+    // The same, and it is its session's one record.
+    pub fn is_only_tail(self, last: Last) -> bool
+        ensures { λ r. ⌜ r ≡ isOnlyTail self last ⌝ }
     {
-        self.is_blank_tail(self.last())
-    }
-
-    // The last session has one record, and that is a blank tail.
-    pub fn blank_tail_only(self) -> bool
-        ensures { λ r. ⌜ r ≡ blankTailOnly self ⌝ }
-    {
-        let last = self.last();
         self.is_blank_tail(last) & (self.first_of_session(last.fragment.session) == last.number)
-    }
-
-    // Session 1 has one record, and that is a blank tail.
-    pub fn is_blank_disc(self) -> bool
-        ensures { λ r. ⌜ r ≡ isBlankDisc self ⌝ }
-    {
-        let last = self.last();
-        self.blank_tail_only() & (last.fragment.session == 1)
     }
 }

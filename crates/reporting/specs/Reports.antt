@@ -1,6 +1,6 @@
 -- What the reports say of the disc: 03h REQUEST SENSE, 25h READ CAPACITY, 51h READ DISC INFORMATION, 52h READ TRACK INFORMATION.
 use Prim.Native.Nat.{ℕ, _+_, _-_, _*_}
-use mathlib.Core.Bool.{cond, not}
+use mathlib.Core.Bool.{Bool, cond, not}
 use lib.Dec.{eqb}
 use Rattle.reporting.specs.Types.{Lba, Disc, Found, Number, Nowhere, DiscReport, TrackReport, Verdict, InvalidFieldInCommand, AddressOutOfRange}
 use Rattle.fragments.specs.Address.{lba, sectorsIn, firstSector}
@@ -22,12 +22,18 @@ unfoldable pub readCapacity : Disc → Verdict
 readCapacity d = accept d d (report (capacityBytes (lastReadable (records d))) capacityLength) noPlan
 
 -- READ DISC INFORMATION (51h): the state of the last session: 0 with only a blank tail, 3 on a finalized disc, else 1
+abbrev pub lastSession : Bool → Bool → ℕ
+lastSession finalized only = cond finalized 3 (cond only 0 1)
+
 unfoldable pub sessionState : Disc → ℕ
-sessionState d = cond (d .finalized) 3 (cond (blankTailOnly d) 0 1)
+sessionState d = lastSession (d .finalized) (blankTailOnly d)
 
 -- the disc status: 0 for a blank disc, 2 for a finalized one, else 1
+abbrev pub statusOf : Bool → Bool → ℕ
+statusOf finalized blank = cond finalized 2 (cond blank 0 1)
+
 unfoldable pub discStatus : Disc → ℕ
-discStatus d = cond (d .finalized) 2 (cond (isBlankDisc d) 0 1)
+discStatus d = statusOf (d .finalized) (isBlankDisc d)
 
 -- what it says: the two states, then the number of the last session, of its first and of its last fragment
 abbrev pub discReport : Disc → DiscReport

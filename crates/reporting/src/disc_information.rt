@@ -6,29 +6,29 @@ use protocol::DriveRefusal;
 use protocol::Reply;
 ghost use mathlib.Core.Path.{_≡_};
 ghost use Rattle.disc.specs.Apply.{decided};
-ghost use Rattle.reporting.specs.Reports.{sessionState, discStatus, discReport, readDiscInformation};
+ghost use Rattle.reporting.specs.Reports.{lastSession, statusOf, discReport, readDiscInformation};
 
 // The state of the last session: 0 with only a blank tail, 3 on a finalized disc, else 1.
-fn session_state(disc: Disc) -> u8
-    ensures { λ r. ⌜ r ≡ sessionState disc ⌝ }
+fn last_session(finalized: bool, only: bool) -> u8
+    ensures { λ r. ⌜ r ≡ lastSession finalized only ⌝ }
 {
-    if disc.finalized {
+    if finalized {
         return 3;
     }
-    if disc.blank_tail_only() {
+    if only {
         return 0;
     }
     1
 }
 
 // The disc status: 0 for a blank disc, 2 for a finalized one, else 1.
-fn disc_status(disc: Disc) -> u8
-    ensures { λ r. ⌜ r ≡ discStatus disc ⌝ }
+fn status_of(finalized: bool, blank: bool) -> u8
+    ensures { λ r. ⌜ r ≡ statusOf finalized blank ⌝ }
 {
-    if disc.finalized {
+    if finalized {
         return 2;
     }
-    if disc.is_blank_disc() {
+    if blank {
         return 0;
     }
     1
@@ -39,10 +39,13 @@ fn disc_report(disc: Disc) -> DiscReport
     ensures { λ r. ⌜ r ≡ discReport disc ⌝ }
 {
     let last = disc.last();
+    let session = last.fragment.session;
+    let only = disc.is_only_tail(last);
+    let blank = only & (session == 1);
     DiscReport {
-        states: 4 * session_state(disc) + disc_status(disc),
-        sessions: last.fragment.session as usize,
-        first: disc.first_of_session(last.fragment.session),
+        states: 4 * last_session(disc.finalized, only) + status_of(disc.finalized, blank),
+        sessions: session as usize,
+        first: disc.first_of_session(session),
         last: last.number,
     }
 }

@@ -14,7 +14,7 @@ use Rattle.fragments.specs.List.{limit, lastOf}
 use Rattle.disc.specs.Records.{pendingIn, used, numbered, lastRecord, withRecord, hasTail, hasBlankTail}
 use Rattle.disc.specs.Rules.{Sound}
 use Rattle.disc.specs.Ready.{Ready}
-use Rattle.decisions.specs.Change.{entry, noEntry}
+use Rattle.decisions.specs.Change.{entry, noEntry, put, overLast}
 use Rattle.disc.specs.Apply.{withEntry, withPending, withFinalized, settled, affected}
 use Rattle.commands.specs.Flush.{flushedRecord, flush, flushEntry}
 use Rattle.commands.specs.Write.{flushOthers, flushOthersEntry, grownRecord, gather}
@@ -33,8 +33,8 @@ use Rattle.commands.proofs.Laws.Session.{kept-blank, kept-tail, kept-sa
 
 -- the record of a flush, put where it belongs
 module _ (d : Disc) (r : Ready d) where
-  pub flush-fragments : withEntry d (flushEntry d) .fragments ≡ flush d .fragments
-  unfolding withEntry flushEntry flush
+  pub flush-fragments : put (flushEntry d) (d .fragments) ≡ flush d .fragments
+  unfolding flushEntry flush
   flush-fragments =
       by-cases (eqb (d .pending) 0)
       (λ z. rw z)
@@ -67,12 +67,11 @@ module _ (d : Disc) (r : Ready d) where
       rw (z, e) (sym (getD-set-other (d .fragments) (d .owner - 1) (n - 1) f unusedRecord (λ q. eqb-false (d .owner) n e (omega (arith, o .number)))))))
 
   -- the last record after it
-  pub last-flushed : (l : Last) → l .number ≡ used d → l .fragment ≡ numbered (flush d) (used d) → l ≡ lastOf (flush d .fragments)
-  last-flushed l n f =
-      let u = flush-used d r in
-      let m : l .number ≡ used (flush d) = n ∙ sym u in
-      let g : l .fragment ≡ lastRecord (flush d) = f ∙ ap (numbered (flush d)) (sym u) in
-      ap (λ k. record { number = k; fragment = l .fragment }) m ∙ ap (λ k. record { number = used (flush d); fragment = k }) g
+  pub last-flushed : overLast (flushEntry d) (lastOf (d .fragments)) ≡ lastOf (flush d .fragments)
+  last-flushed =
+      let f = flush-numbered (used d) (sound-rules d (r .sound) .some) in
+      ap (λ k. record { number = used d; fragment = k }) f
+      ∙ ap (λ k. record { number = k; fragment = numbered (flush d) k }) (sym (flush-used d r))
 
 pub affected-settled : (d : Disc) → Ready d → affected d (Settle (flushEntry d)) ≡ flush d
 unfolding affected

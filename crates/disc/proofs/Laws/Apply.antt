@@ -10,10 +10,10 @@ use Rattle.disc.specs.Types.{Fragment, Disc, DriveRefusal, LinkRefusal, 
 use Rattle.fragments.specs.List.{limit}
 use Rattle.disc.specs.Records.{withRecord}
 use Rattle.disc.specs.Verdict.{accepted, accept, refuse, refuseLink}
-use Rattle.decisions.specs.Change.{entry, noEntry}
+use Rattle.decisions.specs.Change.{entry, noEntry, put}
 use Rattle.decisions.specs.Decision.{accepting, refusing, refusingLink}
 use Rattle.disc.specs.Apply.{withEntry, affected, changed, decided}
-use Rattle.fragments.proofs.Laws.Bool.{cond-no}
+use Rattle.fragments.proofs.Laws.Bool.{by-cases, cond-no}
 use Rattle.disc.proofs.Laws.Verdict.{accept-same}
 
 -- refused and accepted decisions come to refused and accepted verdicts
@@ -33,6 +33,13 @@ accepted-verdict d e n r p = refl
 pub unchanged-verdict : (d : Disc) (r : Reply) (p : Plan) → decided d (accepting Keep 0 r p) ≡ accept d d r p
 unfolding affected
 unchanged-verdict d r p = accepted-verdict d Keep 0 r p ∙ accept-same d r p
+
+-- a record put among the records is put into the disc
+pub put-entry :
+    (d : Disc) (e : Entry)
+    → record { capacity = d .capacity; finalized = d .finalized; sense = d .sense; pending = d .pending; owner = d .owner; fragments = put e (d .fragments) } ≡ withEntry d e
+unfolding withEntry
+put-entry d e = by-cases (eqb (e .number) 0) (λ z. rw z) (λ z. rw z)
 
 -- a record put under a number from 1, and none put
 pub with-entry : (d : Disc) (n : ℕ) (f : Fragment) → 1 ≤ n → withEntry d (entry n f) ≡ withRecord d n f

@@ -1,32 +1,26 @@
 -- The reports: bounds of the states, and what is free in a fragment.
 use Prim.Native.Nat.{ℕ, zero, suc, _+_, _-_, _≤_}
 use mathlib.Core.Path.{_≡_}
-use mathlib.Core.Bool.{false, _&&_}
+use mathlib.Core.Bool.{Bool, true, false}
 use native.Mathlib.Omega.{arith}
-use lib.Dec.{eqb}
 use Rattle.reporting.specs.Types.{Disc}
 use Rattle.fragments.specs.Address.{firstSector}
 use Rattle.fragments.specs.Fragment.{end, complete}
-use Rattle.disc.specs.Records.{nextWritable, used, numbered, lastRecord, blankTailOnly}
+use Rattle.disc.specs.Records.{nextWritable, used, numbered}
 use Rattle.disc.specs.Rules.{Sound}
-use Rattle.reporting.specs.Reports.{sessionState, discStatus, freeSectors}
-use Rattle.fragments.proofs.Laws.Bool.{by-cases}
+use Rattle.reporting.specs.Reports.{lastSession, statusOf, freeSectors}
 use Rattle.disc.proofs.Laws.Sound.{writable-within}
 
-pub session-state-most : (d : Disc) → sessionState d ≤ 3
-unfolding sessionState
-session-state-most d =
-    by-cases (d .finalized)
-    (λ f. rw f (omega arith))
-    (λ f. by-cases (blankTailOnly d) (λ b. rw (f, b) (omega arith)) (λ b. rw (f, b) (omega arith)))
+-- a number that a contract equates with one of the states
+pub last-session-most : {r : ℕ} (finalized only : Bool) → r ≡ lastSession finalized only → r ≤ 3
+last-session-most true only e = omega (arith, e)
+last-session-most false true e = omega (arith, e)
+last-session-most false false e = omega (arith, e)
 
-pub disc-status-most : (d : Disc) → discStatus d ≤ 2
-unfolding discStatus
-disc-status-most d =
-    by-cases (d .finalized)
-    (λ f. rw f (omega arith))
-    (λ f.
-    by-cases (blankTailOnly d && eqb (lastRecord d .session) 1) (λ b. rw (f, b) (omega arith)) (λ b. rw (f, b) (omega arith)))
+pub status-most : {r : ℕ} (finalized blank : Bool) → r ≡ statusOf finalized blank → r ≤ 2
+status-most true blank e = omega (arith, e)
+status-most false true e = omega (arith, e)
+status-most false false e = omega (arith, e)
 
 -- an incomplete fragment's next writable address is not after its end
 writable-end :

@@ -1,4 +1,4 @@
-use borrow.Author.Tests.{eq-eqb, ne-eqb, not-false}
+use borrow.Author.Tests.{eq-eqb, ne-eqb, not-true, not-false}
 use Rattle.fragments.proofs.Laws.Address.{wide-number}
 use Rattle.fragments.proofs.Laws.Numbers.{below-limit}
 use Rattle.commands.specs.Reserve.{reserve}
@@ -27,18 +27,20 @@ returns-2 : tie.Need-returns-2
 unfolding reserve
 returns-2 c = simp (c .refused2 .ensures, refused-verdict, eq-eqb _ _ (c .before .if2 .taken), c .before .before .if1 .left)
 
-has-blank-tail-requires : tie.Need-has-blank-tail-requires
-has-blank-tail-requires c κs = search needs
+last-requires : tie.Need-last-requires
+last-requires c κs = search needs
+
+is-blank-tail-requires : tie.Need-is-blank-tail-requires
+is-blank-tail-requires c κs = search needs
 
 refused-requires-3 : tie.Need-refused-requires-3
 refused-requires-3 c κs = search needs
 
 returns-3 : tie.Need-returns-3
 unfolding reserve
-returns-3 c = simp (c .refused3 .ensures, refused-verdict, c .before .if3 .taken, ← c .before .before .has-blank-tail .ensures, ne-eqb _ _ (c .before .before .before .if2 .left), c .before .before .before .before .if1 .left)
-
-last-requires : tie.Need-last-requires
-last-requires c κs = search needs
+returns-3 c =
+    let b = rw (c .before .before .before .last .ensures) at (sym (c .before .before .is-blank-tail .ensures) ∙ not-true _ (c .before .if3 .taken)) in
+    rw (c .refused3 .ensures, refused-verdict, c .before .before .before .before .before .if1 .left, ne-eqb _ _ (c .before .before .before .before .if2 .left), b)
 
 refused-requires-4 : tie.Need-refused-requires-4
 refused-requires-4 c κs = search needs
@@ -48,8 +50,8 @@ returns-4 c =
     let d = c .before .before .before .before .before .before .before .before .args .disc in
     let f = c .before .before .before .before .before .before .before .if1 .left in
     let z = c .before .before .before .before .before .before .if2 .left in
-    let b = sym (c .before .before .before .before .before .has-blank-tail .ensures) ∙ not-false _ (c .before .before .before .before .if3 .left) in
-    let n = ap (λ l. l .number) (c .before .before .before .last .ensures) in
+    let b = rw (c .before .before .before .before .before .last .ensures) at (sym (c .before .before .before .before .is-blank-tail .ensures) ∙ not-false _ (c .before .before .before .if3 .left)) in
+    let n = ap (λ l. l .number) (c .before .before .before .before .before .last .ensures) in
     rw (c .refused4 .ensures, refused-verdict) (sym (reserve-full d (c .before .before .before .before .before .before .before .before .args .size) f z b (sym n ∙ c .before .if4 .taken)))
 
 blocks-for-requires : tie.Need-blocks-for-requires
@@ -72,10 +74,10 @@ returns-5 c =
     let d = c .before .before .before .before .before .before .before .before .before .before .before .before .before .before .args .disc in
     let f = c .before .before .before .before .before .before .before .before .before .before .before .before .before .if1 .left in
     let z = c .before .before .before .before .before .before .before .before .before .before .before .before .if2 .left in
-    let b = sym (c .before .before .before .before .before .before .before .before .before .before .before .has-blank-tail .ensures) ∙ not-false _ (c .before .before .before .before .before .before .before .before .before .before .if3 .left) in
-    let n = ap (λ l. l .number) (c .before .before .before .before .before .before .before .before .before .last .ensures) in
+    let b = rw (c .before .before .before .before .before .before .before .before .before .before .before .last .ensures) at (sym (c .before .before .before .before .before .before .before .before .before .before .is-blank-tail .ensures) ∙ not-false _ (c .before .before .before .before .before .before .before .before .before .if3 .left)) in
+    let n = ap (λ l. l .number) (c .before .before .before .before .before .before .before .before .before .before .before .last .ensures) in
     let u : used d ≡ limit → ⊥ = λ e. c .before .before .before .before .before .before .before .if4 .left (n ∙ e) in
-    let k = wide-number (rw (c .before .before .before .before .reserved .ensures, c .before .before .before .before .before .before .before .before .before .last .ensures, c .before .before .before .before .before .before .blocks-for .ensures) at (c .before .before .before .next-start .ensures)) in
+    let k = wide-number (rw (c .before .before .before .before .reserved .ensures, c .before .before .before .before .before .before .before .before .before .before .before .last .ensures, c .before .before .before .before .before .before .blocks-for .ensures) at (c .before .before .before .next-start .ensures)) in
     rw (c .refused5 .ensures, refused-verdict) (sym (reserve-past d (c .before .before .before .before .before .before .before .before .before .before .before .before .before .before .args .size) f z b u (rw k at (c .before .if5 .taken))))
 
 split-tail-requires : tie.Need-split-tail-requires
@@ -83,15 +85,15 @@ split-tail-requires c κs =
     let d = c .before .before .before .before .before .before .before .before .before .before .before .before .before .args .disc in
     let f = c .before .before .before .before .before .before .before .before .before .before .before .before .if1 .left in
     let z = c .before .before .before .before .before .before .before .before .before .before .before .if2 .left in
-    let b = sym (c .before .before .before .before .before .before .before .before .before .before .has-blank-tail .ensures) ∙ not-false _ (c .before .before .before .before .before .before .before .before .before .if3 .left) in
-    let n = ap (λ l. l .number) (c .before .before .before .before .before .before .before .before .last .ensures) in
+    let b = rw (c .before .before .before .before .before .before .before .before .before .before .last .ensures) at (sym (c .before .before .before .before .before .before .before .before .before .is-blank-tail .ensures) ∙ not-false _ (c .before .before .before .before .before .before .before .before .if3 .left)) in
+    let n = ap (λ l. l .number) (c .before .before .before .before .before .before .before .before .before .before .last .ensures) in
     let u : used d ≡ limit → ⊥ = λ e. c .before .before .before .before .before .before .if4 .left (n ∙ e) in
-    let k = wide-number (rw (c .before .before .before .reserved .ensures, c .before .before .before .before .before .before .before .before .last .ensures) at (c .before .before .next-start .ensures)) in
-    record {
+    let k = wide-number (rw (c .before .before .before .reserved .ensures, c .before .before .before .before .before .before .before .before .before .before .last .ensures) at (c .before .before .next-start .ensures)) in
+    (record {
       from = sound-rules d (c .before .before .before .before .before .before .before .before .before .before .before .before .before .pre .sound) .some;
       free = below-limit (used-limit d (c .before .before .before .before .before .before .before .before .before .before .before .before .before .pre)) u;
       start = rw k at (c .if5 .left);
-    }
+    }, c .before .before .before .before .before .before .before .before .before .before .last .ensures)
 
 none-requires : tie.Need-none-requires
 none-requires c κs = search needs
@@ -107,10 +109,10 @@ returns-6 c =
     let d = c .before .before .before .before .before .before .before .before .before .before .before .before .before .before .before .before .before .args .disc in
     let f = c .before .before .before .before .before .before .before .before .before .before .before .before .before .before .before .before .if1 .left in
     let z = c .before .before .before .before .before .before .before .before .before .before .before .before .before .before .before .if2 .left in
-    let b = sym (c .before .before .before .before .before .before .before .before .before .before .before .before .before .before .has-blank-tail .ensures) ∙ not-false _ (c .before .before .before .before .before .before .before .before .before .before .before .before .before .if3 .left) in
-    let n = ap (λ l. l .number) (c .before .before .before .before .before .before .before .before .before .before .before .before .last .ensures) in
+    let b = rw (c .before .before .before .before .before .before .before .before .before .before .before .before .before .before .last .ensures) at (sym (c .before .before .before .before .before .before .before .before .before .before .before .before .before .is-blank-tail .ensures) ∙ not-false _ (c .before .before .before .before .before .before .before .before .before .before .before .before .if3 .left)) in
+    let n = ap (λ l. l .number) (c .before .before .before .before .before .before .before .before .before .before .before .before .before .before .last .ensures) in
     let u : used d ≡ limit → ⊥ = λ e. c .before .before .before .before .before .before .before .before .before .before .if4 .left (n ∙ e) in
-    let k = wide-number (rw (c .before .before .before .before .before .before .before .reserved .ensures, c .before .before .before .before .before .before .before .before .before .before .before .before .last .ensures, c .before .before .before .before .before .before .before .before .before .blocks-for .ensures) at (c .before .before .before .before .before .before .next-start .ensures)) in
+    let k = wide-number (rw (c .before .before .before .before .before .before .before .reserved .ensures, c .before .before .before .before .before .before .before .before .before .before .before .before .before .before .last .ensures, c .before .before .before .before .before .before .before .before .before .blocks-for .ensures) at (c .before .before .before .before .before .before .next-start .ensures)) in
     rw (c .accepted .ensures, accepted-verdict, c .before .before .none .ensures, c .before .none2 .ensures, c .before .before .before .split-tail .ensures, c .before .before .before .before .before .before .before .before .before .blocks-for .ensures)
     (sym (reserve-done d (c .before .before .before .before .before .before .before .before .before .before .before .before .before .before .before .before .before .args .size) f z b u (sound-rules d (c .before .before .before .before .before .before .before .before .before .before .before .before .before .before .before .before .before .pre .sound)) (rw k at (c .before .before .before .before .if5 .left))))
 
@@ -122,10 +124,10 @@ reserve-track-spec =
     returns
     refused-requires-2
     returns-2
-    has-blank-tail-requires
+    last-requires
+    is-blank-tail-requires
     refused-requires-3
     returns-3
-    last-requires
     refused-requires-4
     returns-4
     blocks-for-requires

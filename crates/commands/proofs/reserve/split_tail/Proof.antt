@@ -6,9 +6,6 @@ use borrow.Author.Needs.{needs}
 use Rattle.commands.proofs.reserve.split_tail.Statement.{statement}
 use Rattle.commands.proofs.reserve.split_tail.Tie as tie
 
-last-requires : tie.Need-last-requires
-last-requires c κs = search needs
-
 reserved-requires : tie.Need-reserved-requires
 reserved-requires c κs = search needs
 
@@ -17,9 +14,9 @@ new-requires c κs = search needs
 
 add-tail : tie.Need-add-tail
 add-tail c =
-    let d = c .before .before .before .before .args .disc in
-    let n = ap (λ l. l .number) (c .before .before .before .last .ensures) in
-    omega (arith, c .before .before .before .before .pre .free)
+    let d = c .before .before .before .args .disc in
+    let n = ap (λ l. l .number) (c .before .before .before .pre .1) in
+    omega (arith, c .before .before .before .pre .0 .free)
 
 next-start-requires : tie.Need-next-start-requires
 next-start-requires c κs = search needs
@@ -29,17 +26,16 @@ tail-requires c κs = search needs
 
 returns : tie.Need-returns
 returns c =
-    let d = c .before .before .before .before .before .before .args .disc in
-    let n = ap (λ l. l .number) (c .before .before .before .before .before .last .ensures) in
-    let f = rw (c .before .before .before .before .before .last .ensures) at (c .before .before .before .before .reserved .ensures) in
-    rw (c .tail .ensures, c .before .next-start .ensures, c .before .before .before .new .ensures, f, n, tail-left _ _ _ _ (c .before .before .before .before .before .before .pre .start))
-    (affected-split d (c .before .before .before .before .before .before .args .blocks) _ _ (c .before .before .before .before .before .before .pre .from) refl refl)
+    let d = c .before .before .before .before .before .args .disc in
+    let n = ap (λ l. l .number) (c .before .before .before .before .before .pre .1) in
+    let f = rw (c .before .before .before .before .before .pre .1) at (c .before .before .before .before .reserved .ensures) in
+    rw (c .tail .ensures, c .before .next-start .ensures, c .before .before .before .new .ensures, f, n, tail-left _ _ _ _ (c .before .before .before .before .before .pre .0 .start))
+    (affected-split d (c .before .before .before .before .before .args .blocks) _ _ (c .before .before .before .before .before .pre .0 .from) refl refl)
 
 pub split-tail-spec : {M : Type 1} → statement M
 split-tail-spec =
     tie.close
     (tie.spec
-    last-requires
     reserved-requires
     new-requires
     add-tail

@@ -6,7 +6,7 @@ use Rattle.commands.specs.Flush.{flushPlan, flushCount}
 use Rattle.decisions.specs.Flushing.{closingLast}
 use Rattle.commands.proofs.Laws.Session.{finalize-idle, finalize-incomplete, finalize-blank, finalize-done}
 use Rattle.disc.proofs.Laws.Apply.{refused-verdict, accepted-verdict, unchanged-verdict}
-use Rattle.commands.proofs.Laws.Effect.{affected-finalized}
+use Rattle.commands.proofs.Laws.Effect.{last-flushed, affected-finalized}
 use mathlib.Core.Path.{sym, _∙_, ap}
 use borrow.Author.Needs.{needs}
 use Rattle.commands.proofs.session.finalize.Statement.{statement}
@@ -36,20 +36,20 @@ refused-requires c κs = search needs
 returns-2 : tie.Need-returns-2
 returns-2 c = rw (c .refused .ensures, refused-verdict) (sym (finalize-incomplete (c .before .before .before .before .before .before .args .disc) (c .before .before .before .before .before .if1 .left) (sym (c .before .before .stays-incomplete .ensures) ∙ c .before .if2 .taken)))
 
-is-blank-disc-requires : tie.Need-is-blank-disc-requires
-is-blank-disc-requires c κs = search needs
+last-requires : tie.Need-last-requires
+last-requires c κs = search needs
+
+is-only-tail-requires : tie.Need-is-only-tail-requires
+is-only-tail-requires c κs = search needs
 
 refused-requires-2 : tie.Need-refused-requires-2
 refused-requires-2 c κs = search needs
 
 returns-3 : tie.Need-returns-3
-returns-3 c = rw (c .refused2 .ensures, refused-verdict) (sym (finalize-blank (c .before .before .before .before .before .before .before .before .args .disc) (c .before .before .before .before .before .before .before .if1 .left) (sym (c .before .before .before .before .stays-incomplete .ensures) ∙ c .before .before .before .if2 .left) (sym (c .before .before .is-blank-disc .ensures) ∙ c .before .if3 .taken)))
+returns-3 c = rw (c .refused2 .ensures, refused-verdict) (sym (finalize-blank (c .before .before .before .before .before .before .before .before .before .before .args .disc) (c .before .before .before .before .before .before .before .before .before .if1 .left) (sym (c .before .before .before .before .before .before .stays-incomplete .ensures) ∙ c .before .before .before .before .before .if2 .left) (rw (c .before .before .before .is-only-tail .ensures, c .before .before .before .before .last .ensures) at (c .before .if3 .taken))))
 
-last-flushed-requires : tie.Need-last-flushed-requires
-last-flushed-requires c κs =
-    let d = c .before .before .before .before .before .before .before .args .disc in
-    let fe = ap (λ x. x .entry) (c .before .before .before .before .before .flushing .ensures) in
-    (c .before .before .before .before .before .before .before .pre, fe)
+over-last-requires : tie.Need-over-last-requires
+over-last-requires c κs = search needs
 
 none-requires-2 : tie.Need-none-requires-2
 none-requires-2 c κs = search needs
@@ -60,10 +60,12 @@ closing-requires c κs = search needs
 returns-4 : tie.Need-returns-4
 unfolding closingLast
 returns-4 c =
-    let d = c .before .before .before .before .before .before .before .before .before .before .args .disc in
-    rw (c .closing .ensures, accepted-verdict, c .before .none2 .ensures, c .before .before .last-flushed .ensures, c .before .before .before .before .before .before .before .before .flushing .ensures)
-    (ap (λ x. accepted x (flushCount d) noReply (plan (flushPlan d) Nothing)) (affected-finalized d (c .before .before .before .before .before .before .before .before .before .before .pre))
-    ∙ sym (finalize-done d (c .before .before .before .before .before .before .before .before .before .if1 .left) (sym (c .before .before .before .before .before .before .stays-incomplete .ensures) ∙ c .before .before .before .before .before .if2 .left) (c .before .before .before .before .before .before .before .before .before .before .pre) (sym (c .before .before .before .before .is-blank-disc .ensures) ∙ c .before .before .before .if3 .left)))
+    let d = c .before .before .before .before .before .before .before .before .before .before .before .before .args .disc in
+    let fe = ap (λ x. x .entry) (c .before .before .before .before .before .before .before .before .before .before .flushing .ensures) in
+    let g = rw (fe, c .before .before .before .before .before .before .last .ensures) at (c .before .before .over-last .ensures) ∙ last-flushed d (c .before .before .before .before .before .before .before .before .before .before .before .before .pre) in
+    rw (c .closing .ensures, accepted-verdict, c .before .none2 .ensures, g, c .before .before .before .before .before .before .before .before .before .before .flushing .ensures)
+    (ap (λ x. accepted x (flushCount d) noReply (plan (flushPlan d) Nothing)) (affected-finalized d (c .before .before .before .before .before .before .before .before .before .before .before .before .pre))
+    ∙ sym (finalize-done d (c .before .before .before .before .before .before .before .before .before .before .before .if1 .left) (sym (c .before .before .before .before .before .before .before .before .stays-incomplete .ensures) ∙ c .before .before .before .before .before .before .before .if2 .left) (c .before .before .before .before .before .before .before .before .before .before .before .before .pre) (rw (c .before .before .before .before .before .is-only-tail .ensures, c .before .before .before .before .before .before .last .ensures) at (c .before .before .before .if3 .left))))
 
 pub finalize-spec : {M : Type 1} → statement M
 finalize-spec =
@@ -76,10 +78,11 @@ finalize-spec =
     stays-incomplete-requires
     refused-requires
     returns-2
-    is-blank-disc-requires
+    last-requires
+    is-only-tail-requires
     refused-requires-2
     returns-3
-    last-flushed-requires
+    over-last-requires
     none-requires-2
     closing-requires
     returns-4)

@@ -6,6 +6,8 @@ ghost use mathlib.Core.Path.{_≡_};
 ghost use Rattle.disc.specs.Records.{withSense};
 
 pub struct Disc {
+    // The records in use first; the others are all zero.
+    pub fragments: [Fragment; Disc::LIMIT],
     // Capacity in blocks (document 01's C).
     pub capacity: u32,
     pub finalized: bool,
@@ -14,8 +16,6 @@ pub struct Disc {
     pub pending: u8,
     // The number of the fragment that they belong to, from 1 along the list; 0 with none pending.
     pub owner: u8,
-    // The records in use first; the others are all zero.
-    pub fragments: [Fragment; Disc::LIMIT],
 }
 
 impl Disc {

@@ -105,13 +105,6 @@ unfolding
     tailOrFull pendingNamed finalizedComplete sound allowedState allowedSense isRefusalSense
 states = refl
 
--- a record put under its number, under 0 and past the list
-pub puts :
-    map (λ n. withEntry listing (entry n (fragment 1 3 3 3 11 Reserved))) (2 ∷ 0 ∷ (limit + 1) ∷ [])
-    ≡ (holding 5 2 (fragment 1 0 2 2 12 Appended ∷ fragment 1 3 3 3 11 Reserved ∷ fragment 1 7 293 0 0 Appended ∷ []) ∷ listing ∷ listing ∷ [])
-unfolding withEntry
-puts = refl
-
 -- a decision applied: answer, count, report and plan are its own, the disc is changed by its change
 abbrev told : Verdict → List ℕ
 told v = number (v .answer) ∷ v .recorded ∷ v .reply .length ∷ v .disc .pending ∷ []

@@ -13,7 +13,7 @@ use Rattle.protocol.specs.Answer.{sense, noSense, senseNumber, refusalSense, dr
 use Rattle.protocol.specs.Lengths.{dataLength, replyRoom, lengthsFit}
 use Rattle.protocol.specs.Reply.{report, noReply}
 use Rattle.protocol.specs.Reports.{senseBytes, capacityBytes, discBytes, trackBytes}
-use Rattle.decisions.specs.Change.{entry, noEntry, over}
+use Rattle.decisions.specs.Change.{entry, noEntry, put, over, overLast}
 use Rattle.decisions.specs.Plan.{plan, noPlan}
 use Rattle.decisions.specs.Decision.{accepting, refusing, refusingLink}
 use Rattle.decisions.specs.Tail.{tailEntry, tailAfter, tailClosed}
@@ -181,6 +181,15 @@ pub entries :
     ∷ noEntry .number ∷ noEntry .fragment .length ∷ [])
     ≡ (2 ∷ 130 ∷ 134 ∷ 2 ∷ 0 ∷ 0 ∷ [])
 entries = refl
+
+-- put among the records: under 2, under 0 and past the list; and the last of them then
+pub puts :
+    (map (λ n. put (entry n third) list) (2 ∷ 0 ∷ (limit + 1) ∷ [])
+    ≡ ((first ∷ third ∷ third ∷ replicate (limit - 3) unusedRecord) ∷ list ∷ list ∷ []))
+    × (map (λ n. overLast (entry n first) (lastOf list)) (3 ∷ 2 ∷ 0 ∷ [])
+    ≡ (record { number = 3; fragment = first } ∷ record { number = 3; fragment = third } ∷ record { number = 3; fragment = third } ∷ []))
+unfolding listed
+puts = (refl, refl)
 
 -- of a tail that begins: in the last block, none after it; after a record of ten blocks, none after the last record of the list, none
 -- where the dividing block is the last one

@@ -22,6 +22,7 @@ pub enum Kind {
 pub struct Fragment {
     // The session, from 1.
     pub session: u8,
+    pub kind: Kind,
     // The first block.
     pub start: Block,
     // Length in blocks (document 01's L); 0 in an unused record.
@@ -30,7 +31,6 @@ pub struct Fragment {
     pub recorded: u32,
     // Sectors of them that the drive filled with zeros by itself (document 01's F).
     pub zeroed: u32,
-    pub kind: Kind,
 }
 
 impl Kind {

@@ -22,7 +22,7 @@ extern "C" {
 #define GLADHAMRE_RECORDS 64u
 
 /* Bytes of stack that a call takes at the most, as measured over every command and every refusal; no proof bounds it. */
-#define GLADHAMRE_STACK_LENGTH 15360u
+#define GLADHAMRE_STACK_LENGTH 8192u
 
 /* The state image: 391 words of 32 bits. */
 #define GLADHAMRE_STATE_CAPACITY 0u          /* C in blocks */

@@ -88,12 +88,14 @@ split-tail-requires c κs =
     let b = rw (c .before .before .before .before .before .before .before .before .before .before .last .ensures) at (sym (c .before .before .before .before .before .before .before .before .before .is-blank-tail .ensures) ∙ not-false _ (c .before .before .before .before .before .before .before .before .if3 .left)) in
     let n = ap (λ l. l .number) (c .before .before .before .before .before .before .before .before .before .before .last .ensures) in
     let u : used d ≡ limit → ⊥ = λ e. c .before .before .before .before .before .before .if4 .left (n ∙ e) in
-    let k = wide-number (rw (c .before .before .before .reserved .ensures, c .before .before .before .before .before .before .before .before .before .before .last .ensures) at (c .before .before .next-start .ensures)) in
-    (record {
-      from = sound-rules d (c .before .before .before .before .before .before .before .before .before .before .before .before .before .pre .sound) .some;
-      free = below-limit (used-limit d (c .before .before .before .before .before .before .before .before .before .before .before .before .before .pre)) u;
-      start = rw k at (c .if5 .left);
-    }, c .before .before .before .before .before .before .before .before .before .before .last .ensures)
+    let k = wide-number (rw (c .before .before .before .reserved .ensures, c .before .before .before .before .before .before .before .before .before .before .last .ensures) at (c .before .before .next-start .ensures)) in (
+      record {
+        from = sound-rules d (c .before .before .before .before .before .before .before .before .before .before .before .before .before .pre .sound) .some;
+        free = below-limit (used-limit d (c .before .before .before .before .before .before .before .before .before .before .before .before .before .pre)) u;
+        start = rw k at (c .if5 .left);
+      },
+      c .before .before .before .before .before .before .before .before .before .before .last .ensures,
+    )
 
 none-requires : tie.Need-none-requires
 none-requires c κs = search needs

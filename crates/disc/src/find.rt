@@ -1,4 +1,5 @@
-// Finding fragments of a disc: how many there are, by number, by address, and by next writable address.
+// What can be asked of the list: how many fragments there are, one by number, by address or by next writable address, what is pending or
+// blank.
 use crate::state::Disc;
 use crate::state::TailNext;
 use fragments::Found;
@@ -37,7 +38,7 @@ impl Disc {
         TailNext::NoTail
     }
 
-    // The record with a number; of a number that no record has, the unused one.
+    // The record with a number; of number 0, the first, and past the list an unused one.
     pub fn numbered(self, number: usize) -> Fragment
         ensures { λ r. ⌜ r ≡ numbered self number ⌝ }
     {

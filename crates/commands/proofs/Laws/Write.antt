@@ -3,8 +3,8 @@ use Prim.Native.Nat.{ℕ, _+_, _-_, _/_, _^_, _≤_, _<_}
 use mathlib.Core.Path.{_≡_, sym, _∙_, ap}
 use mathlib.Core.Bool.{Bool, true, not, _&&_}
 use native.Mathlib.Omega.{arith}
-use borrow.Author.Tests.{ne-eqb, eqb-true, eqb-false, lt-ltb, not-true}
-use lib.Dec.{eqb, ltb}
+use borrow.Author.Tests.{ne-eqb, eqb-true, eqb-false, not-true}
+use lib.Dec.{eqb}
 use lib.ListN.{length, getD}
 use lib.Seq.{getD-set-other}
 use Rattle.commands.specs.Types.{Lba, Fragment, Disc, Number}
@@ -139,17 +139,6 @@ write-count d number n r from slot =
     let p = others-pending d number r from in
     let q : (pendingIn e number + n) / 16 ≡ (pendingIn d number + n) / 16 = ap (λ k. (k + n) / 16) p in
     omega (arith, others-sum d number r from)
-
--- the test of the fragment's end, read back
-pub end-from :
-    (d : Disc) (a : Lba) (number n : ℕ) (e : Lba) → e ≡ firstSector (end (numbered d number)) → a .0 + n ≤ e .0
-    → a .0 + n ≤ firstSector (end (numbered d number)) .0
-end-from d a number n e same h = rw same at h
-
-pub end-past :
-    (d : Disc) (a : Lba) (number n : ℕ) (e : Lba) → e ≡ firstSector (end (numbered d number)) → e .0 < a .0 + n
-    → ltb (firstSector (end (numbered d number)) .0) (a .0 + n) ≡ true
-end-past d a number n e same h = lt-ltb _ _ (rw same at h)
 
 -- a flush records one block at the most
 pub flush-count-most : (d : Disc) → flushCount d ≤ 1

@@ -1,13 +1,10 @@
 -- A decision applied to a disc, by its kind, and a record put under its number.
-use Prim.Native.Nat.{ℕ, _-_, _≤_, _<_}
-use mathlib.Core.Path.{_≡_, refl, _∙_, ap}
+use Prim.Native.Nat.{ℕ, _≤_}
+use mathlib.Core.Path.{_≡_, refl, _∙_}
 use native.Mathlib.Omega.{arith}
 use borrow.Author.Tests.{ne-eqb}
 use lib.Dec.{eqb}
-use lib.ListN.{length}
-use lib.Seq.{set-out}
 use Rattle.disc.specs.Types.{Fragment, Disc, DriveRefusal, LinkRefusal, Reply, Plan, Entry, Effect, Keep}
-use Rattle.fragments.specs.List.{limit}
 use Rattle.disc.specs.Records.{withRecord}
 use Rattle.disc.specs.Verdict.{accepted, accept, refuse, refuseLink}
 use Rattle.decisions.specs.Change.{entry, noEntry, put}
@@ -49,10 +46,3 @@ with-entry d n f o = cond-no (eqb n 0) d (withRecord d n f) (ne-eqb n 0 (λ q. o
 pub no-entry : (d : Disc) → withEntry d noEntry ≡ d
 unfolding withEntry
 no-entry d = refl
-
--- a number past the limit is no record's
-pub past-entry : (d : Disc) (e : Entry) → length (d .fragments) ≡ limit → limit < e .number → withEntry d e ≡ d
-unfolding withEntry
-past-entry d e l h =
-    cond-no (eqb (e .number) 0) d (withRecord d (e .number) (e .fragment)) (ne-eqb (e .number) 0 (λ q. omega arith))
-    ∙ ap (λ fs. record { capacity = d .capacity; finalized = d .finalized; sense = d .sense; pending = d .pending; owner = d .owner; fragments = fs }) (set-out (d .fragments) (e .number - 1) (e .fragment) (omega arith))

@@ -47,7 +47,7 @@ judgeCommand d c dataLent replyLent =
     (cond (not (lengthsFit c dataLent replyLent)) (refuseLink d TransferLength)
     (perform d c)))
 
--- the block's bytes matter by the fields that are decoded from them and no other way; a block of another length is L1
+-- a command block's bytes matter by the fields that are decoded from them and no other way; one of another length is L1
 unfoldable pub judge : Disc → List ℕ → ℕ → ℕ → Verdict
 judge d b dataLent replyLent =
     cond (not (eqb (length b) 12)) (refuseLink d CommandBlockLength)
@@ -58,7 +58,7 @@ pub record Judged (d : Disc) (b : List ℕ) (dataLent replyLent : ℕ) (r : Verd
   pub verdict : r ≡ judge d b dataLent replyLent
   pub numbered : number (r .answer) ≡ number (judge d b dataLent replyLent .answer)
 
--- the decision where data and reply buffer have the lengths that the block asks for
+-- the decision where data and reply buffer have the lengths that the command block asks for
 abbrev pub judgeAsAsked : Disc → List ℕ → Verdict
 judgeAsAsked d b = judge d b (dataLength (decode b)) (replyRoom (decode b))
 

@@ -1,4 +1,4 @@
--- RESERVE TRACK (53h).
+-- RESERVE TRACK (53h): the blank tail becomes a reserved fragment and a tail after it.
 use Prim.Native.Nat.{ℕ, _+_, _≤_, _<_}
 use mathlib.Core.Bool.{cond, not}
 use lib.Dec.{eqb, leb}

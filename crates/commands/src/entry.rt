@@ -37,7 +37,7 @@ pub fn judge(disc: Disc, cdb: &[u8], data_length: usize, reply_length: usize) ->
     disc.decided(decide(disc, cdb, data_length, reply_length))
 }
 
-// The same with data and a reply buffer of the lengths that the block asks for: no L4.
+// The same with data and a reply buffer of the lengths that the command block asks for: no L4.
 pub fn judge_as_asked(disc: Disc, cdb: &[u8]) -> Verdict
     ensures { λ r. ⌜ JudgedAsAsked disc (now (cdb .entry)) r ⌝ }
 {

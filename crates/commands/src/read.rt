@@ -37,10 +37,7 @@ pub(crate) fn read(disc: Disc, address: Lba, sectors: u32) -> Decision
         return Decision::refused(DriveRefusal::AddressOutOfRange);
     }
     if holds_run(disc, address, sectors) {
-        let plan = Plan {
-            flush: Flush::Skip,
-            transfer: Transfer::Send { address, sectors },
-        };
+        let plan = Plan::new(Flush::Skip, Transfer::Send { address, sectors });
         return Decision::accepted(Effect::Keep, 0, Reply::none(), plan);
     }
     Decision::refused(DriveRefusal::BlankCheck)

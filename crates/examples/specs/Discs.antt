@@ -1,27 +1,33 @@
 -- What the simple promises about a disc say on chosen inputs: the disc that is made of a capacity, what is asked of a list, the tail's next
 -- writable address, a decision applied, what is judged as asked, what the lower read serves.
-use Prim.Native.Nat.{ℕ, _+_, _-_}
+use Prim.Native.Nat.{ℕ, _+_}
 use mathlib.Core.Path.{_≡_, refl}
-use mathlib.Core.Bool.{Bool, true, false}
-use mathlib.Core.List.{List, [], _∷_, _++_, map}
-use lib.ListN.{length, replicate}
+use mathlib.Core.Bool.{true, false}
+use mathlib.Core.List.{List, [], _∷_, map}
 use Rattle.disc.specs.declared.state.TailNext.{TailNext}
 use Rattle.disc.specs.declared.state.TailNext.the-variants.{Address, NoTail}
-use Rattle.examples.specs.Types.{Disc, Fragment, Found, Number, Nowhere, Reserved, Appended, Settle, Verdict}
+use Rattle.examples.specs.Types.{Disc, Fragment, Reserved, Appended, Settle, Verdict}
 use Rattle.protocol.specs.Answer.{sense, noSense, number, isRefusalSense, allowedSense}
 use Rattle.protocol.specs.Reply.{report}
 use Rattle.protocol.specs.Reports.{capacityBytes}
 use Rattle.decisions.specs.Change.{entry}
 use Rattle.decisions.specs.Plan.{noPlan}
 use Rattle.decisions.specs.Decision.{accepting}
-use Rattle.fragments.specs.Fragment.{fragment, unusedRecord}
+use Rattle.fragments.specs.Fragment.{fragment}
 use Rattle.fragments.specs.Address.{lba}
 use Rattle.fragments.specs.List.{limit, listed, lastOf, firstOfSession, find, some, every, sumRecorded}
 use Rattle.disc.specs.Records.{records, used, isListed, numbered, lastRecord, withSense, pendingIn, isBlank, nextWritable, tailNext, atAddress, writableAt, hasBlankTail, blankTailOnly, isBlankDisc}
-use Rattle.disc.specs.Apply.{withEntry, withPending, affected, changed, decided}
+use Rattle.disc.specs.Apply.{withPending, affected, changed, decided}
 use Rattle.disc.specs.Blank.{inRange, blank, made}
 use Rattle.disc.specs.Sound.{usedFirst, firstAtZero, followsFrom, inOrder, endsWithin, recordedWithin, zeroedWithin, incompleteLast, tailLast, tailOrFull, pendingNamed, finalizedComplete, sound, allowedState}
-use Rattle.commands.specs.Judge.{judgeAsAsked, JudgedAsAsked}
+use Rattle.protocol.specs.Command.{decode}
+use Rattle.protocol.specs.Lengths.{dataLength, replyRoom, lengthsFit}
+use Rattle.disc.specs.Verdict.{accepted, accept, refuse, refuseLink}
+use Rattle.commands.specs.Flush.{flush, flushPlan}
+use Rattle.commands.specs.Read.{allReadable, read}
+use Rattle.commands.specs.Write.{flushOthers, flushOthersPlan, gather, writeTo, writeFound, write}
+use Rattle.commands.specs.Judge.{perform, judgeCommand, judge, judgeAsAsked}
+use Rattle.examples.specs.Values.{found, holding}
 use Rattle.outcomes.specs.Run.{served}
 
 -- 256 to 143,444 blocks are a disc; a block less or more is L2
@@ -41,24 +47,12 @@ unfolding made blank listed sumRecorded
 blanks = refl
 
 -- a list of 300 blocks with so many sectors pending in a fragment
-abbrev holding : ℕ → ℕ → List Fragment → Disc
-holding pending owner fs =
-    record {
-      capacity = 300;
-      finalized = false;
-      sense = noSense;
-      pending = pending;
-      owner = owner;
-      fragments = fs ++ replicate (limit - length fs) unusedRecord;
-    }
+abbrev listOf : ℕ → ℕ → List Fragment → Disc
+listOf = holding false noSense
 
 -- a closed fragment of two blocks, a reserved one with a block of three recorded and five sectors pending, a blank tail
 abbrev listing : Disc
-listing = holding 5 2 (fragment 1 0 2 2 12 Appended ∷ fragment 1 3 3 1 0 Reserved ∷ fragment 1 7 293 0 0 Appended ∷ [])
-
-abbrev found : Found → ℕ
-found (Number n) = n
-found Nowhere = 0
+listing = listOf 5 2 (fragment 1 0 2 2 12 Appended ∷ fragment 1 3 3 1 0 Reserved ∷ fragment 1 7 293 0 0 Appended ∷ [])
 
 -- by number: which are listed, where they start, what is pending in them, which are blank, their next writable addresses; then the last
 -- one, the fragments that addresses lie in or can be written at, and where a session begins
@@ -80,10 +74,10 @@ asked-of-a-list = (refl, refl, refl, refl, refl, refl, refl, refl, refl, refl)
 -- session 2, one with none there
 abbrev endings : List Disc
 endings =
-    holding 0 0 (fragment 1 0 300 0 0 Appended ∷ []) ∷ holding 0 0 (fragment 1 0 300 1 0 Appended ∷ [])
-    ∷ holding 1 1 (fragment 1 0 300 0 0 Appended ∷ []) ∷ holding 0 0 (fragment 1 0 2 2 0 Appended ∷ fragment 1 3 297 0 0 Appended ∷ [])
-    ∷ holding 0 0 (fragment 1 0 2 2 0 Appended ∷ fragment 2 130 170 0 0 Appended ∷ [])
-    ∷ holding 0 0 (fragment 1 0 300 300 0 Appended ∷ []) ∷ []
+    listOf 0 0 (fragment 1 0 300 0 0 Appended ∷ []) ∷ listOf 0 0 (fragment 1 0 300 1 0 Appended ∷ [])
+    ∷ listOf 1 1 (fragment 1 0 300 0 0 Appended ∷ []) ∷ listOf 0 0 (fragment 1 0 2 2 0 Appended ∷ fragment 1 3 297 0 0 Appended ∷ [])
+    ∷ listOf 0 0 (fragment 1 0 2 2 0 Appended ∷ fragment 2 130 170 0 0 Appended ∷ [])
+    ∷ listOf 0 0 (fragment 1 0 300 300 0 Appended ∷ []) ∷ []
 
 pub blank-endings :
     (map hasBlankTail endings ≡ (true ∷ false ∷ false ∷ true ∷ true ∷ false ∷ []))
@@ -124,20 +118,36 @@ addressOf NoTail = 0
 -- a reserved fragment before it; then no tail
 pub tails :
     map (λ d. addressOf (tailNext d))
-    (holding 0 0 (fragment 1 0 2 2 0 Appended ∷ fragment 1 3 297 0 0 Appended ∷ [])
-    ∷ holding 0 0 (fragment 1 0 2 2 0 Appended ∷ fragment 1 3 297 1 0 Appended ∷ [])
-    ∷ holding 5 2 (fragment 1 0 2 2 0 Appended ∷ fragment 1 3 297 1 0 Appended ∷ [])
-    ∷ holding 5 1 (fragment 1 0 2 1 0 Reserved ∷ fragment 1 3 297 1 0 Appended ∷ [])
-    ∷ holding 5 1 (fragment 1 0 299 1 0 Reserved ∷ []) ∷ [])
+    (listOf 0 0 (fragment 1 0 2 2 0 Appended ∷ fragment 1 3 297 0 0 Appended ∷ [])
+    ∷ listOf 0 0 (fragment 1 0 2 2 0 Appended ∷ fragment 1 3 297 1 0 Appended ∷ [])
+    ∷ listOf 5 2 (fragment 1 0 2 2 0 Appended ∷ fragment 1 3 297 1 0 Appended ∷ [])
+    ∷ listOf 5 1 (fragment 1 0 2 1 0 Reserved ∷ fragment 1 3 297 1 0 Appended ∷ [])
+    ∷ listOf 5 1 (fragment 1 0 299 1 0 Reserved ∷ []) ∷ [])
     ≡ (48 ∷ 64 ∷ 69 ∷ 64 ∷ 0 ∷ [])
 unfolding listed
 tails = refl
 
--- a command that is judged with what it asks for lent is judged as in document 01's worked example, which has no L4
-pub asked : (d : Disc) (b : List ℕ) (r : Verdict) → JudgedAsAsked d b r → r ≡ judgeAsAsked d b
-asked d b r j = j .verdict
+-- judged with data and room as the command block asks, no command is L4: WRITE 0 of 20 and READ 0 of 1 on a blank disc, and the same
+-- without data and without room
+abbrev writeTwenty : List ℕ
+writeTwenty = 0x2A ∷ 0 ∷ 0 ∷ 0 ∷ 0 ∷ 0 ∷ 0 ∷ 0 ∷ 20 ∷ 0 ∷ 0 ∷ 0 ∷ []
 
--- the lower read serves a command block of twelve bytes and a medium of exactly 300 blocks; not one sector more, a block less, a byte more
+abbrev readOne : List ℕ
+readOne = 0x28 ∷ 0 ∷ 0 ∷ 0 ∷ 0 ∷ 0 ∷ 0 ∷ 0 ∷ 1 ∷ 0 ∷ 0 ∷ 0 ∷ []
+
+pub asked :
+    map (λ (v : Verdict). number (v .answer) ∷ v .recorded ∷ [])
+    (judgeAsAsked (blank 300) writeTwenty ∷ judgeAsAsked (blank 300) readOne ∷ judge (blank 300) writeTwenty 0 0 ∷ judge (blank 300) readOne 0 0 ∷ [])
+    ≡ ((0 ∷ 1 ∷ []) ∷ (0x080000 ∷ 0 ∷ []) ∷ (4 ∷ 0 ∷ []) ∷ (4 ∷ 0 ∷ []) ∷ [])
+unfolding
+    judge judgeCommand perform decode dataLength replyRoom lengthsFit accepted accept refuse refuseLink blank listed some every find
+    sumRecorded usedFirst firstAtZero followsFrom inOrder endsWithin recordedWithin zeroedWithin incompleteLast tailLast tailOrFull
+    pendingNamed finalizedComplete sound allowedState allowedSense isRefusalSense flush flushPlan allReadable read flushOthers
+    flushOthersPlan gather writeTo writeFound write
+asked = refl
+
+-- the lower read serves a command block of twelve bytes and a medium of exactly 300 blocks: no medium of a sector more or a block less, no
+-- command block of a byte more
 pub mediums :
     (served (blank 300) 12 9830400 ∷ served (blank 300) 12 9832448 ∷ served (blank 300) 12 9797632 ∷ served (blank 300) 13 9830400 ∷ [])
     ≡ (true ∷ false ∷ false ∷ false ∷ [])

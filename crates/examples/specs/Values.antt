@@ -58,7 +58,7 @@ places = refl
 
 -- of the list: three records, the third is last; sector 2127 lies in the second, 2128 in none; with 5 sectors pending in the second
 -- its next writable address is 2117, without them 2112
-abbrev found : Found → ℕ
+abbrev pub found : Found → ℕ
 found (Number n) = n
 found Nowhere = 0
 
@@ -236,7 +236,7 @@ sent-runs = (refl, refl, refl)
 
 -- of a change applied to a disc with 5 sectors pending in the second fragment: what each kind makes of the sense, the flag, the pending
 -- sectors and the records; a record under 0 or past the list is none
-abbrev holding : Bool → Sense → ℕ → ℕ → List Fragment → Disc
+abbrev pub holding : Bool → Sense → ℕ → ℕ → List Fragment → Disc
 holding finalized s pending owner fs =
     record {
       capacity = 300;

@@ -1,6 +1,6 @@
 // Fragments: block numbers and sector addresses, one record of the fragment list, and walks along the records.
-// Everything here is total: the fields of a record may hold any numbers. What is pending, and what a command makes of the list, is the
-// disc's.
+// Everything here is total: the fields of a record may hold any numbers, and what is pending is given as two. Which command makes what of
+// a record stands in the crates above.
 mod address;
 mod check;
 mod fragment;

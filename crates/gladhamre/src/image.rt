@@ -162,14 +162,7 @@ fn read_list(words: &[u32], used: usize) -> [Fragment; Disc::LIMIT]
     requires { ⌜ Taken (now words) used ⌝ }
     ensures { λ r. ⌜ r ≡ listOf limit (drop 7 (now (words .entry))) ⌝ }
 {
-    let unused = Fragment {
-        session: 0,
-        start: Block(0),
-        length: 0,
-        recorded: 0,
-        zeroed: 0,
-        kind: Kind::Reserved,
-    };
+    let unused = Fragment::unused();
     let mut fragments = [unused; Disc::LIMIT];
     let mut i = 0;
     while i < used {

@@ -38,8 +38,7 @@ fn is_lent(state: &[u32], medium: usize, pending: usize) -> bool
         return pending == BLOCK_LENGTH;
     }
     let capacity = state[0];
-    (Disc::SMALLEST <= capacity)
-        & (capacity <= Disc::LARGEST)
+    Disc::in_range(capacity)
         & (medium == BLOCK_LENGTH * (capacity as usize))
         & (pending == BLOCK_LENGTH)
 }

@@ -45,13 +45,13 @@ opened = record { accepted = 0; recorded = 0; zeroFilled = 0; pending = 0; conte
 
 -- a WRITE of n sectors is accepted: they gather after the pending ones, each sixteen are recorded, and each sector stands at its address
 unfoldable pub written : ℕ → ℕ → List ℕ → Account → Account
-written address n sectors k =
+written address n payload k =
     record {
       accepted = k .accepted + n;
       recorded = k .recorded + 16 * ((k .pending + n) / 16);
       zeroFilled = k .zeroFilled;
       pending = (k .pending + n) % 16;
-      content = λ a. cond (among address n a) (sectorAt (a - address) sectors) (k .content a);
+      content = λ a. cond (among address n a) (sectorAt (a - address) payload) (k .content a);
     }
 
 -- the drive records n sectors of zeros after the pending ones
@@ -80,19 +80,19 @@ filled x k = zeroed x (x .sectors - k .recorded) k
 -- an accepted command, as it bears on the fragment with a number and an extent. A WRITE goes to the fragment that its address lies in, and
 -- flushes every other one
 unfoldable pub credited : ℕ → Extent → Command → List ℕ → Account → Account
-credited n x (Write a count) sectors k =
-    cond (eqb count 0) k (cond (among (x .first) (x .sectors) (a .0)) (written (a .0) count sectors k) (flushed x k))
-credited n x SynchronizeCache sectors k = flushed x k
-credited n x (CloseTrackSession function number) sectors k =
+credited n x (Write a count) payload k =
+    cond (eqb count 0) k (cond (among (x .first) (x .sectors) (a .0)) (written (a .0) count payload k) (flushed x k))
+credited n x SynchronizeCache payload k = flushed x k
+credited n x (CloseTrackSession function number) payload k =
     cond (eqb function 0b001 && eqb number n && x .reserved) (filled x (flushed x k)) (flushed x k)
-credited n x TestUnitReady sectors k = k
-credited n x (RequestSense allocation) sectors k = k
-credited n x ReadCapacity sectors k = k
-credited n x (Read a count) sectors k = k
-credited n x (ReserveTrack size) sectors k = k
-credited n x (ReadDiscInformation dataType allocation) sectors k = k
-credited n x (ReadTrackInformation addressType number allocation) sectors k = k
-credited n x Unlisted sectors k = k
+credited n x TestUnitReady payload k = k
+credited n x (RequestSense allocation) payload k = k
+credited n x ReadCapacity payload k = k
+credited n x (Read a count) payload k = k
+credited n x (ReserveTrack size) payload k = k
+credited n x (ReadDiscInformation dataType allocation) payload k = k
+credited n x (ReadTrackInformation addressType number allocation) payload k = k
+credited n x Unlisted payload k = k
 
 -- a command by its answer: what is refused counts for nothing
 unfoldable pub noted : ℕ → Extent → Request → Answer → Account → Account

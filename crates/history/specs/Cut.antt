@@ -25,7 +25,7 @@ pub record CutOf (q : Request) (qs : List Request) : Type 0 where
   pub several : 2 ≤ length qs
   pub parts : Parts address count (q .payload) qs
 
--- the same command given again: the same block and data, and a reply buffer of the same length
+-- the same command given again: the same command block and data, and a reply buffer of the same length
 pub record SameCommand (q u : Request) : Type 0 where
   pub cdb : q .cdb ≡ u .cdb
   pub payload : q .payload ≡ u .payload

@@ -5,7 +5,7 @@ use lib.ListN.{replicate}
 use Rattle.drive.specs.Step.{Drive, Request, request}
 use Rattle.history.specs.Sequence.{Turn, result}
 
--- a block of a WRITE, its address and its length in one byte each
+-- a command block of a WRITE, its address and its length in one byte each
 abbrev pub writeCdb : ℕ → ℕ → List ℕ
 writeCdb a n = 0x2A ∷ 0 ∷ 0 ∷ 0 ∷ 0 ∷ a ∷ 0 ∷ 0 ∷ n ∷ 0 ∷ 0 ∷ 0 ∷ []
 

@@ -16,7 +16,7 @@ pub record Start (c : ℕ) (s : Drive) : Type 0 where
   pub medium : length (s .medium) ≡ 32768 * c
   pub pending : length (s .pending) ≡ 32768
 
--- one turn: what medium and pending buffer hold when the command comes, and the command with its own block, data and reply buffer
+-- one turn: what medium and pending buffer hold when the command comes, and the command with its own command block, data and reply buffer
 pub record Turn : Type 0 where
   pub medium : List ℕ
   pub pending : List ℕ

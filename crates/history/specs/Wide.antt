@@ -27,7 +27,7 @@ filledBy f n = stirred (λ i. false) (λ i x. f i) 0 (zeros n)
 abbrev pub startOver : ℕ → (ℕ → ℕ) → (ℕ → ℕ) → Drive
 startOver c m p = drive (blank c) (filledBy m (32768 * c)) (filledBy p 32768)
 
--- a WRITE of n sectors at an address as a block of twelve bytes
+-- a WRITE of n sectors at an address as a command block of twelve bytes
 abbrev pub writeBytes : ℕ → ℕ → List ℕ
 writeBytes a n = (0x2A ∷ 0 ∷ []) ++ (bytes32 a ++ (0 ∷ high n ∷ low n ∷ 0 ∷ 0 ∷ 0 ∷ []))
 
@@ -36,7 +36,7 @@ unfoldable pub partsOf : ℕ → List ℕ → List ℕ → List Request
 partsOf a [] x = []
 partsOf a (k ∷ ks) x = request (writeBytes a k) (take (2048 * k) x) [] ∷ partsOf (a + k) ks (drop (2048 * k) x)
 
--- how many sectors they have together, and whether each has at least one and a length that a block can name
+-- how many sectors they have together, and whether each has at least one and a length that a command block can name
 unfoldable pub total : List ℕ → ℕ
 total [] = 0
 total (k ∷ ks) = k + total ks
@@ -45,7 +45,7 @@ unfoldable pub nameable : List ℕ → Bool
 nameable [] = true
 nameable (k ∷ ks) = leb 1 k && leb k 65535 && nameable ks
 
--- they are a cut of a WRITE of n sectors at an address: two or more, n sectors together, no address past what a block can name
+-- they are a cut of a WRITE of n sectors at an address: two or more, n sectors together, no address past what a command block can name
 abbrev pub isCut : Request → ℕ → ℕ → List ℕ → Bool
 isCut q a n ks =
     eqb (length (q .cdb)) 12 && eqb (length (q .payload)) (2048 * n) && leb 2 (length ks) && eqb (total ks) n && nameable ks

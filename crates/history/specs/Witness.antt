@@ -17,7 +17,7 @@ unfoldable pub numbers : List Turn → Drive → List ℕ
 numbers [] s = []
 numbers (t ∷ ts) s = number (result t s .answer) ∷ numbers ts (result t s .after)
 
--- what of a request decides: its block, and how long its data and its reply buffer are
+-- what of a request decides: its command block, and how long its data and its reply buffer are
 pub record Shape : Type 0 where
   pub cdb : List ℕ
   pub payload : ℕ
@@ -44,7 +44,7 @@ judged (h ∷ hs) d =
     let v = judge d (h .cdb) (h .payload) (h .room) in
     number (v .answer) ∷ judged hs (v .disc)
 
--- a block of three bytes (L1), a WRITE without its data (L4), an opcode that is not listed, RESERVE 33, WRITE 0 of 5 to the reserved
+-- a command block of three bytes (L1), a WRITE without its data (L4), an opcode that is not listed, RESERVE 33, WRITE 0 of 5 to the reserved
 -- fragment, WRITE 64 of 20 to the tail while those five are pending, READ 0 of 16
 abbrev pub before : List Shape
 before =

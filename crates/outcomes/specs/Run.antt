@@ -1,5 +1,5 @@
 -- The part of the medium that an accepted READ (28h) hands out. It is decided without the lengths of data, reply and pending buffer,
--- which the lower layer never sees: a READ that is refused for those has its run here all the same.
+-- which the lower read never sees: a READ that is refused for those has its run here all the same.
 use Prim.Native.Nat.{ℕ, _+_, _*_, _<_}
 use mathlib.Core.Path.{_≡_}
 use mathlib.Core.Bool.{Bool, true, cond, _&&_}

@@ -1,7 +1,7 @@
 // Hands the drive what a loose plug might deliver, and prints the number of each answer: 1 to 4 for L1 to L4; key, ASC and ASCQ in
 // a row for a refusal by the drive.
-// A program has no room for a medium. So the entry is called on tiny buffers, which end at L1 or L2, and the disc is asked what it
-// decides after them, on lengths alone.
+// A program has no room for a medium. So the entry is called on tiny buffers, which end at L1 or L2, and what is decided after them is
+// asked of `commands`, on lengths alone.
 use disc::Disc;
 use libc::STDOUT_FILENO;
 use protocol::Answer;
@@ -78,7 +78,7 @@ fn ask_zero_state() {
     );
 }
 
-// What the disc decides about an opcode with address 256, length 1 and, for REQUEST SENSE, allocation length 1.
+// What is decided about an opcode with address 256, length 1 and, for REQUEST SENSE, allocation length 1.
 fn decide(disc: Disc, opcode: u8, data: usize, reply: usize) -> Answer {
     let cdb = [opcode, 0, 0, 0, 1, 0, 0, 0, 1, 0, 0, 0];
     let verdict = commands::judge(disc, &cdb, data, reply);

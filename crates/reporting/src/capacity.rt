@@ -1,4 +1,4 @@
-// READ CAPACITY (25h).
+// READ CAPACITY (25h): the last readable address.
 use decisions::Decision;
 use disc::Disc;
 use protocol::Reply;

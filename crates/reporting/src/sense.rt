@@ -1,4 +1,4 @@
-// REQUEST SENSE (03h).
+// REQUEST SENSE (03h): the sense that the command before it left.
 use decisions::Decision;
 use disc::Disc;
 use protocol::Reply;

@@ -7,7 +7,7 @@ use borrow.Author.Tests.{eq-eqb, ne-eqb, eqb-true, eqb-false}
 use lib.Dec.{eqb, ltb}
 use lib.ListN.{length}
 use lib.Seq.{getD-set-same, getD-set-other}
-use Rattle.commands.specs.Types.{Fragment, Disc, Last, Entry, Settle, Reserve, Close, Grow}
+use Rattle.commands.specs.Types.{Fragment, Disc, Entry, Settle, Reserve, Close, Grow}
 use Rattle.fragments.specs.Address.{wholeBlocks, leftOver}
 use Rattle.fragments.specs.Fragment.{unusedRecord, end, nextFragmentStart, nextSessionStart, tailFrom, reservedAt, shortenedRecord}
 use Rattle.fragments.specs.List.{limit, lastOf}

@@ -220,11 +220,6 @@ pub readable-end : (fs : List Fragment) (i : ℕ) → length fs ≤ i → lastRe
 unfolding lastReadable
 readable-end fs i h = rw (listed-drop-end fs i h)
 
--- a record that is found has a number of the list
-pub find-number :
-    (p : ℕ → Fragment → Bool) (n : ℕ) (fs : List Fragment) (m : ℕ) → find p n fs ≡ Number m → (n ≤ m) × (m < n + length fs)
-find-number p n fs m e = let h = find-hit p n m fs e in (omega (arith, h .number), omega (arith, h .number, h .within))
-
 -- a test that some record in use passes, one step along the list
 module _ (p : Fragment → Bool) (fs : List Fragment) (i : ℕ) (d : Fragment) (h : i < length fs) where
   pub some-off : getD fs i d .length ≡ 0 → some p (listed (drop i fs)) ≡ false

@@ -52,11 +52,6 @@ decided-disc (t ∷ ts) s l h =
     decided-disc ts (result t s .after) (lent-after (found t s) (t .request) m) (h .1)
     ∙ ap (discAfter (shapes ts)) (step-judges (found t s) (t .request) m .1)
 
-pub decided-lent : (ts : List Turn) (s : Drive) → Lent s → Admissible ts s → Lent (final ts s)
-unfolding final Admissible
-decided-lent [] s l h = l
-decided-lent (t ∷ ts) s l h = decided-lent ts (result t s .after) (lent-after (found t s) (t .request) (lent-found t s (h .0) l)) (h .1)
-
 pub decided-answers : (ts : List Turn) (s : Drive) → Lent s → Admissible ts s → answers ts s ≡ decisions (shapes ts) (s .disc)
 unfolding answers Admissible decisions
 decided-answers [] s l h = refl

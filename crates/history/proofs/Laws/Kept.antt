@@ -28,7 +28,7 @@ use Rattle.disc.proofs.Laws.Rules.{sound-rules}
 use Rattle.fragments.proofs.Laws.Numbers.{equal-cases}
 use Rattle.drive.specs.Alike.{Alike}
 use Rattle.drive.specs.Requests.{ReadOf}
-use Rattle.drive.specs.Step.{Drive, drive, Request, Result, verdictOn, carriedOut, step}
+use Rattle.drive.specs.Step.{Drive, Request, Result, verdictOn, carriedOut, step}
 use Rattle.drive.proofs.Laws.Agree.{agree-run}
 use Rattle.drive.proofs.Laws.Alike.{step-link, step-refused}
 use Rattle.drive.proofs.Laws.Cut.{Served, served-after, served-alike}

@@ -18,7 +18,7 @@ use Rattle.disc.specs.Verdict.{accepted, accept, refuse}
 use Rattle.protocol.specs.Reply.{noReply}
 use Rattle.commands.specs.Flush.{flush, flushPlan, synchronizeCache}
 use Rattle.commands.specs.Read.{allReadable, read}
-use Rattle.commands.specs.Write.{flushOthersPlan, gather, Writable, writeTo, writeFound, write}
+use Rattle.commands.specs.Write.{flushOthersPlan, Writable, writeTo, writeFound, write}
 use Rattle.commands.specs.Reserve.{splitTail, reserve}
 use Rattle.commands.specs.Close.{filledRecord, appendTail, closeIncomplete, closeFragment, hasIncompleteReserved, closeTail, openSession, closeSession, finalized, finalize, close}
 use Rattle.reporting.specs.Reports.{requestSense, readCapacity, readDiscInformation, readTrackInformation, trackVerdict, trackFound, trackNumbered}

@@ -19,7 +19,6 @@ use Rattle.commands.proofs.Laws.Judge.{allowed-ready}
 use Rattle.outcomes.proofs.Laws.Judge.{decided-performed}
 use Rattle.fragments.proofs.Laws.Numbers.{equal-cases}
 use Rattle.outcomes.proofs.Laws.Recorded.{among-from, among-below, among-between}
-use Rattle.drive.specs.Bytes.{zeros}
 use Rattle.drive.specs.Step.{Drive, Request, Result, verdictOn, carriedOut, step}
 use Rattle.drive.proofs.Laws.Alike.{step-link, step-refused}
 use Rattle.drive.proofs.Laws.Cut.{Served, served-after, served-alike}

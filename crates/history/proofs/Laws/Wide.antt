@@ -26,7 +26,7 @@ use Rattle.drive.specs.Requests.{WriteOf}
 use Rattle.drive.proofs.Laws.Bytes.{length-zeros}
 use Rattle.drive.proofs.Laws.Cut.{write-verdict}
 use Rattle.history.specs.Types.{Lba, Disc, Verdict, Answer, Accepted, Link, Drive as byDrive, Command, TestUnitReady, RequestSense, ReadCapacity, Read, Write, SynchronizeCache, ReserveTrack, CloseTrackSession, ReadDiscInformation, ReadTrackInformation, Unlisted}
-use Rattle.history.specs.Sequence.{Start, Turn, result, final, requests}
+use Rattle.history.specs.Sequence.{Start, Turn, result, final}
 use Rattle.history.specs.Cut.{Parts, none, part, CutOf, Again, ends, same, cut}
 use Rattle.history.specs.Stale.{pendingByte, Given, turn, given}
 use Rattle.history.specs.Wide.{filledBy, writeBytes, partsOf, total, nameable, isCut, recutCommand, recut, second, Wide}

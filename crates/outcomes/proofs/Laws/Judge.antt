@@ -10,7 +10,7 @@ use lib.ListN.{length, replicate, length-append}
 use lib.Dec.{eqb, ltb}
 use Rattle.outcomes.specs.Types.{Lba, Disc, Verdict, Found, Number, Nowhere, Command, TestUnitReady, RequestSense, ReadCapacity, Read, Write, SynchronizeCache, ReserveTrack, CloseTrackSession, ReadDiscInformation, ReadTrackInformation, Unlisted, InvalidOperationCode, InvalidFieldInCommand, AddressOutOfRange, BlankCheck, DriveRefusal, LinkRefusal, Accepted, Link, Drive, CommandBlockLength, MediumSize, UnsoundState, TransferLength, WriteProtected, InvalidAddressForWrite, IncompleteTrackInSession, EmptyTrack, NoMoreReservations, EndOfUserArea, Send}
 use Rattle.fragments.specs.Address.{lba, sectorsIn}
-use Rattle.protocol.specs.Answer.{number, allowedSense, noSense, refusalSense, isRefusalSense}
+use Rattle.protocol.specs.Answer.{allowedSense, noSense, refusalSense, isRefusalSense}
 use Rattle.protocol.specs.Command.{decode}
 use Rattle.fragments.specs.List.{lastReadable, sumRecorded}
 use Rattle.disc.specs.Records.{records, used, isListed, hasTail, atAddress, readable}

@@ -36,6 +36,9 @@ returns-2 c = simp (c .refused .ensures, refused-verdict, c .before .if2 .taken,
 holds-run-requires : tie.Need-holds-run-requires
 holds-run-requires c κs = search needs
 
+new-requires : tie.Need-new-requires
+new-requires c κs = search needs
+
 none-requires-2 : tie.Need-none-requires-2
 none-requires-2 c κs = search needs
 
@@ -45,14 +48,14 @@ accepted-requires c κs = search needs
 returns-3 : tie.Need-returns-3
 unfolding read
 returns-3 c =
-    let start = c .before .before .before .before .before .before .before .before in
+    let start = c .before .before .before .before .before .before .before .before .before in
     let d = start .args .disc in
     let a = start .args .address in
     let n = start .args .sectors in
-    let some-sectors = c .before .before .before .before .before .before .before .if1 .left in
+    let some-sectors = c .before .before .before .before .before .before .before .before .if1 .left in
     let r : allReadable d a n ≡ true =
-    sym (run-test d (sound-rules d (start .pre .sound)) a n (omega arith)) ∙ sym (c .before .before .before .holds-run .ensures) ∙ c .before .before .if3 .taken in
-    simp (c .accepted .ensures, unchanged-verdict, c .before .none2 .ensures, r, c .before .before .before .before .if2 .left, ← (rw (c .before .before .before .before .before .before .first-sector .ensures) at (c .before .before .before .before .before .passes .ensures)), ne-eqb _ _ some-sectors)
+    sym (run-test d (sound-rules d (start .pre .sound)) a n (omega arith)) ∙ sym (c .before .before .before .before .holds-run .ensures) ∙ c .before .before .before .if3 .taken in
+    simp (c .accepted .ensures, unchanged-verdict, c .before .none2 .ensures, c .before .before .new .ensures, r, c .before .before .before .before .before .if2 .left, ← (rw (c .before .before .before .before .before .before .before .first-sector .ensures) at (c .before .before .before .before .before .before .passes .ensures)), ne-eqb _ _ some-sectors)
 
 refused-requires-2 : tie.Need-refused-requires-2
 refused-requires-2 c κs = search needs
@@ -81,6 +84,7 @@ read-spec =
     refused-requires
     returns-2
     holds-run-requires
+    new-requires
     none-requires-2
     accepted-requires
     returns-3

@@ -4,8 +4,6 @@ use Rattle.drive.proofs.Laws.Gather.{Gathered, gathered-none, gathered-
 use Prim.Native.Nat.{_-_, _≤_}
 use lib.ListN.{length}
 use borrow.Author.Needs.{needs}
-use Prim.Native.Nat.{ℕ, _+_, _-_, _*_, _≤_, _<_}
-use lib.ListN.{length}
 use Rattle.drive.proofs.gather.gather.Statement.{statement}
 use Rattle.drive.proofs.gather.gather.Tie as tie
 use Rattle.drive.proofs.bytes.clear_from.Reads as clear-from-reads

@@ -1,5 +1,4 @@
 use mathlib.Core.Path.{sym, ap}
-use native.Mathlib.Omega.{arith}
 use Rattle.fragments.specs.Address.{lba}
 use Rattle.fragments.proofs.Laws.Address.{largest-right, largest-left}
 use Rattle.fragments.proofs.list.later.Statement.{statement}

@@ -1,5 +1,5 @@
 use borrow.Author.Needs.{needs}
-use mathlib.Core.Path.{_≡_, refl}
+use mathlib.Core.Path.{_≡_, refl, ap}
 use native.Mathlib.Omega.{arith}
 use Prim.Native.Nat.{_-_, _≤_}
 use mathlib.Core.List.{_++_}
@@ -19,9 +19,13 @@ Inv-loop words used fragments₀ i₀ fragments i =
 abbrev μ-loop : tie.MeasureT-loop
 μ-loop words used fragments₀ i₀ fragments i = used - i
 
+unused-requires : tie.Need-unused-requires Inv-loop μ-loop
+unused-requires c κs = search needs
+
 loop-holds : tie.Need-loop-holds Inv-loop μ-loop
 unfolding listOf
-loop-holds c = (search needs, taken-most (c .before .args .words .now) (c .before .args .used) (c .before .pre), refl, refl, refl)
+loop-holds c =
+    (search needs, taken-most (c .before .before .args .words .now) (c .before .before .args .used) (c .before .before .pre), ap (replicate limit) (c .unused .ensures), refl, refl)
 
 mul-from : tie.Need-mul-from Inv-loop μ-loop
 mul-from c = search needs
@@ -46,7 +50,7 @@ part-read-record-end c = search needs
 
 read-record-requires : tie.Need-read-record-requires Inv-loop μ-loop
 read-record-requires c κs =
-    (simp (length-take, length-drop) (omega (arith, c .before .before .before .before .pre .state .0)), taken-fits (c .before .before .before .before .args .words .now) (c .before .before .before .before .args .used) (c .before .before .before .before .pre) (c .before .before .loop .i) (omega arith))
+    (simp (length-take, length-drop) (omega (arith, c .before .before .before .before .before .pre .state .0)), taken-fits (c .before .before .before .before .before .args .words .now) (c .before .before .before .before .before .args .used) (c .before .before .before .before .before .pre) (c .before .before .loop .i) (omega arith))
 
 mul-fragments : tie.Need-mul-fragments Inv-loop μ-loop
 mul-fragments c = search needs
@@ -67,13 +71,13 @@ loop-again c =
       loop .inv .1,
       loop .inv .2,
       simp length-set (loop .inv .3),
-      rw (loop .inv .4, c .read-record .ensures, lent-record (c .before .before .before .before .before .args .words .now) (loop .i)) (read-more (loop .i) (drop 7 (c .before .before .before .before .before .args .words .now)) _ (omega arith)),
+      rw (loop .inv .4, c .read-record .ensures, lent-record (c .before .before .before .before .before .before .args .words .now) (loop .i)) (read-more (loop .i) (drop 7 (c .before .before .before .before .before .before .args .words .now)) _ (omega arith)),
     )
 
 returns : tie.Need-returns Inv-loop μ-loop
 returns c =
     let loop = c .before .loop in
-    taken-list (c .before .before .before .args .words .now) (c .before .before .before .args .used) (c .before .before .before .pre) (loop .fragments) _ (loop .i) (omega arith) (loop .inv .2) (loop .inv .4)
+    taken-list (c .before .before .before .before .args .words .now) (c .before .before .before .before .args .used) (c .before .before .before .before .pre) (loop .fragments) _ (loop .i) (omega arith) (loop .inv .2) (loop .inv .4)
 
 pub read-list-spec : {M : Type 1} → statement M
 read-list-spec =
@@ -81,6 +85,7 @@ read-list-spec =
     (tie.spec
     Inv-loop
     μ-loop
+    unused-requires
     loop-holds
     mul-from
     add-from

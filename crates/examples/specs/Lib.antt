@@ -3,5 +3,6 @@ pub mod Types
 pub mod Shift
 pub mod States
 pub mod Tour
+pub mod Full
 pub mod Values
 pub mod Discs

@@ -60,7 +60,7 @@ pub record Line : Type 0 where
   pub command : List ℕ
   pub expected : Shown
 
-abbrev line : List ℕ → ℕ → ℕ → List ℕ → Sense → ℕ → ℕ → List Fragment → Line
+abbrev pub line : List ℕ → ℕ → ℕ → List ℕ → Sense → ℕ → ℕ → List Fragment → Line
 line b a n r s t p fs =
     record {
       command = b;

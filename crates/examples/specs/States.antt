@@ -1,5 +1,5 @@
--- Examples of disc states on 300 blocks: for each rule states that break it and no other, and sound states that no command leads to.
-use Prim.Native.Nat.{ℕ, zero, suc, _+_, _-_}
+-- Examples of disc states: for each rule states that break it and no other, and sound states that no command leads to.
+use Prim.Native.Nat.{ℕ, zero, suc, _+_, _-_, _*_}
 use mathlib.Core.Path.{_≡_, refl}
 use mathlib.Core.Bool.{Bool, true, false}
 use mathlib.Core.List.{List, [], _∷_, _++_, map}
@@ -26,11 +26,11 @@ rules d =
 abbrev allBut : ℕ → List Bool
 allBut k = set (replicate 12 true) k false
 
--- a state by its pending count, its owner, whether it is finalized, and its records
-abbrev state : ℕ → ℕ → Bool → List Fragment → Disc
-state p o fin fs =
+-- a state by its capacity, its pending count, its owner, whether it is finalized, and its records
+abbrev pub on : ℕ → ℕ → ℕ → Bool → List Fragment → Disc
+on c p o fin fs =
     record {
-      capacity = 300;
+      capacity = c;
       finalized = fin;
       sense = noSense;
       pending = p;
@@ -38,8 +38,24 @@ state p o fin fs =
       fragments = fs ++ replicate (limit - length fs) unusedRecord;
     }
 
+-- one of 300 blocks
+abbrev state : ℕ → ℕ → Bool → List Fragment → Disc
+state = on 300
+
 abbrev tail : Fragment
 tail = fragment 1 0 300 0 0 Appended
+
+-- n reserved fragments of a block each one after another, from a block on, complete
+unfoldable pub column : ℕ → ℕ → List Fragment
+column zero b = []
+column (suc n) b = fragment 1 b 1 1 0 Reserved ∷ column n (b + 2)
+
+-- where the last record of a full list begins after such fragments, and a disc that leaves it 130 blocks
+abbrev pub lastStart : ℕ
+lastStart = 2 * (limit - 1)
+
+abbrev pub crowded : ℕ
+crowded = lastStart + 130
 
 -- a state, and the rule that it breaks
 pub record Broken : Type 0 where
@@ -72,12 +88,15 @@ brokenStates =
     -- a tail that ends before the capacity, and one that is not last
     ∷ breaks 7 (state 0 0 false (fragment 1 0 299 0 0 Appended ∷ []))
     ∷ breaks 7 (state 0 0 false (fragment 1 0 2 1 0 Appended ∷ fragment 1 3 297 0 0 Appended ∷ []))
-    -- no tail, though two blocks are left
+    -- no tail, though two blocks are left; though a record is free
     ∷ breaks 8 (state 0 0 false (fragment 1 0 298 298 0 Appended ∷ []))
-    -- sixteen sectors pending; pending sectors of no fragment, of one that is not listed and of a complete one; a number with none pending
+    ∷ breaks 8 (on crowded 0 0 false (column (limit - 1) 0))
+    -- sixteen sectors pending; pending sectors of no fragment, of one that is not listed, of one past the last record and of a complete one; a
+    -- number with none pending
     ∷ breaks 9 (state 16 1 false (tail ∷ []))
     ∷ breaks 9 (state 3 0 false (tail ∷ []))
     ∷ breaks 9 (state 3 2 false (tail ∷ []))
+    ∷ breaks 9 (on crowded 3 (limit + 1) false (column (limit - 1) 0 ++ (fragment 1 lastStart 130 0 0 Appended ∷ [])))
     ∷ breaks 9 (state 3 1 false (fragment 1 0 2 2 0 Appended ∷ fragment 1 3 297 0 0 Appended ∷ []))
     ∷ breaks 9 (state 0 1 false (tail ∷ []))
     -- a finalized disc with a tail
@@ -88,18 +107,13 @@ brokenStates =
 
 pub broken-states : map (λ b. rules (b .disc)) brokenStates ≡ map (λ b. allBut (b .rule)) brokenStates
 unfolding
-    rules listed every usedFirst firstAtZero followsFrom inOrder endsWithin recordedWithin zeroedWithin incompleteLast tailLast
+    rules column listed every usedFirst firstAtZero followsFrom inOrder endsWithin recordedWithin zeroedWithin incompleteLast tailLast
     tailOrFull pendingNamed finalizedComplete allowedSense isRefusalSense
 broken-states = refl
 
--- n reserved fragments of a block each one after another, from a block on, complete
-unfoldable pub column : ℕ → ℕ → List Fragment
-column zero b = []
-column (suc n) b = fragment 1 b 1 1 0 Reserved ∷ column n (b + 2)
-
 -- a full list whose last record is an incomplete reserved one
 abbrev pub fullOfReserved : Disc
-fullOfReserved = state 0 0 false (column 63 0 ++ (fragment 1 126 5 0 0 Reserved ∷ []))
+fullOfReserved = on crowded 0 0 false (column (limit - 1) 0 ++ (fragment 1 lastStart 5 0 0 Reserved ∷ []))
 
 -- an incomplete reserved last record that leaves one block, and sectors pending in it
 abbrev pub reservedToTheEnd : Disc
@@ -120,7 +134,7 @@ unfoldable pub outcomes : Disc → List (List ℕ)
 outcomes d =
     outcome (closeSession d) ∷ outcome (reserve d 16) ∷ outcome (closeFragment d (used d)) ∷ outcome (synchronizeCache d) ∷ []
 
-pub outcomes-full : outcomes fullOfReserved ≡ (0x057203 ∷ 0 ∷ 64 ∷ 0 ∷ []) ∷ (0x057205 ∷ 0 ∷ 64 ∷ 0 ∷ []) ∷ (0x057204 ∷ 0 ∷ 64 ∷ 0 ∷ []) ∷ (0 ∷ 0 ∷ 64 ∷ 0 ∷ []) ∷ []
+pub outcomes-full : outcomes fullOfReserved ≡ (0x057203 ∷ 0 ∷ limit ∷ 0 ∷ []) ∷ (0x057205 ∷ 0 ∷ limit ∷ 0 ∷ []) ∷ (0x057204 ∷ 0 ∷ limit ∷ 0 ∷ []) ∷ (0 ∷ 0 ∷ limit ∷ 0 ∷ []) ∷ []
 unfolding
     outcomes outcome column listed some sumRecorded firstOfSession accepted accept refuse flush flushPlan flushCount synchronizeCache
     reserve splitTail appendTail closeIncomplete closeFragment closeTail openSession closeSession
@@ -131,3 +145,29 @@ unfolding
     outcomes outcome column listed some sumRecorded firstOfSession accepted accept refuse flush flushPlan flushCount synchronizeCache
     reserve splitTail appendTail closeIncomplete closeFragment closeTail openSession closeSession
 outcomes-end = refl
+
+-- n sessions of one recorded block each, from a number and a block on
+unfoldable pub sessions : ℕ → ℕ → ℕ → List Fragment
+sessions zero s b = []
+sessions (suc n) s b = fragment s b 1 1 0 Appended ∷ sessions n (s + 1) (b + 129)
+
+-- full lists: of complete fragments; with sectors pending in the tail that is the last record; of as many sessions as fragments
+abbrev pub fullOfComplete : Disc
+fullOfComplete = on crowded 0 0 false (column limit 0)
+
+abbrev pub pendingInTheLast : Disc
+pendingInTheLast = on crowded 3 limit false (column (limit - 1) 0 ++ (fragment 1 lastStart 130 0 0 Appended ∷ []))
+
+abbrev pub fullOfSessions : Disc
+fullOfSessions = on 143444 0 0 false (sessions limit 1 0)
+
+pub sound-full : map allowedState (fullOfComplete ∷ pendingInTheLast ∷ fullOfSessions ∷ []) ≡ true ∷ true ∷ true ∷ []
+unfolding
+    allowedState sound column sessions listed every usedFirst firstAtZero followsFrom inOrder endsWithin recordedWithin zeroedWithin
+    incompleteLast tailLast tailOrFull pendingNamed finalizedComplete allowedSense isRefusalSense
+sound-full = refl
+
+-- the highest number of a fragment and of a session, 160
+pub highest-numbers : (used fullOfSessions ∷ lastRecord fullOfSessions .session ∷ []) ≡ (160 ∷ 160 ∷ [])
+unfolding sessions listed
+highest-numbers = refl

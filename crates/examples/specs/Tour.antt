@@ -1,7 +1,7 @@
--- What the shift never shows, as one table of runs: the reports after refusals, in later sessions and of every kind of fragment, the refusals
--- of 5B/010 in order, the finalized disc, the largest C, and the link refusals in order. Each line has its own lengths of data and reply buffer,
--- and what it must show was worked out by hand from document 01; `tour` says that the definitions give it.
-use Prim.Native.Nat.{ℕ, zero, suc, _+_, _-_}
+-- What the shift never shows, as one table of runs: the reports after refusals, in later sessions and of every kind of fragment, the finalized
+-- disc, the largest C, and the link refusals in order; full lists are in Full. Each line has its own lengths of data and reply buffer, and what
+-- it must show was worked out by hand from document 01; `tour` says that the definitions give it.
+use Prim.Native.Nat.{ℕ, _-_}
 use mathlib.Core.Path.{_≡_, refl}
 use mathlib.Core.Bool.{Bool, true, false}
 use mathlib.Core.List.{List, [], _∷_, _++_, map}
@@ -10,7 +10,7 @@ use Rattle.protocol.specs.Answer.{sense, isRefusalSense, allowedSense}
 use Rattle.disc.specs.Blank.{blank}
 use Rattle.protocol.specs.Command.{decode}
 use Rattle.fragments.specs.Fragment.{fragment, unusedRecord}
-use Rattle.fragments.specs.List.{listed, some, every, find, sumRecorded, lastReadable, firstOfSession}
+use Rattle.fragments.specs.List.{limit, listed, some, every, find, sumRecorded, lastReadable, firstOfSession}
 use Rattle.disc.specs.Sound.{usedFirst, firstAtZero, followsFrom, inOrder, endsWithin, recordedWithin, zeroedWithin, incompleteLast, tailLast, tailOrFull, pendingNamed, finalizedComplete, sound, allowedState}
 use Rattle.protocol.specs.Lengths.{dataLength, replyRoom, lengthsFit}
 use Rattle.disc.specs.Verdict.{accepted, accept, refuse, refuseLink}
@@ -63,7 +63,7 @@ block b = b ++ replicate (12 - length b) 0
 -- a state by its records in use
 abbrev state : ℕ → Bool → Sense → ℕ → ℕ → List Fragment → Disc
 state c f s p o fs =
-    record { capacity = c; finalized = f; sense = s; pending = p; owner = o; fragments = fs ++ replicate (64 - length fs) unusedRecord }
+    record { capacity = c; finalized = f; sense = s; pending = p; owner = o; fragments = fs ++ replicate (limit - length fs) unusedRecord }
 
 -- the lists
 abbrev tailOnly : List Fragment
@@ -157,31 +157,6 @@ tooLarge = fragment 1 0 143445 0 0 Appended ∷ []
 
 abbrev threeHundred : List Fragment
 threeHundred = fragment 1 0 300 0 0 Appended ∷ []
-
--- n recorded fragments of one block, two blocks apart
-unfoldable pub singles : ℕ → ℕ → List Fragment
-singles zero b = []
-singles (suc n) b = fragment 1 b 1 1 0 Reserved ∷ singles n (b + 2)
-
--- 64 records: the last one reserved, with w of its two blocks recorded; a blank tail; and session 2 in that tail's record
-abbrev fullList : ℕ → List Fragment
-fullList w = singles 63 0 ++ (fragment 1 126 2 w 0 Reserved ∷ [])
-
-abbrev droppedList : List Fragment
-droppedList = singles 63 0 ++ (fragment 1 126 130 0 0 Appended ∷ [])
-
-abbrev openedList : List Fragment
-openedList = singles 63 0 ++ (fragment 2 253 3 0 0 Appended ∷ [])
-
--- 63 records, the last one a written tail; that one closed; and the tail in the last record, with w blocks recorded and closed
-abbrev oneFree : List Fragment
-oneFree = singles 62 0 ++ (fragment 1 124 132 1 0 Appended ∷ [])
-
-abbrev lastRecordTaken : ℕ → List Fragment
-lastRecordTaken w = singles 62 0 ++ (fragment 1 124 1 1 0 Appended ∷ fragment 1 126 130 w 0 Appended ∷ [])
-
-abbrev noneFree : List Fragment
-noneFree = singles 62 0 ++ (fragment 1 124 1 1 0 Appended ∷ fragment 1 126 1 1 0 Appended ∷ [])
 
 -- the runs
 abbrev firstRun : List Line
@@ -380,15 +355,6 @@ upTo299 =
     line (block (0x5B ∷ 0 ∷ 1 ∷ 0 ∷ 0 ∷ 1 ∷ [])) 0 0 0 0 [] (sense 0 0 0) 0 0 ends299
     ∷ []
 
-abbrev lastFreeRun : List Line
-lastFreeRun =
-    -- 5B/001 number 63: one record is free, and the tail at 124 + 1 + 1 takes it
-    line (block (0x5B ∷ 0 ∷ 1 ∷ 0 ∷ 0 ∷ 63 ∷ [])) 0 0 0 0 [] (sense 0 0 0) 2016 0 (lastRecordTaken 0)
-    -- WRITE 2016 of 16, and 5B/001 number 64: no record is free, so no tail follows
-    ∷ line (block (0x2A ∷ 0 ∷ 0 ∷ 0 ∷ 7 ∷ 0xE0 ∷ 0 ∷ 0 ∷ 16 ∷ [])) 32768 0 0 1 [] (sense 0 0 0) 2032 0 (lastRecordTaken 1)
-    ∷ line (block (0x5B ∷ 0 ∷ 1 ∷ 0 ∷ 0 ∷ 64 ∷ [])) 0 0 0 0 [] (sense 0 0 0) 0 0 noneFree
-    ∷ []
-
 abbrev emptySession : List Line
 emptySession =
     -- 5B/110 where the last session is only a blank tail: it vanishes
@@ -407,26 +373,6 @@ onBlank =
     ∷ line (block (0x5B ∷ 0 ∷ 2 ∷ [])) 0 0 0 0 [] (sense 0 0 0) 0 0 tailOnly
     -- RESERVE 0
     ∷ line (block (0x53 ∷ [])) 0 0 0x052400 0 [] (sense 0x5 0x24 0x00) 0 0 tailOnly
-    ∷ []
-
-abbrev fullRun : List Line
-fullRun =
-    -- 5B/010 and 5B/110 with all that can be wrong: a reserved fragment is incomplete, 64 records are kept, 128 + 129 is above 256
-    line (block (0x5B ∷ 0 ∷ 2 ∷ [])) 0 0 0x057203 0 [] (sense 0x5 0x72 0x03) 0 0 (fullList 1)
-    ∷ line (block (0x5B ∷ 0 ∷ 6 ∷ [])) 0 0 0x057203 0 [] (sense 0x5 0x72 0x03) 0 0 (fullList 1)
-    -- its last block is written
-    ∷ line (block (0x2A ∷ 0 ∷ 0 ∷ 0 ∷ 7 ∷ 0xF0 ∷ 0 ∷ 0 ∷ 16 ∷ [])) 32768 0 0 1 [] (sense 0 0 0) 0 0 (fullList 2)
-    -- 5B/010: 64 records are kept
-    ∷ line (block (0x5B ∷ 0 ∷ 2 ∷ [])) 0 0 0x057205 0 [] (sense 0x5 0x72 0x05) 0 0 (fullList 2)
-    ∷ []
-
-abbrev droppedRun : List Line
-droppedRun =
-    -- with 64 records RESERVE 2064, for which 126 + 129 + 1 is not below 256 either, and RESERVE 16; then 5B/010, which drops the blank tail
-    -- and keeps 63: e = 125, session 2 at 253
-    line (block (0x53 ∷ 0 ∷ 0 ∷ 0 ∷ 0 ∷ 0 ∷ 0 ∷ 8 ∷ 0x10 ∷ [])) 0 0 0x057205 0 [] (sense 0x5 0x72 0x05) 2016 0 droppedList
-    ∷ line (block (0x53 ∷ 0 ∷ 0 ∷ 0 ∷ 0 ∷ 0 ∷ 0 ∷ 0 ∷ 16 ∷ [])) 0 0 0x057205 0 [] (sense 0x5 0x72 0x05) 2016 0 droppedList
-    ∷ line (block (0x5B ∷ 0 ∷ 2 ∷ [])) 0 0 0 0 [] (sense 0 0 0) 4048 0 openedList
     ∷ []
 
 abbrev upTo171 : List Line
@@ -505,9 +451,7 @@ runs =
     from (blank 600) firstRun ∷ from (state 600 false (sense 0 0 0) 3 1 threePending) fillingRun
     ∷ from (blank 300) fieldsRun ∷ from (state 600 false (sense 0 0 0) 5 1 fivePending) completedRun
     ∷ from (state 300 false (sense 0 0 0) 0 0 (upTo 298)) upTo298 ∷ from (state 300 false (sense 0 0 0) 0 0 (upTo 299)) upTo299
-    ∷ from (state 256 false (sense 0 0 0) 0 0 oneFree) lastFreeRun
     ∷ from (state 600 false (sense 0 0 0) 0 0 nextSession) emptySession ∷ from (blank 600) onBlank
-    ∷ from (state 256 false (sense 0 0 0) 0 0 (fullList 1)) fullRun ∷ from (state 256 false (sense 0 0 0) 0 0 droppedList) droppedRun
     ∷ from (state 300 false (sense 0 0 0) 15 1 ends171) upTo171 ∷ from (state 300 false (sense 0 0 0) 1 1 ends172) upTo172
     ∷ from (blank 143444) largestRun ∷ from (state 255 true (sense 0 0 0) 0 0 smallList) wrongAllRun
     ∷ from (state 300 true (sense 0 0 0) 0 0 threeHundred) wrongStateRun
@@ -516,7 +460,7 @@ runs =
 
 pub tour : map (λ (r : Run). played (r .disc) (r .lines)) runs ≡ map (λ (r : Run). map (λ (l : Line). l .expected) (r .lines)) runs
 unfolding
-    shown played singles blank judge judgeCommand perform decode dataLength replyRoom lengthsFit accepted accept refuse refuseLink
+    shown played blank judge judgeCommand perform decode dataLength replyRoom lengthsFit accepted accept refuse refuseLink
     isRefusalSense allowedSense listed some every find sumRecorded lastReadable firstOfSession
     usedFirst firstAtZero followsFrom inOrder endsWithin recordedWithin zeroedWithin incompleteLast tailLast tailOrFull pendingNamed
     finalizedComplete sound allowedState

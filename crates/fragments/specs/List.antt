@@ -10,7 +10,7 @@ use Rattle.fragments.specs.Fragment.{unusedRecord, unused, takes, holds,
 
 -- how many fragments a disc can have, the tail included
 abbrev pub limit : ℕ
-limit = 64
+limit = 160
 
 -- the records in use: those before the first one without a length
 unfoldable pub listed : List Fragment → List Fragment

@@ -9,7 +9,7 @@ ghost use Rattle.fragments.specs.Fragment.{isIncompleteReserved, holdsRu
 ghost use Rattle.fragments.specs.List.{listed, recordNumbered, lastOf, pendingOf, holderOf, takerOf, firstOfSession, lastReadable, some};
 
 // How many records a disc has.
-pub const LIMIT: usize = 64;
+pub const LIMIT: usize = 160;
 
 // What a search along the list finds: a fragment's number, from 1, or that there is none.
 pub enum Found {

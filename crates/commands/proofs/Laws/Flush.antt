@@ -18,12 +18,12 @@ use Rattle.disc.specs.Verdict.{rise}
 use Rattle.fragments.proofs.Laws.Bool.{and-both, contradiction, by-cases, cond-yes, cond-no}
 use Rattle.fragments.proofs.Laws.List.{listed-le, sum-set}
 use Rattle.disc.proofs.Laws.Rules.{sound-rules, rules-sound}
-use Rattle.disc.proofs.Laws.Sound.{incomplete-room}
+use Rattle.disc.proofs.Laws.Sound.{used-most, incomplete-room}
 use Rattle.disc.proofs.Laws.Grow.{GrownRecord, Grown, set-grown, same-grown, grown-used, grown-sound}
 use Rattle.disc.proofs.Laws.Blank.{range-most}
 
 pub used-limit : (d : Disc) → Ready d → used d ≤ limit
-used-limit d r = omega (arith, listed-le (d .fragments), sound-rules d (r .sound) .array)
+used-limit d r = used-most d (sound-rules d (r .sound))
 
 -- the numbers of a record in use
 pub record Numbers (d : Disc) (n : ℕ) : Type 0 where

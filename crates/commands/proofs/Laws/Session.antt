@@ -1,8 +1,7 @@
 -- Closing the tail, opening a session and finalizing: what they compute with and what they record.
-use Prim.Native.Nat.{ℕ, zero, suc, _+_, _-_, _≤_, _<_}
+use Prim.Native.Nat.{ℕ, _+_, _-_, _≤_, _<_}
 use mathlib.Core.Path.{_≡_, refl, _∙_, ap}
 use mathlib.Core.Bool.{true, false, _&&_, _||_}
-use mathlib.Core.Logic.{⊎-elim}
 use native.Mathlib.Omega.{arith}
 use borrow.Author.Tests.{eq-eqb, ne-eqb, le-ltb, lt-ltb}
 use lib.Dec.{eqb, ltb}
@@ -22,7 +21,7 @@ use Rattle.commands.specs.Close.{hasIncompleteReserved, closeTail, openS
 use Rattle.fragments.proofs.Laws.Numbers.{equal-cases, below-limit}
 use Rattle.fragments.proofs.Laws.Bool.{and-false, and-both, contradiction, by-cases, cond-yes, cond-no}
 use Rattle.fragments.proofs.Laws.List.{listed-le, sum-set}
-use Rattle.disc.proofs.Laws.Sound.{none-pending}
+use Rattle.disc.proofs.Laws.Sound.{none-pending, used-most, session-most}
 use Rattle.disc.proofs.Laws.Verdict.{accept-count}
 use Rattle.commands.proofs.Laws.Flush.{flush-sum, flush-pending, flush-sound}
 use Rattle.commands.proofs.Laws.Reserve.{blank-recorded, last-sum}
@@ -53,13 +52,6 @@ close-tail-sum d s =
     (λ t. rw (kept-tail d b t) (omega (arith, last-sum d (shortenedRecord (lastRecord d)) s)))
     (λ t. rw (kept-same d t)))
 
--- sessions rise by one at the most, so their number is small
-pub session-most : (d : Disc) (i : ℕ) → Sound d → i < used d → at d i .session ≤ suc i
-session-most d zero s h = omega (arith, s .firstSession)
-session-most d (suc i) s h =
-    let before = session-most d i s (omega arith) in
-    ⊎-elim (λ w. omega (arith, w .0)) (λ w. omega (arith, w .0)) (s .next i h)
-
 -- with nothing pending a tail that is not blank has a block recorded
 pub tail-written : (d : Disc) → d .pending ≡ 0 → hasTail d ≡ true → hasBlankTail d ≡ false → lastRecord d .recorded ≡ 0 → ⊥
 tail-written d p t b w = contradiction (and-both t (and-both (eq-eqb _ _ w) (eq-eqb _ _ (none-pending d (used d) p)))) b
@@ -71,9 +63,6 @@ pub record Kept (k : Disc) : Type 0 where
   pub sessions : lastRecord k .session ≤ limit
 
 module _ (d : Disc) (s : Sound d) (p : d .pending ≡ 0) where
-  most : used d ≤ limit
-  most = omega (arith, listed-le (d .fragments), s .array)
-
   -- the blank tail is dropped
   kept-dropped : Kept (withRecord d (used d) unusedRecord)
   kept-dropped =
@@ -95,7 +84,7 @@ module _ (d : Disc) (s : Sound d) (p : d .pending ≡ 0) where
             let index : used (withRecord d n unusedRecord) - 1 ≡ n - 2 = omega (arith, (drop-used d s)) in
             let last : lastRecord (withRecord d n unusedRecord) ≡ at d (n - 2) =
             ap (λ k. getD gs k unusedRecord) index ∙ getD-set-other fs (n - 1) (n - 2) unusedRecord unusedRecord (λ q. omega (arith, s .some)) in
-            omega (arith, ap (λ f. f .session) last, session-most d (n - 2) s (omega (arith, s .some)), most));
+            omega (arith, ap (λ f. f .session) last, session-most d s (n - 2) (omega (arith, s .some)), used-most d s));
       }
 
   -- the last record is another one in its place
@@ -113,7 +102,7 @@ module _ (d : Disc) (s : Sound d) (p : d .pending ≡ 0) where
             ∙ (getD-set-other fs (n - 1) n g unusedRecord (λ q. omega (arith, s .some)) ∙ s .unused n (omega arith));
         sessions =
             let last : lastRecord (withRecord d n g) ≡ g = ap (λ k. getD gs (k - 1) unusedRecord) u ∙ getD-set-same fs (n - 1) g unusedRecord slot in
-            omega (arith, ap (λ f. f .session) last, session-most d (n - 1) s (omega (arith, s .some)), most, s .some);
+            omega (arith, ap (λ f. f .session) last, session-most d s (n - 1) (omega (arith, s .some)), used-most d s, s .some);
       }
 
   pub kept : Kept (closeTail d)
@@ -128,7 +117,7 @@ module _ (d : Disc) (s : Sound d) (p : d .pending ≡ 0) where
       (record {
         array = s .array;
         free = s .unused (used d) (omega arith);
-        sessions = omega (arith, session-most d (used d - 1) s (omega (arith, s .some)), most, s .some);
+        sessions = omega (arith, session-most d s (used d - 1) (omega (arith, s .some)), used-most d s, s .some);
       })))
 
 pub kept-few : (d : Disc) → Sound d → d .pending ≡ 0 → (used (closeTail d) ≡ limit → ⊥) → used (closeTail d) < limit

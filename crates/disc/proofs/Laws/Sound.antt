@@ -1,6 +1,6 @@
--- What a sound list gives beyond its rules: fragments lie apart, next writable addresses differ, and the recorded
+-- What a sound list gives beyond its rules: fragments lie apart, next writable addresses differ, numbers are small, and the recorded
 -- blocks fit the disc.
-use Prim.Native.Nat.{ℕ, zero, suc, _+_, _≤_, _<_}
+use Prim.Native.Nat.{ℕ, zero, suc, _+_, _-_, _≤_, _<_}
 use mathlib.Core.Path.{_≡_, refl, _∙_, ap}
 use mathlib.Core.Bool.{true, false}
 use mathlib.Core.List.{List, [], _∷_}
@@ -13,13 +13,14 @@ use lib.ListN.{length}
 use Rattle.disc.specs.Types.{Fragment, Disc}
 use Rattle.fragments.specs.Address.{firstSector}
 use Rattle.fragments.specs.Fragment.{end, complete, isZero}
-use Rattle.disc.specs.Records.{pendingIn, nextWritable, records, used}
-use Rattle.fragments.specs.List.{listed, sumRecorded, every}
+use Rattle.disc.specs.Records.{pendingIn, nextWritable, records, used, isListed, numbered}
+use Rattle.fragments.specs.List.{limit, listed, sumRecorded, every}
 use Rattle.disc.specs.Sound.{usedFirst, follows, followsFrom, inOrder, endsWithin, recordedWithin}
 use Rattle.disc.specs.Rules.{at, Follows, Sound}
 use Rattle.fragments.proofs.Laws.Bool.{and-left, and-right, by-cases, cond-yes, cond-no}
 use Rattle.fragments.proofs.Laws.Numbers.{below-suc, order-cases}
-use Rattle.fragments.proofs.Laws.List.{use-cases, listed-off, listed-on}
+use Rattle.fragments.proofs.Laws.List.{limit-below, use-cases, listed-off, listed-on, listed-le}
+use Rattle.disc.proofs.Laws.Records.{listed-number}
 use Rattle.disc.proofs.Laws.Rules.{zeros-at, follows-either, sound-tests, rules-sound}
 
 -- at least the dividing block lies between a record and the next one; between sessions Closure and Intro do
@@ -64,6 +65,24 @@ module _ (d : Disc) (s : Sound d) where
       let before = sessions-rise i j (below-suc k) (omega arith) in
       omega (arith, step-session (at d j) (at d (suc j)) (s .next j l)))
       (eq-or-lt-of-le h)
+
+  pub used-most : used d ≤ limit
+  used-most = omega (arith, listed-le (d .fragments), s .array)
+
+  -- sessions rise by one at the most, so a record's is no higher than its number
+  pub session-most : (i : ℕ) → i < used d → at d i .session ≤ suc i
+  session-most zero h = omega (arith, s .firstSession)
+  session-most (suc i) h =
+      let before = session-most i (omega arith) in
+      ⊎-elim (λ w. omega (arith, w .0)) (λ w. omega (arith, w .0)) (s .next i h)
+
+  -- no fragment's number and no session's reaches AAh
+  pub numbers-below : (n : ℕ) → isListed d n ≡ true → (n < 0xAA) × (numbered d n .session < 0xAA)
+  numbers-below n e =
+      let listed = listed-number d n e in
+      let few : n < 0xAA = omega (arith, listed .1, used-most, limit-below) in
+      let session = session-most (n - 1) (omega (arith, listed .0, listed .1)) in
+      (few, omega (arith, few, listed .0, session))
 
   -- between fragments of different sessions lie Closure and Intro
   pub sessions-far : (i j : ℕ) → i < j → j < used d → (at d j .session ≡ at d i .session → ⊥) → end (at d i) .0 + 128 ≤ at d j .start .0

@@ -12,8 +12,12 @@ use lib.Seq.{drop-cons}
 use Rattle.fragments.specs.Types.{Fragment, Number, Nowhere}
 use Rattle.fragments.specs.Address.{lba, later}
 use Rattle.fragments.specs.Fragment.{unusedRecord, lastRecorded}
-use Rattle.fragments.specs.List.{listed, every, some, find, sumRecorded, lastReadable, firstOfSession}
+use Rattle.fragments.specs.List.{limit, listed, every, some, find, sumRecorded, lastReadable, firstOfSession}
 use Rattle.fragments.proofs.Laws.Bool.{and-left, and-right, and-both, or-left, or-right, or-cases, contradiction, by-cases}
+
+-- a record's number stays below AAh, which is the lead-out's in a table of contents, and so below FFh, which 52h takes for the tail
+pub limit-below : limit < 0xAA
+limit-below = omega arith
 
 -- the length of an array of structs, as what owning it tells has it
 pub array-length : (X Y : Type 0) (f : X → Y) (l : List X) (n : ℕ) → length (map f l) ≡ n → length l ≡ n

@@ -1,0 +1,145 @@
+-- Runs on discs whose list is full, or has one record free: what takes the last record, and what is refused without a free one. What each line
+-- must show was worked out by hand from document 01, with the limit that request (v) of document 02 gives it. The commands are performed past
+-- the link, whose check of such lists `sound-full` of States shows.
+use Prim.Native.Nat.{ℕ, _+_, _-_, _*_, _/_, _%_}
+use mathlib.Core.Path.{_≡_, refl}
+use mathlib.Core.Bool.{false}
+use mathlib.Core.List.{List, [], _∷_, _++_, map}
+use lib.ListN.{length, replicate}
+use Rattle.protocol.specs.Answer.{sense}
+use Rattle.protocol.specs.Command.{decode}
+use Rattle.protocol.specs.Reports.{discBytes, trackBytes}
+use Rattle.fragments.specs.Fragment.{fragment}
+use Rattle.fragments.specs.List.{limit, listed, some, find, sumRecorded, firstOfSession}
+use Rattle.disc.specs.Verdict.{accepted, accept, refuse}
+use Rattle.reporting.specs.Reports.{sessionState, discStatus, readDiscInformation, nextWritableOrZero, freeSectors, trackVerdict, trackFound, trackNumbered, readTrackInformation}
+use Rattle.commands.specs.Flush.{flush, flushPlan, synchronizeCache}
+use Rattle.commands.specs.Write.{flushOthers, flushOthersPlan, gather, writeTo, writeFound, write}
+use Rattle.commands.specs.Reserve.{splitTail, reserve}
+use Rattle.commands.specs.Close.{appendTail, closeIncomplete, closeFragment, closeTail, openSession, closeSession, finalize, close}
+use Rattle.commands.specs.Judge.{perform}
+use Rattle.examples.specs.Types.{Reserved, Appended, Fragment, Disc}
+use Rattle.examples.specs.Shift.{Line, line, Shown, shown}
+use Rattle.examples.specs.States.{on, column, lastStart, crowded}
+
+-- a command block by its first bytes, zeros after them
+abbrev block : List ℕ → List ℕ
+block b = b ++ replicate (12 - length b) 0
+
+-- a number in four bytes, of which the low two are enough
+abbrev wide : ℕ → List ℕ
+wide n = 0 ∷ 0 ∷ (n / 256) ∷ (n % 256) ∷ []
+
+-- WRITE of n sectors at such an address
+abbrev writeAt : ℕ → ℕ → List ℕ
+writeAt a n = block (0x2A ∷ 0 ∷ (wide a ++ (0 ∷ 0 ∷ n ∷ [])))
+
+-- a full list: the last record reserved, with w of its two blocks recorded; a blank tail; and session 2 in that tail's record
+abbrev fullList : ℕ → List Fragment
+fullList w = column (limit - 1) 0 ++ (fragment 1 lastStart 2 w 0 Reserved ∷ [])
+
+abbrev droppedList : List Fragment
+droppedList = column (limit - 1) 0 ++ (fragment 1 lastStart 130 0 0 Appended ∷ [])
+
+abbrev openedList : List Fragment
+openedList = column (limit - 1) 0 ++ (fragment 2 (lastStart + 127) 3 0 0 Appended ∷ [])
+
+-- one record free, the last one a tail with w blocks recorded; a block of it reserved; and it closed, with a tail in the last record, w
+-- blocks of that recorded, and that closed too
+abbrev oneFree : ℕ → List Fragment
+oneFree w = column (limit - 2) 0 ++ (fragment 1 (lastStart - 2) 132 w 0 Appended ∷ [])
+
+abbrev lastReserved : List Fragment
+lastReserved = column (limit - 2) 0 ++ (fragment 1 (lastStart - 2) 1 0 0 Reserved ∷ fragment 1 lastStart 130 0 0 Appended ∷ [])
+
+abbrev lastRecordTaken : ℕ → List Fragment
+lastRecordTaken w = column (limit - 2) 0 ++ (fragment 1 (lastStart - 2) 1 1 0 Appended ∷ fragment 1 lastStart 130 w 0 Appended ∷ [])
+
+abbrev noneFree : List Fragment
+noneFree = column (limit - 2) 0 ++ (fragment 1 (lastStart - 2) 1 1 0 Appended ∷ fragment 1 lastStart 1 1 0 Appended ∷ [])
+
+-- and a session in the last record
+abbrev sessionLast : List Fragment
+sessionLast = column (limit - 2) 0 ++ (fragment 1 (lastStart - 2) 1 1 0 Appended ∷ fragment 2 (lastStart + 127) 3 0 0 Appended ∷ [])
+
+abbrev lastFreeRun : List Line
+lastFreeRun =
+    -- 5B/001 of the last but one record: one is free, and the tail after it takes that
+    line (block (0x5B ∷ 0 ∷ 1 ∷ 0 ∷ 0 ∷ (limit - 1) ∷ [])) 0 0 [] (sense 0 0 0) (16 * lastStart) 0 (lastRecordTaken 0)
+    -- a block is written there, and 5B/001 of the last record: none is free, so no tail follows
+    ∷ line (writeAt (16 * lastStart) 16) 0 1 [] (sense 0 0 0) (16 * lastStart + 16) 0 (lastRecordTaken 1)
+    ∷ line (block (0x5B ∷ 0 ∷ 1 ∷ 0 ∷ 0 ∷ limit ∷ [])) 0 0 [] (sense 0 0 0) 0 0 noneFree
+    -- 5B/010: a full list is kept, though e + 129 is the capacity and not above it
+    ∷ line (block (0x5B ∷ 0 ∷ 2 ∷ [])) 0x057205 0 [] (sense 0x5 0x72 0x05) 0 0 noneFree
+    ∷ []
+
+abbrev lastReservedRun : List Line
+lastReservedRun =
+    -- RESERVE 16 with one record free: the new tail takes it; and again, with none free
+    line (block (0x53 ∷ 0 ∷ 0 ∷ 0 ∷ 0 ∷ 0 ∷ 0 ∷ 0 ∷ 16 ∷ [])) 0 0 [] (sense 0 0 0) (16 * lastStart) 0 lastReserved
+    ∷ line (block (0x53 ∷ 0 ∷ 0 ∷ 0 ∷ 0 ∷ 0 ∷ 0 ∷ 0 ∷ 16 ∷ [])) 0x057205 0 [] (sense 0x5 0x72 0x05) (16 * lastStart) 0 lastReserved
+    ∷ []
+
+abbrev lastSessionRun : List Line
+lastSessionRun =
+    -- 5B/010 with one record free and a written tail: all are kept, and session 2 takes the last record, 128 blocks after the tail's end
+    line (block (0x5B ∷ 0 ∷ 2 ∷ [])) 0 0 [] (sense 0 0 0) (16 * (lastStart + 127)) 0 sessionLast
+    ∷ []
+
+abbrev fullRun : List Line
+fullRun =
+    -- 5B/010 and 5B/110 with all that can be wrong: a reserved fragment is incomplete, a full list is kept, e + 129 is above the capacity
+    line (block (0x5B ∷ 0 ∷ 2 ∷ [])) 0x057203 0 [] (sense 0x5 0x72 0x03) 0 0 (fullList 1)
+    ∷ line (block (0x5B ∷ 0 ∷ 6 ∷ [])) 0x057203 0 [] (sense 0x5 0x72 0x03) 0 0 (fullList 1)
+    -- its last block is written
+    ∷ line (writeAt (16 * lastStart + 16) 16) 0 1 [] (sense 0 0 0) 0 0 (fullList 2)
+    -- 5B/010: a full list is kept
+    ∷ line (block (0x5B ∷ 0 ∷ 2 ∷ [])) 0x057205 0 [] (sense 0x5 0x72 0x05) 0 0 (fullList 2)
+    ∷ []
+
+abbrev droppedRun : List Line
+droppedRun =
+    -- with a full list RESERVE 2064, 129 blocks, for which there is no room either, and RESERVE 16
+    line (block (0x53 ∷ 0 ∷ 0 ∷ 0 ∷ 0 ∷ 0 ∷ 0 ∷ 8 ∷ 0x10 ∷ [])) 0x057205 0 [] (sense 0x5 0x72 0x05) (16 * lastStart) 0 droppedList
+    ∷ line (block (0x53 ∷ 0 ∷ 0 ∷ 0 ∷ 0 ∷ 0 ∷ 0 ∷ 0 ∷ 16 ∷ [])) 0x057205 0 [] (sense 0x5 0x72 0x05) (16 * lastStart) 0 droppedList
+    -- 51h: the session's first and last fragment
+    ∷ line (block (0x51 ∷ 0 ∷ 0 ∷ 0 ∷ 0 ∷ 0 ∷ 0 ∷ 0 ∷ 34 ∷ [])) 0 0
+    (0 ∷ 0x20 ∷ 5 ∷ 1 ∷ 1 ∷ 1 ∷ limit ∷ replicate 27 0)
+    (sense 0 0 0) (16 * lastStart) 0 droppedList
+    -- 52h of the last number: a blank tail, 16 x 130 = 2,080 sectors free; the one after it is none
+    ∷ line (block (0x52 ∷ 1 ∷ 0 ∷ 0 ∷ 0 ∷ limit ∷ 0 ∷ 0 ∷ 36 ∷ [])) 0 0
+    (0 ∷ 0x22 ∷ limit ∷ 1 ∷ 0 ∷ 4 ∷ 0x41 ∷ 1
+    ∷ (wide (16 * lastStart) ++ wide (16 * lastStart) ++ wide 2080 ++ wide 16 ++ wide 2080 ++ replicate 8 0))
+    (sense 0 0 0) (16 * lastStart) 0 droppedList
+    ∷ line (block (0x52 ∷ 1 ∷ 0 ∷ 0 ∷ 0 ∷ (limit + 1) ∷ 0 ∷ 0 ∷ 36 ∷ [])) 0x052400 0 [] (sense 0x5 0x24 0x00) (16 * lastStart) 0 droppedList
+    -- 5B/010, which drops the blank tail and so keeps one record fewer: session 2, 128 blocks after the last of those
+    ∷ line (block (0x5B ∷ 0 ∷ 2 ∷ [])) 0 0 [] (sense 0 0 0) (16 * (lastStart + 127)) 0 openedList
+    ∷ []
+
+-- a run: the list that it starts on, and its lines, each on what the last one left
+pub record Run : Type 0 where
+  pub list : List Fragment
+  pub lines : List Line
+
+abbrev from : List Fragment → List Line → Run
+from fs ls = record { list = fs; lines = ls }
+
+unfoldable pub performed : Disc → List Line → List Shown
+performed d [] = []
+performed d (l ∷ ls) =
+    let v = perform d (decode (l .command)) in
+    shown v ∷ performed (v .disc) ls
+
+abbrev pub runs : List Run
+runs =
+    from (oneFree 1) lastFreeRun ∷ from (oneFree 0) lastReservedRun ∷ from (oneFree 1) lastSessionRun ∷ from (fullList 1) fullRun
+    ∷ from droppedList droppedRun ∷ []
+
+pub full : map (λ (r : Run). performed (on crowded 0 0 false (r .list)) (r .lines)) runs ≡ map (λ (r : Run). map (λ (l : Line). l .expected) (r .lines)) runs
+unfolding
+    shown performed column perform decode accepted accept refuse listed some find sumRecorded firstOfSession
+    flush flushPlan synchronizeCache flushOthers flushOthersPlan gather writeTo writeFound write
+    splitTail reserve appendTail closeIncomplete closeFragment closeTail openSession closeSession finalize close
+    sessionState discStatus discBytes readDiscInformation nextWritableOrZero freeSectors trackBytes trackVerdict trackFound trackNumbered
+    readTrackInformation
+full = refl

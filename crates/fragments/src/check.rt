@@ -1,13 +1,12 @@
 // The check of the records against the rules of a sound list, in one pass.
 // It is total: the fields may hold any numbers, and no sum wraps.
 use crate::address;
+use crate::address::Block;
 use crate::fragment::Fragment;
 use crate::list::LIMIT;
 ghost use mathlib.Core.Path.{_≡_};
-ghost use Prim.Native.Nat.{_≤_};
-ghost use lib.ListN.{drop};
+ghost use mathlib.Core.Bool.{_&&_};
 ghost use Rattle.fragments.specs.Fragment.{isZero};
-ghost use Rattle.fragments.specs.List.{limit, every};
 ghost use Rattle.fragments.specs.Check.{within, beginsList, continues, openAfter, endsList, listSound};
 
 impl Fragment {
@@ -22,6 +21,23 @@ impl Fragment {
             & (self.recorded == 0)
             & (self.zeroed == 0)
             & kind.is_reserved()
+    }
+
+    // The fields of both joined bit by bit: all zero where those of both are.
+    fn joined(self, other: Fragment) -> Fragment
+        ensures { λ r. ⌜ isZero r ≡ (isZero self && isZero other) ⌝ }
+    {
+        let mine = self.kind;
+        let its = other.kind;
+        let kind = mine.joined(its);
+        Fragment {
+            start: Block(self.start.0 | other.start.0),
+            length: self.length | other.length,
+            recorded: self.recorded | other.recorded,
+            zeroed: self.zeroed | other.zeroed,
+            session: self.session | other.session,
+            kind,
+        }
     }
 
     // The fragment ends within the capacity, and its counts fit.
@@ -75,23 +91,8 @@ impl Fragment {
     }
 }
 
-// Every record from an index on is all zero.
-fn unused_from(fragments: [Fragment; LIMIT], from: usize) -> bool
-    requires { ⌜ from ≤ limit ⌝ }
-    ensures { λ r. ⌜ r ≡ every isZero (drop from fragments) ⌝ }
-{
-    let mut i = from;
-    while i < LIMIT {
-        let f = fragments[i];
-        if !f.is_zero() {
-            return false;
-        }
-        i += 1;
-    }
-    true
-}
-
-// The rules that speak of the records alone, for a disc of a capacity that is finalized or not.
+// The rules that speak of the records alone, for a disc of a capacity that is finalized or not: first along those in use, then the rest.
+// Both loops stand here, since a function takes a copy of the records that it goes along.
 pub fn list_is_sound(capacity: u32, finalized: bool, fragments: [Fragment; LIMIT]) -> bool
     ensures { λ r. ⌜ r ≡ listSound capacity finalized fragments ⌝ }
 {
@@ -102,11 +103,12 @@ pub fn list_is_sound(capacity: u32, finalized: bool, fragments: [Fragment; LIMIT
     let mut before = first;
     let mut incomplete = !first.is_complete();
     let mut i: usize = 1;
-    while i < LIMIT {
+    let mut end: usize = LIMIT;
+    while i < end {
         let f = fragments[i];
         if f.length == 0 {
-            return before.ends_list(capacity, finalized, false, incomplete)
-                & unused_from(fragments, i);
+            end = i;
+            continue;
         }
         if !(f.is_within(capacity) & f.continues(before, incomplete)) {
             return false;
@@ -115,5 +117,12 @@ pub fn list_is_sound(capacity: u32, finalized: bool, fragments: [Fragment; LIMIT
         before = f;
         i += 1;
     }
-    before.ends_list(capacity, finalized, true, incomplete)
+    let ends = before.ends_list(capacity, finalized, end == LIMIT, incomplete);
+    let mut rest = Fragment::unused();
+    while i < LIMIT {
+        let f = fragments[i];
+        rest = rest.joined(f);
+        i += 1;
+    }
+    ends & rest.is_zero()
 }

@@ -3,6 +3,7 @@ use crate::address::Block;
 use crate::address::Lba;
 use crate::address::WideBlock;
 ghost use mathlib.Core.Path.{_≡_};
+ghost use mathlib.Core.Bool.{_&&_};
 ghost use Rattle.fragments.specs.Address.{wide, firstSector};
 ghost use Rattle.fragments.specs.Fragment.{unusedRecord, reservedAt, shortenedRecord, end, firstUnrecorded, complete, isReserved, isTail, isIncompleteReserved, nextFragmentStart, nextSessionStart, nextAfter, takes, holds, holdsRun, lastRecorded};
 
@@ -20,9 +21,6 @@ pub enum Kind {
 }
 
 pub struct Fragment {
-    // The session, from 1.
-    pub session: u8,
-    pub kind: Kind,
     // The first block.
     pub start: Block,
     // Length in blocks (document 01's L); 0 in an unused record.
@@ -31,6 +29,9 @@ pub struct Fragment {
     pub recorded: u32,
     // Sectors of them that the drive filled with zeros by itself (document 01's F).
     pub zeroed: u32,
+    // The session, from 1.
+    pub session: u8,
+    pub kind: Kind,
 }
 
 impl Kind {
@@ -40,6 +41,16 @@ impl Kind {
         match self {
             Kind::Reserved => true,
             Kind::Appended => false,
+        }
+    }
+
+    // Reserved where both are.
+    pub(crate) fn joined(self, other: Kind) -> Kind
+        ensures { λ r. ⌜ isReserved r ≡ (isReserved self && isReserved other) ⌝ }
+    {
+        match self {
+            Kind::Reserved => other,
+            Kind::Appended => Kind::Appended,
         }
     }
 }

@@ -1,5 +1,5 @@
 -- Tests joined by `&&`, taken apart and put together; a proof by the two cases of a test.
-use mathlib.Core.Path.{_≡_, refl, sym, _∙_}
+use mathlib.Core.Path.{_≡_, refl, sym, _∙_, ap}
 use mathlib.Core.Bool.{Bool, true, false, cond, _&&_, _||_, and-eq-true-iff, false≢true, or-true, or-assoc, or-false}
 
 pub and-left : (a b : Bool) → (a && b) ≡ true → a ≡ true
@@ -16,6 +16,31 @@ and-first a b h = rw h
 
 pub and-false : (a b : Bool) → a ≡ false → (a && b) ≡ false
 and-false a b h = rw h
+
+pub and-true : (a : Bool) → (a && true) ≡ a
+and-true true = refl
+and-true false = refl
+
+pub and-assoc : (a b c : Bool) → (a && (b && c)) ≡ ((a && b) && c)
+and-assoc true b c = refl
+and-assoc false b c = refl
+
+-- two rows of tests joined place by place
+and-pairs : (a b c d : Bool) → ((a && b) && (c && d)) ≡ ((a && c) && (b && d))
+and-pairs true true c d = refl
+and-pairs true false true d = refl
+and-pairs true false false d = refl
+and-pairs false b c d = refl
+
+pub and-rows :
+    (a b c d e f g h i j k l : Bool)
+    → ((a && g) && (b && h) && (c && i) && (d && j) && (e && k) && (f && l)) ≡ ((a && b && c && d && e && f) && (g && h && i && j && k && l))
+and-rows a b c d e f g h i j k l =
+    let two = and-pairs a g b h in
+    let three = ap (λ x. x && (c && i)) two ∙ and-pairs (a && b) (g && h) c i in
+    let four = ap (λ x. x && (d && j)) three ∙ and-pairs (a && b && c) (g && h && i) d j in
+    let five = ap (λ x. x && (e && k)) four ∙ and-pairs (a && b && c && d) (g && h && i && j) e k in
+    ap (λ x. x && (f && l)) five ∙ and-pairs (a && b && c && d && e) (g && h && i && j && k) f l
 
 pub by-cases {ℓ} : {P : Type ℓ} (b : Bool) → (b ≡ true → P) → (b ≡ false → P) → P
 by-cases true yes-case no-case = yes-case refl

@@ -6,39 +6,20 @@ use Prim.Native.Nat.{ℕ, zero, suc, _+_, _-_, _*_, _≤_, _<_}
 use native.Mathlib.Numerals.{add-one}
 use native.Mathlib.Omega.{arith}
 use borrow.Author.Tests.{eq-eqb, ne-eqb, eqb-true, eqb-false, ltb-true}
-use lib.Bits.{bitOr, or-add-and, and-le-l, and-le-r}
+use lib.Bits.{bitOr}
 use lib.Dec.{eqb, ltb}
 use lib.ListN.{length, take, drop, replicate, length-drop, drop-of-length-le}
 use lib.Seq.{drop-cons, getD-take, take-all}
 use Rattle.fragments.specs.Fragment.{unusedRecord, isReserved, isZero}
 use Rattle.fragments.specs.List.{limit, every}
-use Rattle.fragments.proofs.Laws.Bool.{and-left, and-right, and-both, and-false, by-cases, cond-yes, cond-no, cond-cases, contradiction, same-test}
+use Rattle.fragments.proofs.Laws.Bool.{and-left, and-right, and-both, and-false, and-true, and-assoc, by-cases, cond-yes, cond-no, cond-cases, contradiction, same-test}
+use Rattle.fragments.proofs.Laws.Numbers.{or-zero}
 use Rattle.disc.specs.Sound.{usedFirst, sound, allowedState}
 use Rattle.disc.proofs.Laws.Rules.{sound-tests}
 use Rattle.gladhamre.specs.Types.{Fragment, State, Unsound}
 use Rattle.gladhamre.specs.Image.{imageLength, word, kindOf, recordOf, recordFits, listOf, listFits, headFits, decode, isState}
 use Rattle.gladhamre.specs.Used.{recordUsed, usedOf, usedIn, allZero, wordsOf, Taken}
 use Rattle.gladhamre.proofs.Laws.Image.{record-at, next-record, record-after, lent-part, six-words, state-words}
-
--- words joined by `or` are zero where each of them is
-or-zero : (a b : ℕ) → eqb (bitOr a b) 0 ≡ (eqb a 0 && eqb b 0)
-or-zero a b =
-    same-test
-    (λ t.
-    let e = eqb-true (bitOr a b) 0 t in
-    and-both (eq-eqb a 0 (omega (arith, or-add-and a b, and-le-r a b))) (eq-eqb b 0 (omega (arith, or-add-and a b, and-le-l a b))))
-    (λ t.
-    let p = eqb-true a 0 (and-left (eqb a 0) (eqb b 0) t) in
-    let q = eqb-true b 0 (and-right (eqb a 0) (eqb b 0) t) in
-    eq-eqb (bitOr a b) 0 (omega (arith, or-add-and a b)))
-
-and-assoc : (a b c : Bool) → (a && (b && c)) ≡ ((a && b) && c)
-and-assoc true b c = refl
-and-assoc false b c = refl
-
-and-true : (a : Bool) → (a && true) ≡ a
-and-true true = refl
-and-true false = refl
 
 -- one word more, and all: `all` joins the first i words
 pub zero-more :

@@ -238,7 +238,7 @@ fn lent(row: &str) -> Buffers {
         "a medium of one block less" => lent.medium.truncate(255 * BLOCK_BYTES),
         "a pending buffer of 2,048 bytes" => lent.pending.truncate(SECTOR_BYTES),
         "a state whose C is 255" => lent.state[0] = 255,
-        "a state of 390 words" => lent.state.truncate(STATE_WORDS - 1),
+        "a state one word short" => lent.state.truncate(STATE_WORDS - 1),
         "a state whose first record starts at block 1" => lent.state[8] = 1,
         "a state with the sense 5/21/01" => lent.state[2..5].copy_from_slice(&[0x5, 0x21, 0x01]),
         "a WRITE of 1 with 2,047 bytes of data" => lent.data.truncate(2_047),

@@ -35,7 +35,7 @@ mod state;
 
 pub use blocks::{self, SECTOR_BYTES};
 pub use raw::{Answer, Lent};
-pub use state::{Record, State, RECORD_LIMIT, STATE_WORDS};
+pub use state::{Record, State, HEADER_WORDS, RECORD_LIMIT, RECORD_WORDS, STATE_WORDS};
 
 /// The bytes of an ECC block, which is 16 sectors.
 pub const BLOCK_BYTES: usize = 32_768;

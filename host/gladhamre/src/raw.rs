@@ -20,7 +20,8 @@ pub struct Answer {
     pub recorded: u64,
 }
 
-/// Writes the image of a blank disc. An image that is not 391 words stays as it is.
+/// Writes the image of a blank disc. An image of another length than
+/// [`STATE_WORDS`](crate::STATE_WORDS) stays as it is.
 pub fn blank(capacity: u32, state: &mut [u32]) -> u32 {
     linked::blank(capacity, state)
 }

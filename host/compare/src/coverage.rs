@@ -1,7 +1,8 @@
 //! What a comparison has reached.
 
 use crate::blocks::{self, Block};
-use crate::situations::{Event, SITUATIONS};
+use crate::event::Event;
+use crate::situations::SITUATIONS;
 use gladhamre::State;
 use std::collections::BTreeMap;
 use std::fmt;
@@ -13,7 +14,7 @@ pub struct Coverage {
     /// How often each command got each answer.
     pub answers: BTreeMap<(&'static str, u32), u64>,
     /// How often each of the situations came.
-    situations: [u64; SITUATIONS.len()],
+    situations: Met,
     pub blocks_recorded: u64,
     pub most_records: usize,
     pub most_sessions: u32,
@@ -25,6 +26,16 @@ pub struct Coverage {
     /// How often a command left so many sectors pending.
     pub pending_counts: [u64; 16],
     pub images_injected: u64,
+}
+
+/// A count for each of the situations.
+#[derive(Clone, Debug)]
+struct Met([u64; SITUATIONS.len()]);
+
+impl Default for Met {
+    fn default() -> Met {
+        Met([0; SITUATIONS.len()])
+    }
 }
 
 impl Coverage {
@@ -42,7 +53,7 @@ impl Coverage {
         if !(1..=4).contains(&number) {
             self.blocks_recorded += event.answer.recorded;
             self.note_state(event.after);
-            for (count, (_, is_met)) in self.situations.iter_mut().zip(SITUATIONS) {
+            for (count, (_, is_met)) in self.situations.0.iter_mut().zip(SITUATIONS) {
                 *count += u64::from(is_met(event));
             }
         }
@@ -78,7 +89,7 @@ impl Coverage {
         for (&key, &count) in &other.answers {
             *self.answers.entry(key).or_default() += count;
         }
-        add_counts(&mut self.situations, &other.situations);
+        add_counts(&mut self.situations.0, &other.situations.0);
         self.blocks_recorded += other.blocks_recorded;
         self.most_records = self.most_records.max(other.most_records);
         self.most_sessions = self.most_sessions.max(other.most_sessions);
@@ -91,7 +102,7 @@ impl Coverage {
 
     /// How often each situation came.
     pub fn situations(&self) -> impl Iterator<Item = (u64, &'static str)> + '_ {
-        let named = self.situations.iter().zip(SITUATIONS);
+        let named = self.situations.0.iter().zip(SITUATIONS);
         named.map(|(&count, (name, _))| (count, name))
     }
 

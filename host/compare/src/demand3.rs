@@ -6,7 +6,7 @@ use crate::blocks;
 use crate::history::{Ledger, Writes};
 use crate::outline::{Outline, Place};
 use crate::pool::OFFSETS;
-use crate::rounds::theme;
+use crate::rounds::{crowds_once_in, theme};
 use crate::{Drive, Generator, Random, Request};
 use gladhamre::{Answer, SECTOR_BYTES};
 
@@ -19,6 +19,7 @@ pub struct Tally {
     /// WRITEs tried whole and in parts from the same state, and how many of them were accepted.
     pub tried: u64,
     pub tried_accepted: u64,
+    pub most_records: usize,
 }
 
 /// A command of the first run with its answer.
@@ -57,10 +58,11 @@ fn first_run(
 ) -> Result<Vec<Turn>, String> {
     let mut generator = Generator::new(random.draw());
     generator.buffers_right = true;
+    generator.crowds = random.once_in(crowds_once_in(bench.state.capacity()));
     let mut ledger = Ledger::new(bench.state.capacity());
     let mut writes = Writes::new(bench.state.capacity());
     let mut turns = Vec::new();
-    for (mood, commands) in theme(random) {
+    for (mood, commands) in theme(random, generator.crowds) {
         generator.mood = mood;
         for _ in 0..commands {
             if disturbed && random.once_in(3) {
@@ -71,6 +73,7 @@ fn first_run(
             let (answer, reply) = bench.command(&request);
             writes.note(&request, &answer, &before);
             turns.push(Turn { request, answer, reply });
+            tally.most_records = tally.most_records.max(bench.state.records().count());
             ledger.note(bench)?;
             if random.once_in(40) {
                 try_cut(bench, random, tally)?;

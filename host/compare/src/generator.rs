@@ -14,6 +14,9 @@ pub struct Generator {
     pub mood: Mood,
     /// State, medium and pending buffer always have the right lengths.
     pub buffers_right: bool,
+    /// Fragments are of one block and made one after another, so that the list is full before the
+    /// disc is.
+    pub crowds: bool,
     /// WRITEs longer than this, in sectors, are rare where they fit.
     pub long_write: u64,
 }
@@ -24,6 +27,7 @@ impl Generator {
             random: Random::new(seed),
             mood: Mood::Writing,
             buffers_right: false,
+            crowds: false,
             long_write: 600,
         }
     }
@@ -45,13 +49,28 @@ impl Generator {
         request
     }
 
-    /// What the mood says, or what the disc is at the edge of.
+    /// What the mood says, what makes a crowd, or what the disc is at the edge of.
     fn kind(&mut self, outline: &Outline) -> Kind {
+        let crowds = self.crowds && !self.random.once_in(8);
+        let of_crowd = outline.next_of_crowd(self.mood).filter(|_| crowds);
+        if let Some(kind) = of_crowd.or_else(|| self.limit_try(outline)) {
+            return kind;
+        }
         let edge = outline.edge().filter(|edge| match edge {
             Kind::Finalize => self.random.once_in(30),
             _ => self.random.once_in(3),
         });
         edge.unwrap_or_else(|| KINDS[self.random.weighted(&self.mood.weights())])
+    }
+
+    /// Now and then what tries the limit of records, if the list is at it.
+    fn limit_try(&mut self, outline: &Outline) -> Option<Kind> {
+        let tries = outline.limit_tries();
+        if tries.is_empty() || self.random.once_in(2) {
+            return None;
+        }
+        let kind = self.random.pick(tries);
+        (kind != Kind::Finalize || self.random.once_in(2)).then_some(kind)
     }
 
     /// Sets the bytes that document 01 names; all others stay random.
@@ -145,6 +164,7 @@ impl Generator {
                 self.place(outline, |place| place.is_incomplete() && place.reserved)
             }
             Mood::Filling => self.place(outline, Place::is_tail),
+            Mood::Fragmenting if self.crowds => self.place(outline, Place::is_tail),
             _ => None,
         };
         preferred.or_else(|| self.place(outline, Place::is_incomplete))
@@ -161,6 +181,7 @@ impl Generator {
             Mood::Closing if self.random.once_in(8) => {
                 return self.length_to_session_edge(outline, place)
             }
+            Mood::Fragmenting if self.crowds => return self.random.between(1, to_block_end),
             Mood::Fragmenting if !self.random.once_in(6) => return self.random.between(1, 20),
             _ => {}
         }
@@ -216,7 +237,9 @@ impl Generator {
         block[0] = blocks::RESERVE;
         let room = outline.places.last().map_or(0, |place| place.room);
         let most = room.saturating_sub(32);
+        let crowds = self.crowds && outline.next_of_crowd(Mood::Reserving).is_some();
         let size = match self.random.below(if self.mood == Mood::Reserving { 120 } else { 16 }) {
+            _ if crowds => self.random.between(1, 16),
             0 => 0,
             1 if self.random.once_in(4) => most,
             2 => most + 1,
@@ -234,6 +257,7 @@ impl Generator {
         set_function(block, blocks::FRAGMENT);
         let count = outline.places.len() as u64;
         let number = match self.random.below(20) {
+            _ if self.crowds && !self.random.once_in(6) => count,
             _ if self.mood == Mood::Fragmenting && self.random.once_in(2) => count,
             0 => 0,
             1 => count + 1,
@@ -267,6 +291,7 @@ impl Generator {
             2 => 0xFF,
             3 => self.random.draw() << 8 | 0xFF,
             4 => self.random.draw() << 8 | count,
+            5 => count,
             _ => self.random.between(1, count),
         };
         blocks::set_value(block, value as u32);
@@ -314,10 +339,13 @@ impl Generator {
         base.saturating_add_signed(step)
     }
 
-    /// Any fragment of the wanted sort.
+    /// Any fragment of the wanted sort, the last one more often than others.
     fn place(&mut self, outline: &Outline, wanted: impl Fn(&Place) -> bool) -> Option<Place> {
         let count = outline.places.iter().filter(|place| wanted(place)).count();
-        let drawn = self.random.below(count as u64) as usize;
+        let drawn = match self.random.once_in(6) {
+            true => count.saturating_sub(1),
+            false => self.random.below(count as u64) as usize,
+        };
         outline.places.iter().filter(|place| wanted(place)).nth(drawn).copied()
     }
 

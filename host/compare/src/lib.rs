@@ -10,6 +10,7 @@ mod bench;
 mod coverage;
 pub mod demand3;
 mod drive;
+mod event;
 mod generator;
 mod history;
 mod mood;

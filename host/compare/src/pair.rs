@@ -2,15 +2,17 @@
 //! what they leave is compared.
 
 use crate::coverage::answer_name;
+use crate::event::Event;
 use crate::pool::{fill_from_pool, pool, OFFSETS};
-use crate::situations::Event;
 use crate::{Coverage, Drive, Random, Request};
-use gladhamre::{Answer, Lent, State, BLOCK_BYTES, SECTOR_BYTES, STATE_WORDS};
+use gladhamre::{
+    Answer, Lent, State, BLOCK_BYTES, RECORD_LIMIT, RECORD_WORDS, SECTOR_BYTES, STATE_WORDS,
+};
 use std::fmt;
 use std::ops::Range;
 
-/// Words allocated for a state image: some more than it has, to lend too many.
-const IMAGE_ROOM: usize = 400;
+/// Words allocated for a state image: a record and some more than it has, to lend too many.
+pub const IMAGE_ROOM: usize = STATE_WORDS + RECORD_WORDS + 3;
 
 /// Bytes allocated for a pending buffer.
 const PENDING_ROOM: usize = BLOCK_BYTES + SECTOR_BYTES;
@@ -191,7 +193,7 @@ impl<'a> Pair<'a> {
         same("word of the state", &self.left.image, &self.right.image)?;
         same("byte of the reply buffer", &self.left.reply, &self.right.reply)?;
         same("byte of the pending buffer", &self.left.pending, &self.right.pending)?;
-        for index in 0..gladhamre::RECORD_LIMIT {
+        for index in 0..RECORD_LIMIT {
             let bytes = self.touched(before, after, index);
             same(
                 "byte of the touched stretch",

@@ -5,7 +5,8 @@ use compare::{Drive, Linked};
 use gladhamre::blocks::{self, Block};
 use gladhamre::{State, RECORD_LIMIT, SECTOR_BYTES};
 
-pub const CAPACITY: u32 = 300;
+/// Blocks of the disc: room for a full list, and for a session after it.
+pub const CAPACITY: u32 = 500;
 const BLOCK_SECTORS: u32 = 16;
 
 /// Sectors recorded in the tail, enough for the longest READ.
@@ -14,7 +15,8 @@ const READABLE: u16 = 64;
 /// A command, and the state on which it is given again and again.
 pub struct Case {
     pub name: String,
-    pub list: &'static str,
+    /// How long the list is, in words.
+    pub list: String,
     pub block: Block,
     pub start: State,
     /// The bytes that the command moves.
@@ -66,11 +68,12 @@ impl Maker<'_> {
 /// Every case, in the order of the table.
 pub fn cases(buffers: &mut Buffers) -> Vec<Case> {
     let mut cases = Vec::new();
-    for (list, before_tail) in [("1 record", 0), ("64 records", RECORD_LIMIT - 1)] {
+    for records in [1, RECORD_LIMIT] {
         let mut add = |name: String, block: Block, start: &State, bytes: usize| {
+            let list = list_of(records);
             cases.push(Case { name, list, block, start: start.clone(), bytes });
         };
-        let mut disc = Maker::with_fragments(before_tail, buffers);
+        let mut disc = Maker::with_fragments(records - 1, buffers);
         disc.write(READABLE);
         let start = disc.state.clone();
         add("TEST UNIT READY".into(), blocks::opcode_only(blocks::TEST_UNIT_READY), &start, 0);
@@ -96,20 +99,28 @@ pub fn cases(buffers: &mut Buffers) -> Vec<Case> {
     cases
 }
 
-/// RESERVE needs a blank tail, and with 63 records makes the 64th; so does CLOSE 010 with 64 of
-/// which the blank tail is dropped.
+/// A list of so many records, in words.
+fn list_of(records: usize) -> String {
+    match records {
+        1 => "1 record".into(),
+        _ => format!("{records} records"),
+    }
+}
+
+/// RESERVE needs a blank tail, and makes the last record where one is free; so does CLOSE 010 with a
+/// full list of which the blank tail is dropped.
 fn list_changes(buffers: &mut Buffers) -> Vec<Case> {
     let mut cases = Vec::new();
     let close = blocks::close(blocks::SESSION, 0);
     let reserve = blocks::reserve(BLOCK_SECTORS);
-    for (name, list, block, before_tail) in [
-        ("RESERVE", "1 record", reserve, 0),
-        ("RESERVE", "63 records", reserve, RECORD_LIMIT - 2),
-        ("CLOSE 010", "2 records", close, 1),
-        ("CLOSE 010", "64 records", close, RECORD_LIMIT - 1),
+    for (name, block, records) in [
+        ("RESERVE", reserve, 1),
+        ("RESERVE", reserve, RECORD_LIMIT - 1),
+        ("CLOSE 010", close, 2),
+        ("CLOSE 010", close, RECORD_LIMIT),
     ] {
-        let start = Maker::with_fragments(before_tail, buffers).state;
-        cases.push(Case { name: name.into(), list, block, start, bytes: 0 });
+        let start = Maker::with_fragments(records - 1, buffers).state;
+        cases.push(Case { name: name.into(), list: list_of(records), block, start, bytes: 0 });
     }
     cases
 }

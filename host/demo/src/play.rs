@@ -125,10 +125,12 @@ pub fn play(run: &Run, out: &mut impl Write) -> io::Result<(Disc, usize)> {
     writeln!(out, "\n{}\n", run.title)?;
     table::heading(out)?;
     for (index, line) in run.lines.iter().enumerate() {
+        let before = disc.state.clone();
         let outcome = disc.send(&line.block, &data_bytes(&line.data, &line.block));
         let differences = line.expected.as_ref().map(|e| e.differences(&outcome, &disc));
         wrong += usize::from(differences.as_ref().is_some_and(|found| !found.is_empty()));
-        table::row(out, index + 1, &line.block, &outcome, &disc, differences.as_deref())?;
+        let command = table::Command { block: &line.block, outcome: &outcome, before: &before };
+        table::row(out, index + 1, &command, &disc, differences.as_deref())?;
     }
     Ok((disc, wrong))
 }

@@ -1,6 +1,6 @@
 //! One command with the states before and after it, and what can be asked of it.
 
-use crate::blocks::{self, Block};
+use crate::cdb::{self, Cdb};
 use gladhamre::{Answer, Record, State, RECORD_LIMIT};
 
 /// Blocks between two sessions.
@@ -8,7 +8,7 @@ const SESSION_GAP: u32 = 128;
 
 /// One command with the states before and after it.
 pub struct Event<'a> {
-    pub block: &'a Block,
+    pub cdb: &'a Cdb,
     pub answer: &'a Answer,
     pub before: &'a State,
     pub after: &'a State,
@@ -30,44 +30,44 @@ fn is_tail(record: &Record) -> bool {
 
 impl Event<'_> {
     pub fn accepted(&self, opcode: u8) -> bool {
-        self.block[0] == opcode && self.answer.number == 0
+        self.cdb[0] == opcode && self.answer.number == 0
     }
 
     pub fn refused(&self, opcode: u8, number: u32) -> bool {
-        self.block[0] == opcode && self.answer.number == number
+        self.cdb[0] == opcode && self.answer.number == number
     }
 
     pub fn closed(&self, function: u8) -> bool {
-        self.accepted(blocks::CLOSE) && self.block[2] & 0b111 == function
+        self.accepted(cdb::CLOSE) && self.cdb[2] & 0b111 == function
     }
 
     pub fn close_refused(&self, function: u8, number: u32) -> bool {
-        self.refused(blocks::CLOSE, number) && self.block[2] & 0b111 == function
+        self.refused(cdb::CLOSE, number) && self.cdb[2] & 0b111 == function
     }
 
     /// 52h by number, answered so.
     pub fn named(&self, value: usize, number: u32) -> bool {
-        self.block[0] == blocks::READ_FRAGMENT_INFORMATION
-            && self.block[1] & 0b11 == 1
+        self.cdb[0] == cdb::READ_FRAGMENT_INFORMATION
+            && self.cdb[1] & 0b11 == 1
             && self.address() == value as u64
             && self.answer.number == number
     }
 
     /// 52h by address, accepted.
     pub fn located(&self) -> bool {
-        self.accepted(blocks::READ_FRAGMENT_INFORMATION) && self.block[1] & 0b11 == 0
+        self.accepted(cdb::READ_FRAGMENT_INFORMATION) && self.cdb[1] & 0b11 == 0
     }
 
     pub fn address(&self) -> u64 {
-        blocks::run(self.block).0.into()
+        cdb::run(self.cdb).0.into()
     }
 
     pub fn length(&self) -> u16 {
-        blocks::run(self.block).1
+        cdb::run(self.cdb).1
     }
 
     pub fn number(&self) -> u32 {
-        u16::from_be_bytes([self.block[4], self.block[5]]).into()
+        u16::from_be_bytes([self.cdb[4], self.cdb[5]]).into()
     }
 
     pub fn last_before(&self) -> Record {
@@ -137,7 +137,7 @@ impl Event<'_> {
 
     /// A RESERVE leaves at least one block for the new tail.
     pub fn reservation_fits(&self) -> bool {
-        let size = u32::from_be_bytes([self.block[5], self.block[6], self.block[7], self.block[8]]);
+        let size = u32::from_be_bytes([self.cdb[5], self.cdb[6], self.cdb[7], self.cdb[8]]);
         let new_tail = u64::from(self.last_before().start) + u64::from(size.div_ceil(16)) + 1;
         new_tail < self.before.capacity().into()
     }

@@ -28,7 +28,7 @@ mod unsound;
 pub use coverage::{answer_name, command_name, Coverage};
 pub use drive::{Drive, Linked, Plain};
 pub use generator::Generator;
-pub use gladhamre::blocks;
+pub use gladhamre::cdb;
 pub use mood::Mood;
 pub use pair::{Difference, Pair};
 pub use pool::pool;

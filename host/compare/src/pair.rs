@@ -59,7 +59,7 @@ impl<'a> Side<'a> {
         self.reply.clear();
         self.reply.extend_from_slice(stale_reply);
         let lent = Lent {
-            block: &request.block,
+            cdb: &request.cdb,
             data: request.data(),
             medium: &mut self.medium[..request.medium_length],
             pending: &mut self.pending[..request.pending_length],
@@ -168,10 +168,10 @@ impl<'a> Pair<'a> {
         self.compare_after(&left, &right, &before, &after)
             .map_err(|what| self.difference(&what, request, &before))?;
         match &request.twelve() {
-            Some(block) => {
-                self.coverage.note(&Event { block, answer: &left, before: &before, after: &after })
+            Some(cdb) => {
+                self.coverage.note(&Event { cdb, answer: &left, before: &before, after: &after })
             }
-            None => self.coverage.note_cut_block(left.number),
+            None => self.coverage.note_cut_cdb(left.number),
         }
         self.commands_since_whole += 1;
         if self.commands_since_whole * BYTES_FOR_A_COMMAND > self.allocated() {
@@ -225,12 +225,12 @@ impl<'a> Pair<'a> {
     fn difference(&self, what: &str, request: &Request, before: &State) -> Difference {
         let records: Vec<_> = before.records().collect();
         self.differ_in(&format!(
-            "{what}\nafter command {} of this comparison, block {:02X?}, {} bytes of data, \
+            "{what}\nafter command {} of this comparison, command block {:02X?}, {} bytes of data, \
              {} of reply buffer, {} of medium, {} of pending buffer, {} state words\n\
              on a disc of {} blocks, finalized {}, sense {:X?}, {} pending in fragment {}, \
              {records:?}",
             self.coverage.commands + 1,
-            request.block,
+            request.cdb,
             request.data_length,
             request.reply_length,
             request.medium_length,

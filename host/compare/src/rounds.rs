@@ -1,6 +1,6 @@
 //! The rounds of a comparison: sequences from a blank disc, states injected, junk.
 
-use crate::blocks::{opcode_only, TEST_UNIT_READY};
+use crate::cdb::{opcode_only, TEST_UNIT_READY};
 use crate::pair::IMAGE_ROOM;
 use crate::{states, unsound, Coverage, Difference, Drive, Generator, Mood, Pair, Random, Request};
 use gladhamre::{State, RECORD_LIMIT, STATE_WORDS};

@@ -1,7 +1,7 @@
 //! Situations at the edges of document 01's rules. A comparison that never meets one has not tried
 //! that rule.
 
-use crate::blocks;
+use crate::cdb;
 use crate::event::{is_full, lacks_one, Event};
 use gladhamre::RECORD_LIMIT;
 
@@ -10,116 +10,112 @@ type Situation = (&'static str, fn(&Event) -> bool);
 
 /// The situations.
 pub const SITUATIONS: [Situation; 37] = [
-    ("WRITE flushes another fragment", |event| event.accepted(blocks::WRITE) && event.flushed()),
-    ("WRITE fills its fragment exactly", |event| {
-        event.accepted(blocks::WRITE) && event.completed()
-    }),
+    ("WRITE flushes another fragment", |event| event.accepted(cdb::WRITE) && event.flushed()),
+    ("WRITE fills its fragment exactly", |event| event.accepted(cdb::WRITE) && event.completed()),
     ("WRITE of length 0 while sectors are pending", |event| {
-        event.accepted(blocks::WRITE) && event.length() == 0 && event.before.pending_count() > 0
+        event.accepted(cdb::WRITE) && event.length() == 0 && event.before.pending_count() > 0
     }),
     ("WRITE where a flush would make the address right", |event| {
-        event.refused(blocks::WRITE, 0x052102) && event.address() == event.next_after_flush()
+        event.refused(cdb::WRITE, 0x052102) && event.address() == event.next_after_flush()
     }),
     ("RESERVE while sectors are pending", |event| {
-        event.accepted(blocks::RESERVE) && event.before.pending_count() > 0
+        event.accepted(cdb::RESERVE) && event.before.pending_count() > 0
     }),
     ("RESERVE leaves a tail of one block", |event| {
-        event.accepted(blocks::RESERVE) && event.last_after().length == 1
+        event.accepted(cdb::RESERVE) && event.last_after().length == 1
     }),
     ("RESERVE refused because the tail has pending sectors only", |event| {
-        event.refused(blocks::RESERVE, 0x057205) && event.tail_has_pending_only()
+        event.refused(cdb::RESERVE, 0x057205) && event.tail_has_pending_only()
     }),
     ("001 flushes another fragment than its own", |event| {
-        event.closed(blocks::FRAGMENT)
+        event.closed(cdb::FRAGMENT)
             && event.flushed()
             && event.number() != event.before.pending_fragment()
     }),
     ("001 fills a reserved fragment that is written in part", |event| {
-        event.closed(blocks::FRAGMENT) && event.completed() && event.answer.recorded > 1
+        event.closed(cdb::FRAGMENT) && event.completed() && event.answer.recorded > 1
     }),
     ("001 makes no tail because one block is left", |event| {
-        event.lost_tail(blocks::FRAGMENT) && event.last_end() + 1 == event.before.capacity()
+        event.lost_tail(cdb::FRAGMENT) && event.last_end() + 1 == event.before.capacity()
     }),
     ("001 makes no tail because its flush fills the disc", |event| {
-        event.lost_tail(blocks::FRAGMENT) && event.last_end() == event.before.capacity()
+        event.lost_tail(cdb::FRAGMENT) && event.last_end() == event.before.capacity()
     }),
     ("010 where a flush completes a reserved fragment", |event| {
-        event.closed(blocks::SESSION) && event.flushed_reserved()
+        event.closed(cdb::SESSION) && event.flushed_reserved()
     }),
     ("010 makes a session of one block", |event| {
-        event.closed(blocks::SESSION)
+        event.closed(cdb::SESSION)
             && event.last_after().session > event.last_before().session
             && event.last_after().length == 1
     }),
     ("110 drops an empty session", |event| {
-        event.closed(blocks::FINALIZE)
+        event.closed(cdb::FINALIZE)
             && event.after.finalized() > event.before.finalized()
             && event.last_after().session < event.last_before().session
     }),
-    ("RESERVE makes the last record", |event| {
-        event.accepted(blocks::RESERVE) && is_full(event.after)
-    }),
+    ("RESERVE makes the last record", |event| event.accepted(cdb::RESERVE) && is_full(event.after)),
     ("RESERVE refused by a full list alone", |event| {
-        event.refused(blocks::RESERVE, 0x057205)
+        event.refused(cdb::RESERVE, 0x057205)
             && is_full(event.before)
             && event.tail_is_blank()
             && event.reservation_fits()
     }),
     ("RESERVE refused by a full list where the disc has no room either", |event| {
-        event.refused(blocks::RESERVE, 0x057205)
+        event.refused(cdb::RESERVE, 0x057205)
             && is_full(event.before)
             && event.tail_is_blank()
             && !event.reservation_fits()
     }),
     ("001 makes a tail in the last record", |event| {
-        event.closed(blocks::FRAGMENT) && lacks_one(event.before) && is_full(event.after)
+        event.closed(cdb::FRAGMENT) && lacks_one(event.before) && is_full(event.after)
     }),
     ("001 makes no tail because the list is full", |event| {
-        event.lost_tail(blocks::FRAGMENT)
+        event.lost_tail(cdb::FRAGMENT)
             && is_full(event.before)
             && event.last_end() + 1 < event.before.capacity()
     }),
     ("001 of the number after a full list", |event| {
-        event.close_refused(blocks::FRAGMENT, 0x052400)
+        event.close_refused(cdb::FRAGMENT, 0x052400)
             && is_full(event.before)
             && event.number() == RECORD_LIMIT as u32 + 1
     }),
     ("010 drops the blank tail of a full list", |event| {
-        event.closed(blocks::SESSION)
+        event.closed(cdb::SESSION)
             && is_full(event.before)
             && event.last_after().session > event.last_before().session
     }),
     ("010 cuts a tail and makes a session in the last record", |event| {
-        event.closed(blocks::SESSION)
+        event.closed(cdb::SESSION)
             && lacks_one(event.before)
             && event.tail_is_written()
             && is_full(event.after)
     }),
     ("010 refused by a full list alone", |event| {
-        event.close_refused(blocks::SESSION, 0x057205) && event.session_fits()
+        event.close_refused(cdb::SESSION, 0x057205) && event.session_fits()
     }),
     ("010 refused by a full list where the disc has no room either", |event| {
-        event.close_refused(blocks::SESSION, 0x057205) && !event.session_fits()
+        event.close_refused(cdb::SESSION, 0x057205) && !event.session_fits()
     }),
     ("010 refused by a full list whose tail has pending sectors only", |event| {
-        event.close_refused(blocks::SESSION, 0x057205) && event.tail_has_pending_only()
+        event.close_refused(cdb::SESSION, 0x057205) && event.tail_has_pending_only()
     }),
     ("010 leaves a full list whose last session is only a blank tail", |event| {
-        event.closed(blocks::SESSION)
+        event.closed(cdb::SESSION)
             && is_full(event.before)
             && event.tail_is_blank()
             && event.last_after() == event.last_before()
     }),
     ("110 keeps a full list", |event| {
-        event.closed(blocks::FINALIZE)
+        event.closed(cdb::FINALIZE)
             && event.after.finalized() > event.before.finalized()
             && is_full(event.after)
     }),
     ("110 drops the blank tail of a full list", |event| {
-        event.closed(blocks::FINALIZE) && is_full(event.before) && lacks_one(event.after)
+        event.closed(cdb::FINALIZE) && is_full(event.before) && lacks_one(event.after)
     }),
     ("51h on a full list", |event| {
-        event.accepted(blocks::READ_DISC_INFORMATION) && is_full(event.before)
+        event.accepted(cdb::READ_DISC_INFORMATION) && is_full(event.before)
     }),
     ("52h of the last record's number", |event| event.named(RECORD_LIMIT, 0)),
     ("52h of the number after a full list", |event| {
@@ -133,13 +129,13 @@ pub const SITUATIONS: [Situation; 37] = [
         event.located() && event.reaches_last_record()
     }),
     ("READ in the last record", |event| {
-        event.accepted(blocks::READ) && event.length() > 0 && event.reaches_last_record()
+        event.accepted(cdb::READ) && event.length() > 0 && event.reaches_last_record()
     }),
     ("WRITE leaves sectors pending in the last record", |event| {
-        event.accepted(blocks::WRITE) && event.after.pending_fragment() == RECORD_LIMIT as u32
+        event.accepted(cdb::WRITE) && event.after.pending_fragment() == RECORD_LIMIT as u32
     }),
     ("WRITE to another fragment flushes the last record", |event| {
-        event.accepted(blocks::WRITE)
+        event.accepted(cdb::WRITE)
             && event.flushed()
             && event.before.pending_fragment() == RECORD_LIMIT as u32
     }),

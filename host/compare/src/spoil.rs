@@ -1,4 +1,4 @@
-//! Lengths that are wrong: of block, data, reply buffer, medium, pending buffer or state image.
+//! Lengths that are wrong: of command block, data, reply buffer, medium, pending buffer or state image.
 
 use crate::pair::IMAGE_ROOM;
 use crate::{Generator, Request};
@@ -9,7 +9,7 @@ impl Generator {
     pub(crate) fn spoil(&mut self, request: &mut Request, allocated: usize) {
         loop {
             match self.random.below(if self.buffers_right { 3 } else { 6 }) {
-                0 => self.spoil_block(&mut request.block),
+                0 => self.spoil_cdb(&mut request.cdb),
                 1 => request.data_length = self.wrong_data_length(request.data_length),
                 2 => request.reply_length = self.shorter(request.reply_length),
                 3 => {
@@ -25,9 +25,9 @@ impl Generator {
         }
     }
 
-    fn spoil_block(&mut self, block: &mut Vec<u8>) {
+    fn spoil_cdb(&mut self, cdb: &mut Vec<u8>) {
         let length = self.random.below(21) as usize;
-        block.resize(length, self.random.draw() as u8);
+        cdb.resize(length, self.random.draw() as u8);
     }
 
     fn wrong_data_length(&mut self, right: usize) -> usize {

@@ -4,7 +4,7 @@
 use crate::disc::{Disc, Outcome};
 use crate::fragments::{next_writable, pending_in, tail_next};
 use crate::{list, words};
-use gladhamre::blocks::{Block, READ};
+use gladhamre::cdb::{Cdb, READ};
 use gladhamre::{Refusal, State};
 use std::io::{self, Write};
 
@@ -23,7 +23,7 @@ pub fn heading(out: &mut impl Write) -> io::Result<()> {
 
 /// One command, with its answer and the state before it.
 pub struct Command<'a> {
-    pub block: &'a Block,
+    pub cdb: &'a Cdb,
     pub outcome: &'a Outcome,
     pub before: &'a State,
 }
@@ -36,7 +36,7 @@ pub fn row(
     disc: &Disc,
     differences: Option<&[String]>,
 ) -> io::Result<()> {
-    let Command { block, outcome, before } = command;
+    let Command { cdb, outcome, before } = command;
     let recorded = outcome.answer.map_or(0, |accepted| accepted.recorded);
     let cells = [
         &*words::answer(&outcome.answer),
@@ -49,16 +49,16 @@ pub fn row(
         Some([]) => "  ok",
         Some(_) => "  WRONG",
     };
-    line(out, &number.to_string(), &words::command(block), cells, mark)?;
-    for (left, right) in pairs(&lower_left(block, outcome), &shown_list(disc, before)) {
+    line(out, &number.to_string(), &words::command(cdb), cells, mark)?;
+    for (left, right) in pairs(&lower_left(cdb, outcome), &shown_list(disc, before)) {
         writeln!(out, "{}", format!("     {left:<LEFT$} {right}").trim_end())?;
     }
     for difference in differences.unwrap_or_default() {
         writeln!(out, "     NOT AS DOCUMENTED: {difference}")?;
     }
-    if let Some(text) = words::reply(block, &outcome.reply) {
+    if let Some(text) = words::reply(cdb, &outcome.reply) {
         writeln!(out, "     reply of {text}")?;
-        if block[0] != READ {
+        if cdb[0] != READ {
             writeln!(out, "     {}", words::reply_bytes(&outcome.reply))?;
         }
     }
@@ -79,8 +79,8 @@ fn line(
 }
 
 /// The command's bytes, and why the link refused it.
-fn lower_left(block: &Block, outcome: &Outcome) -> Vec<String> {
-    let mut lines = vec![words::hex(block)];
+fn lower_left(cdb: &Cdb, outcome: &Outcome) -> Vec<String> {
+    let mut lines = vec![words::hex(cdb)];
     if let Err(Refusal::Link(number)) = outcome.answer {
         lines.push(words::link_refusal(number).into());
     }

@@ -2,7 +2,7 @@
 
 use demo::map::{self, Sector};
 use demo::{image, play, shift, text, Disc, Map, Run};
-use gladhamre::{blocks, Record, State, RECORD_LIMIT};
+use gladhamre::{cdb, Record, State, RECORD_LIMIT};
 use std::path::Path;
 use std::process::{Command, Output};
 
@@ -270,7 +270,7 @@ fn zero_filled_sectors_are_those_counted() {
         assert_eq!(shown, record.zero_filled as usize);
     }
     for (address, sector) in blocks.iter().flatten().enumerate() {
-        let outcome = disc.send(&blocks::read(address as u32, 1), &[]);
+        let outcome = disc.send(&cdb::read(address as u32, 1), &[]);
         let readable = matches!(sector, Sector::Recorded | Sector::ZeroFilled);
         assert_eq!(outcome.answer.is_ok(), readable, "sector {address}");
         let zeros = outcome.reply.iter().all(|&byte| byte == 0);

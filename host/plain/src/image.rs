@@ -42,11 +42,11 @@ fn command_on_image(
     lent: &mut Lent,
     fault: Option<Fault>,
 ) -> Result<Accepted, Refusal> {
-    let block = lent.command_block()?;
+    let cdb = lent.twelve_bytes()?;
     lent.check_lengths(image.first().map(|&word| word.into()))?;
     let words: &mut [u32; IMAGE_WORDS] = image.try_into().map_err(|_| Refusal::UnsoundState)?;
     let mut disc = Disc::from_image(words, fault)?;
-    let result = disc.obey(Command::decode(&block), lent);
+    let result = disc.obey(Command::decode(&cdb), lent);
     if matches!(result, Ok(_) | Err(Refusal::Drive(_))) {
         disc.write_image(words);
     }

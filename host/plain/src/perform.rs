@@ -16,12 +16,12 @@ impl Disc {
     }
 
     fn answer(&mut self, lent: &mut Lent) -> Result<Accepted, Refusal> {
-        let block = lent.command_block()?;
+        let cdb = lent.twelve_bytes()?;
         lent.check_lengths(Some(self.capacity))?;
-        self.obey(Command::decode(&block), lent)
+        self.obey(Command::decode(&cdb), lent)
     }
 
-    /// L4 and the drive, once block, medium and pending buffer have the right lengths.
+    /// L4 and the drive, once command block, medium and pending buffer have the right lengths.
     pub(crate) fn obey(&mut self, command: Command, lent: &mut Lent) -> Result<Accepted, Refusal> {
         let judged = self.judge(command);
         if !(self.slips(Fault::TransferTestedLate) && judged.is_err()) {

@@ -34,9 +34,9 @@ impl Host {
         host
     }
 
-    fn send(&mut self, block: [u8; 12], sectors: u8) -> Answer {
+    fn send(&mut self, cdb: [u8; 12], sectors: u8) -> Answer {
         self.disc.command(Lent {
-            block: &block,
+            cdb: &cdb,
             data: &vec![0x5A; usize::from(sectors) * SECTOR_BYTES],
             medium: &mut self.medium,
             pending: &mut self.pending,

@@ -69,7 +69,7 @@ impl Drive for Measured {
     }
 
     fn command(&self, image: &mut [u32], lent: Lent) -> Answer {
-        let name = lent.block.try_into().map_or("not 12 bytes", command_name);
+        let name = lent.cdb.try_into().map_or("not 12 bytes", command_name);
         let mut lent = Some(lent);
         let mut answer = None;
         let list_is_full = image.len() == STATE_WORDS

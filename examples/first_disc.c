@@ -12,10 +12,10 @@ static uint8_t data[SECTORS * GLADHAMRE_SECTOR_LENGTH];
 static uint8_t reply[SECTORS * GLADHAMRE_SECTOR_LENGTH];
 
 /* Sends a command block with so many bytes of data, prints what comes of it, and gives the answer's number. */
-static uint32_t command(const char *name, const uint8_t *block, size_t data_length)
+static uint32_t command(const char *name, const uint8_t *cdb, size_t data_length)
 {
     uint64_t reply_count, recorded;
-    uint32_t number = gladhamre_command(block, GLADHAMRE_COMMAND_LENGTH, data, data_length,
+    uint32_t number = gladhamre_command(cdb, GLADHAMRE_COMMAND_LENGTH, data, data_length,
                                         state, GLADHAMRE_STATE_WORDS, medium, sizeof medium,
                                         pending, sizeof pending, reply, sizeof reply,
                                         &reply_count, &recorded);

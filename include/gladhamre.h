@@ -19,12 +19,12 @@ extern "C" {
 #define GLADHAMRE_BLOCK_LENGTH 32768u      /* the pending buffer's length too */
 #define GLADHAMRE_SMALLEST_CAPACITY 256u   /* in blocks */
 #define GLADHAMRE_LARGEST_CAPACITY 143444u /* in blocks */
-#define GLADHAMRE_RECORDS 64u
+#define GLADHAMRE_RECORDS 160u             /* fragments at the most, the tail included */
 
 /* Bytes of stack that a call takes at the most, as measured over every command and every refusal; no proof bounds it. */
 #define GLADHAMRE_STACK_LENGTH 8192u
 
-/* The state image: 391 words of 32 bits. */
+/* The state image: GLADHAMRE_STATE_WORDS words of 32 bits. */
 #define GLADHAMRE_STATE_CAPACITY 0u          /* C in blocks */
 #define GLADHAMRE_STATE_FINALIZED 1u         /* 0 or 1 */
 #define GLADHAMRE_STATE_SENSE_KEY 2u
@@ -32,8 +32,7 @@ extern "C" {
 #define GLADHAMRE_STATE_SENSE_QUALIFIER 4u   /* ASCQ */
 #define GLADHAMRE_STATE_PENDING 5u           /* pending sectors, 0 to 15 */
 #define GLADHAMRE_STATE_PENDING_FRAGMENT 6u  /* the number of their fragment, from 1; 0 with none pending */
-#define GLADHAMRE_STATE_FIRST_RECORD 7u      /* 64 records of six words, those in use first, the others all zero */
-#define GLADHAMRE_STATE_WORDS 391u
+#define GLADHAMRE_STATE_FIRST_RECORD 7u      /* GLADHAMRE_RECORDS records, those in use first, the others all zero */
 
 /* The words of a record. */
 #define GLADHAMRE_RECORD_SESSION 0u
@@ -43,6 +42,9 @@ extern "C" {
 #define GLADHAMRE_RECORD_ZERO_FILLED 4u /* F in sectors */
 #define GLADHAMRE_RECORD_KIND 5u        /* 0 reserved, 1 appended */
 #define GLADHAMRE_RECORD_WORDS 6u
+
+/* The words of the whole image. */
+#define GLADHAMRE_STATE_WORDS (GLADHAMRE_STATE_FIRST_RECORD + GLADHAMRE_RECORDS * GLADHAMRE_RECORD_WORDS)
 
 /* What a function returns: accepted, a refusal on the link, or a refusal by the drive as key, ASC and ASCQ in a byte each. */
 #define GLADHAMRE_ACCEPTED 0x000000u
@@ -61,7 +63,7 @@ extern "C" {
 #define GLADHAMRE_NO_MORE_RESERVATIONS 0x057205u
 #define GLADHAMRE_END_OF_USER_AREA 0x056300u
 
-/* Makes a blank disc of `capacity` blocks in the image `state` of `state_words` words, which must be 391.
+/* Makes a blank disc of `capacity` blocks in the image `state` of `state_words` words, which must be GLADHAMRE_STATE_WORDS.
  * 0: the image of the blank disc. L2: the capacity is out of range, and the image is all zero.
  * An image of another length is not written: L2 for a bad capacity, else L3.
  */
@@ -72,7 +74,7 @@ uint32_t gladhamre_blank(uint32_t capacity, uint32_t *state, size_t state_words)
  * cdb      the command block, 12 bytes.
  * data     the sectors of a WRITE (2Ah), 2,048 bytes for each; empty for every other command. An opcode that is not listed and comes
  *          with data is L4, like every other command with data that it does not take.
- * state    the image, 391 words.
+ * state    the image, GLADHAMRE_STATE_WORDS words.
  * medium   C blocks of 32,768 bytes.
  * pending  the pending buffer, 32,768 bytes.
  * reply    the reply buffer: at least 2,048 bytes for each sector of a READ (28h), 8 for 25h, the allocation length cut to the report

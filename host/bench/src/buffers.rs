@@ -1,6 +1,6 @@
 //! The buffers that both drives share.
 
-use gladhamre::blocks::{self, Block};
+use gladhamre::cdb::{self, Cdb};
 use gladhamre::{Lent, BLOCK_BYTES, SECTOR_BYTES};
 use std::ops::{Deref, DerefMut};
 
@@ -55,10 +55,10 @@ impl Buffers {
     }
 
     /// What is lent for a command.
-    pub fn lend<'a>(&'a mut self, block: &'a Block) -> Lent<'a> {
+    pub fn lend<'a>(&'a mut self, cdb: &'a Cdb) -> Lent<'a> {
         Lent {
-            block,
-            data: &self.data[..blocks::data_length(block)],
+            cdb,
+            data: &self.data[..cdb::data_length(cdb)],
             medium: &mut self.medium,
             pending: &mut self.pending,
             reply: &mut self.reply,

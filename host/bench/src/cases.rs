@@ -2,10 +2,11 @@
 
 use crate::buffers::Buffers;
 use compare::{Drive, Linked};
-use gladhamre::blocks::{self, Block};
+use gladhamre::cdb::{self, Cdb};
 use gladhamre::{State, RECORD_LIMIT, SECTOR_BYTES};
 
-pub const CAPACITY: u32 = 300;
+/// Blocks of the disc: room for a full list, and for a session after it.
+pub const CAPACITY: u32 = 500;
 const BLOCK_SECTORS: u32 = 16;
 
 /// Sectors recorded in the tail, enough for the longest READ.
@@ -14,8 +15,9 @@ const READABLE: u16 = 64;
 /// A command, and the state on which it is given again and again.
 pub struct Case {
     pub name: String,
-    pub list: &'static str,
-    pub block: Block,
+    /// How long the list is, in words.
+    pub list: String,
+    pub cdb: Cdb,
     pub start: State,
     /// The bytes that the command moves.
     pub bytes: usize,
@@ -34,18 +36,18 @@ impl Maker<'_> {
         let mut maker = Maker { state, buffers };
         for number in 1..=count as u16 {
             maker.write(BLOCK_SECTORS as u16);
-            maker.send(blocks::close(blocks::FRAGMENT, number));
+            maker.send(cdb::close(cdb::FRAGMENT, number));
         }
         maker
     }
 
-    fn send(&mut self, block: Block) {
-        let answer = Linked.command(self.state.words_mut(), self.buffers.lend(&block));
-        assert_eq!(answer.number, 0, "{block:02X?} is accepted");
+    fn send(&mut self, cdb: Cdb) {
+        let answer = Linked.command(self.state.words_mut(), self.buffers.lend(&cdb));
+        assert_eq!(answer.number, 0, "{cdb:02X?} is accepted");
     }
 
     fn write(&mut self, sectors: u16) {
-        self.send(blocks::write(self.next(), sectors));
+        self.send(cdb::write(self.next(), sectors));
     }
 
     fn tail(&self) -> u16 {
@@ -66,50 +68,59 @@ impl Maker<'_> {
 /// Every case, in the order of the table.
 pub fn cases(buffers: &mut Buffers) -> Vec<Case> {
     let mut cases = Vec::new();
-    for (list, before_tail) in [("1 record", 0), ("64 records", RECORD_LIMIT - 1)] {
-        let mut add = |name: String, block: Block, start: &State, bytes: usize| {
-            cases.push(Case { name, list, block, start: start.clone(), bytes });
+    for records in [1, RECORD_LIMIT] {
+        let mut add = |name: String, cdb: Cdb, start: &State, bytes: usize| {
+            let list = list_of(records);
+            cases.push(Case { name, list, cdb, start: start.clone(), bytes });
         };
-        let mut disc = Maker::with_fragments(before_tail, buffers);
+        let mut disc = Maker::with_fragments(records - 1, buffers);
         disc.write(READABLE);
         let start = disc.state.clone();
-        add("TEST UNIT READY".into(), blocks::opcode_only(blocks::TEST_UNIT_READY), &start, 0);
+        add("TEST UNIT READY".into(), cdb::opcode_only(cdb::TEST_UNIT_READY), &start, 0);
         for sectors in [1, 16, 64] {
             let bytes = usize::from(sectors) * SECTOR_BYTES;
-            add(format!("READ {sectors}"), blocks::read(disc.tail_start(), sectors), &start, bytes);
+            add(format!("READ {sectors}"), cdb::read(disc.tail_start(), sectors), &start, bytes);
         }
         for sectors in [1, 16, 64] {
             let bytes = usize::from(sectors) * SECTOR_BYTES;
-            add(format!("WRITE {sectors}"), blocks::write(disc.next(), sectors), &start, bytes);
+            add(format!("WRITE {sectors}"), cdb::write(disc.next(), sectors), &start, bytes);
         }
-        add("51h".into(), blocks::read_disc_information(34), &start, 0);
-        let by_address = blocks::read_fragment_information(0, disc.tail_start(), 36);
+        add("51h".into(), cdb::read_disc_information(34), &start, 0);
+        let by_address = cdb::read_fragment_information(0, disc.tail_start(), 36);
         add("52h by address".into(), by_address, &start, 0);
-        let by_number = blocks::read_fragment_information(1, disc.tail().into(), 36);
+        let by_number = cdb::read_fragment_information(1, disc.tail().into(), 36);
         add("52h by number".into(), by_number, &start, 0);
-        add("CLOSE 001".into(), blocks::close(blocks::FRAGMENT, disc.tail()), &start, 0);
+        add("CLOSE 001".into(), cdb::close(cdb::FRAGMENT, disc.tail()), &start, 0);
         disc.write(4);
         let bytes = 64 * SECTOR_BYTES;
-        add("WRITE 64, 4 pending".into(), blocks::write(disc.next(), 64), &disc.state, bytes);
+        add("WRITE 64, 4 pending".into(), cdb::write(disc.next(), 64), &disc.state, bytes);
     }
     cases.extend(list_changes(buffers));
     cases
 }
 
-/// RESERVE needs a blank tail, and with 63 records makes the 64th; so does CLOSE 010 with 64 of
-/// which the blank tail is dropped.
+/// A list of so many records, in words.
+fn list_of(records: usize) -> String {
+    match records {
+        1 => "1 record".into(),
+        _ => format!("{records} records"),
+    }
+}
+
+/// RESERVE needs a blank tail, and makes the last record where one is free; so does CLOSE 010 with a
+/// full list of which the blank tail is dropped.
 fn list_changes(buffers: &mut Buffers) -> Vec<Case> {
     let mut cases = Vec::new();
-    let close = blocks::close(blocks::SESSION, 0);
-    let reserve = blocks::reserve(BLOCK_SECTORS);
-    for (name, list, block, before_tail) in [
-        ("RESERVE", "1 record", reserve, 0),
-        ("RESERVE", "63 records", reserve, RECORD_LIMIT - 2),
-        ("CLOSE 010", "2 records", close, 1),
-        ("CLOSE 010", "64 records", close, RECORD_LIMIT - 1),
+    let close = cdb::close(cdb::SESSION, 0);
+    let reserve = cdb::reserve(BLOCK_SECTORS);
+    for (name, cdb, records) in [
+        ("RESERVE", reserve, 1),
+        ("RESERVE", reserve, RECORD_LIMIT - 1),
+        ("CLOSE 010", close, 2),
+        ("CLOSE 010", close, RECORD_LIMIT),
     ] {
-        let start = Maker::with_fragments(before_tail, buffers).state;
-        cases.push(Case { name: name.into(), list, block, start, bytes: 0 });
+        let start = Maker::with_fragments(records - 1, buffers).state;
+        cases.push(Case { name: name.into(), list: list_of(records), cdb, start, bytes: 0 });
     }
     cases
 }

@@ -3,7 +3,7 @@
 use crate::buffers::Buffers;
 use crate::cases::Case;
 use compare::{Drive, Linked, Plain};
-use gladhamre::blocks::WRITE;
+use gladhamre::cdb::WRITE;
 use std::hint::black_box;
 use std::time::{Duration, Instant};
 
@@ -69,8 +69,8 @@ pub fn measure(case: &Case, buffers: &mut Buffers) -> Measured {
 
 fn same_answer(case: &Case, plain: &Plain, buffers: &mut Buffers) {
     let (mut linked_state, mut plain_state) = (case.start.clone(), case.start.clone());
-    let linked = Linked.command(linked_state.words_mut(), buffers.lend(&case.block));
-    let plain = plain.command(plain_state.words_mut(), buffers.lend(&case.block));
+    let linked = Linked.command(linked_state.words_mut(), buffers.lend(&case.cdb));
+    let plain = plain.command(plain_state.words_mut(), buffers.lend(&case.cdb));
     assert_eq!((linked.number, linked), (0, plain), "{}", case.name);
     assert!(linked_state == plain_state, "{}", case.name);
 }
@@ -83,7 +83,7 @@ fn turn(drive: &impl Drive, case: &Case, buffers: &mut Buffers, batches: usize) 
         images.fill(*case.start.words());
         let begun = Instant::now();
         for image in &mut images {
-            black_box(drive.command(black_box(image), buffers.lend(&case.block)));
+            black_box(drive.command(black_box(image), buffers.lend(&case.cdb)));
         }
         time += begun.elapsed();
     }
@@ -95,7 +95,7 @@ fn copy(case: &Case, buffers: &mut Buffers, batches: usize) -> f64 {
     let bytes = case.bytes;
     let begun = Instant::now();
     for _ in 0..batches * BATCH {
-        if case.block[0] == WRITE {
+        if case.cdb[0] == WRITE {
             buffers.medium[..bytes].copy_from_slice(black_box(&buffers.data[..bytes]));
             black_box(&mut buffers.medium);
         } else {

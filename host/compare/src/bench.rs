@@ -35,7 +35,7 @@ impl<'a> Bench<'a> {
     pub fn command(&mut self, request: &Request) -> (Answer, Vec<u8>) {
         let mut reply = vec![0; request.reply_length];
         let lent = Lent {
-            block: &request.block,
+            cdb: &request.cdb,
             data: request.data(),
             medium: &mut self.medium[..request.medium_length],
             pending: &mut self.pending[..request.pending_length],

@@ -1,7 +1,8 @@
 //! What a comparison has reached.
 
-use crate::blocks::{self, Block};
-use crate::situations::{Event, SITUATIONS};
+use crate::cdb::{self, Cdb};
+use crate::event::Event;
+use crate::situations::SITUATIONS;
 use gladhamre::State;
 use std::collections::BTreeMap;
 use std::fmt;
@@ -13,7 +14,7 @@ pub struct Coverage {
     /// How often each command got each answer.
     pub answers: BTreeMap<(&'static str, u32), u64>,
     /// How often each of the situations came.
-    situations: [u64; SITUATIONS.len()],
+    situations: Met,
     pub blocks_recorded: u64,
     pub most_records: usize,
     pub most_sessions: u32,
@@ -27,9 +28,19 @@ pub struct Coverage {
     pub images_injected: u64,
 }
 
+/// A count for each of the situations.
+#[derive(Clone, Debug)]
+struct Met([u64; SITUATIONS.len()]);
+
+impl Default for Met {
+    fn default() -> Met {
+        Met([0; SITUATIONS.len()])
+    }
+}
+
 impl Coverage {
-    /// Counts a command whose block does not have twelve bytes.
-    pub fn note_cut_block(&mut self, number: u32) {
+    /// Counts a command whose command block does not have twelve bytes.
+    pub fn note_cut_cdb(&mut self, number: u32) {
         self.commands += 1;
         *self.answers.entry(("not 12 bytes", number)).or_default() += 1;
     }
@@ -38,11 +49,11 @@ impl Coverage {
     pub fn note(&mut self, event: &Event) {
         self.commands += 1;
         let number = event.answer.number;
-        *self.answers.entry((command_name(event.block), number)).or_default() += 1;
+        *self.answers.entry((command_name(event.cdb), number)).or_default() += 1;
         if !(1..=4).contains(&number) {
             self.blocks_recorded += event.answer.recorded;
             self.note_state(event.after);
-            for (count, (_, is_met)) in self.situations.iter_mut().zip(SITUATIONS) {
+            for (count, (_, is_met)) in self.situations.0.iter_mut().zip(SITUATIONS) {
                 *count += u64::from(is_met(event));
             }
         }
@@ -78,7 +89,7 @@ impl Coverage {
         for (&key, &count) in &other.answers {
             *self.answers.entry(key).or_default() += count;
         }
-        add_counts(&mut self.situations, &other.situations);
+        add_counts(&mut self.situations.0, &other.situations.0);
         self.blocks_recorded += other.blocks_recorded;
         self.most_records = self.most_records.max(other.most_records);
         self.most_sessions = self.most_sessions.max(other.most_sessions);
@@ -91,7 +102,7 @@ impl Coverage {
 
     /// How often each situation came.
     pub fn situations(&self) -> impl Iterator<Item = (u64, &'static str)> + '_ {
-        let named = self.situations.iter().zip(SITUATIONS);
+        let named = self.situations.0.iter().zip(SITUATIONS);
         named.map(|(&count, (name, _))| (count, name))
     }
 
@@ -143,23 +154,23 @@ impl fmt::Display for Coverage {
 }
 
 /// A command as document 01 lists it.
-pub fn command_name(block: &Block) -> &'static str {
-    match (block[0], block[1] & 0b11, block[2] & 0b111) {
-        (blocks::TEST_UNIT_READY, _, _) => "00h",
-        (blocks::REQUEST_SENSE, _, _) => "03h",
-        (blocks::READ_CAPACITY, _, _) => "25h",
-        (blocks::READ, _, _) => "28h READ",
-        (blocks::WRITE, _, _) => "2Ah WRITE",
-        (blocks::SYNCHRONIZE_CACHE, _, _) => "35h",
-        (blocks::READ_DISC_INFORMATION, _, _) => "51h",
-        (blocks::READ_FRAGMENT_INFORMATION, 0, _) => "52h address",
-        (blocks::READ_FRAGMENT_INFORMATION, 1, _) => "52h number",
-        (blocks::READ_FRAGMENT_INFORMATION, _, _) => "52h other",
-        (blocks::RESERVE, _, _) => "53h RESERVE",
-        (blocks::CLOSE, _, blocks::FRAGMENT) => "5Bh CLOSE 001",
-        (blocks::CLOSE, _, blocks::SESSION) => "5Bh CLOSE 010",
-        (blocks::CLOSE, _, blocks::FINALIZE) => "5Bh CLOSE 110",
-        (blocks::CLOSE, _, _) => "5Bh CLOSE other",
+pub fn command_name(cdb: &Cdb) -> &'static str {
+    match (cdb[0], cdb[1] & 0b11, cdb[2] & 0b111) {
+        (cdb::TEST_UNIT_READY, _, _) => "00h",
+        (cdb::REQUEST_SENSE, _, _) => "03h",
+        (cdb::READ_CAPACITY, _, _) => "25h",
+        (cdb::READ, _, _) => "28h READ",
+        (cdb::WRITE, _, _) => "2Ah WRITE",
+        (cdb::SYNCHRONIZE_CACHE, _, _) => "35h",
+        (cdb::READ_DISC_INFORMATION, _, _) => "51h",
+        (cdb::READ_FRAGMENT_INFORMATION, 0, _) => "52h address",
+        (cdb::READ_FRAGMENT_INFORMATION, 1, _) => "52h number",
+        (cdb::READ_FRAGMENT_INFORMATION, _, _) => "52h other",
+        (cdb::RESERVE, _, _) => "53h RESERVE",
+        (cdb::CLOSE, _, cdb::FRAGMENT) => "5Bh CLOSE 001",
+        (cdb::CLOSE, _, cdb::SESSION) => "5Bh CLOSE 010",
+        (cdb::CLOSE, _, cdb::FINALIZE) => "5Bh CLOSE 110",
+        (cdb::CLOSE, _, _) => "5Bh CLOSE other",
         _ => "unlisted",
     }
 }

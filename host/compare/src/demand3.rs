@@ -2,11 +2,11 @@
 //! again with WRITEs cut into parts and other stale bytes.
 
 use crate::bench::Bench;
-use crate::blocks;
+use crate::cdb;
 use crate::history::{Ledger, Writes};
 use crate::outline::{Outline, Place};
 use crate::pool::OFFSETS;
-use crate::rounds::theme;
+use crate::rounds::{crowds_once_in, theme};
 use crate::{Drive, Generator, Random, Request};
 use gladhamre::{Answer, SECTOR_BYTES};
 
@@ -19,6 +19,7 @@ pub struct Tally {
     /// WRITEs tried whole and in parts from the same state, and how many of them were accepted.
     pub tried: u64,
     pub tried_accepted: u64,
+    pub most_records: usize,
 }
 
 /// A command of the first run with its answer.
@@ -57,10 +58,11 @@ fn first_run(
 ) -> Result<Vec<Turn>, String> {
     let mut generator = Generator::new(random.draw());
     generator.buffers_right = true;
+    generator.crowds = random.once_in(crowds_once_in(bench.state.capacity()));
     let mut ledger = Ledger::new(bench.state.capacity());
     let mut writes = Writes::new(bench.state.capacity());
     let mut turns = Vec::new();
-    for (mood, commands) in theme(random) {
+    for (mood, commands) in theme(random, generator.crowds) {
         generator.mood = mood;
         for _ in 0..commands {
             if disturbed && random.once_in(3) {
@@ -71,6 +73,7 @@ fn first_run(
             let (answer, reply) = bench.command(&request);
             writes.note(&request, &answer, &before);
             turns.push(Turn { request, answer, reply });
+            tally.most_records = tally.most_records.max(bench.state.records().count());
             ledger.note(bench)?;
             if random.once_in(40) {
                 try_cut(bench, random, tally)?;
@@ -104,7 +107,7 @@ fn second_run(
             send_parts(bench, turn, &parts, random, disturbed)
         };
         outcome.map_err(|what| {
-            format!("command {number}, block {:02X?}: {what}", turn.request.block)
+            format!("command {number}, command block {:02X?}: {what}", turn.request.cdb)
         })?;
     }
     Ok(())
@@ -149,7 +152,7 @@ fn send_parts(
 
 /// The parts of an accepted WRITE, none if it stays whole.
 fn cut(turn: &Turn, random: &mut Random) -> Vec<Request> {
-    let is_write = turn.request.block[..].first() == Some(&blocks::WRITE);
+    let is_write = turn.request.cdb[..].first() == Some(&cdb::WRITE);
     let long_enough = turn.request.data_length >= 2 * SECTOR_BYTES;
     if turn.answer.number != 0 || !is_write || !long_enough || random.once_in(4) {
         return Vec::new();
@@ -159,15 +162,15 @@ fn cut(turn: &Turn, random: &mut Random) -> Vec<Request> {
 
 /// Cuts a WRITE of two sectors or more.
 fn parts(whole: &Request, random: &mut Random) -> Vec<Request> {
-    let (address, sectors) = whole.twelve().map_or((0, 0), |block| blocks::run(&block));
+    let (address, sectors) = whole.twelve().map_or((0, 0), |cdb| cdb::run(&cdb));
     let mut parts = Vec::new();
     let mut done = 0;
     for length in part_lengths(sectors, random) {
-        let mut block = [0; 12];
-        random.fill(&mut block);
-        block[0] = blocks::WRITE;
-        blocks::set_run(&mut block, address + u32::from(done), length);
-        let mut part = Request::fitting(block, 0);
+        let mut cdb = [0; 12];
+        random.fill(&mut cdb);
+        cdb[0] = cdb::WRITE;
+        cdb::set_run(&mut cdb, address + u32::from(done), length);
+        let mut part = Request::fitting(cdb, 0);
         part.medium_length = whole.medium_length;
         part.data_offset = whole.data_offset + usize::from(done) * SECTOR_BYTES;
         part.reply_length = random.below(100) as usize;
@@ -210,8 +213,8 @@ fn try_cut(bench: &Bench, random: &mut Random, tally: &mut Tally) -> Result<(), 
     tally.tried_accepted += u64::from(accepted);
     if accepted != all_accepted {
         return Err(format!(
-            "block {:02X?}: whole accepted {accepted}, in parts {all_accepted}",
-            request.block
+            "command block {:02X?}: whole accepted {accepted}, in parts {all_accepted}",
+            request.cdb
         ));
     }
     if accepted {
@@ -243,8 +246,8 @@ fn some_write(bench: &Bench, random: &mut Random) -> Request {
         1 => next + 1,
         _ => next,
     };
-    let block = blocks::write(address as u32, sectors.clamp(2, 65_535) as u16);
-    let mut request = Request::fitting(block, bench.state.capacity());
+    let cdb = cdb::write(address as u32, sectors.clamp(2, 65_535) as u16);
+    let mut request = Request::fitting(cdb, bench.state.capacity());
     request.data_offset = random.below(OFFSETS as u64) as usize;
     request
 }

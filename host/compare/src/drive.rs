@@ -51,7 +51,7 @@ impl Drive for Plain {
 
     fn command(&self, image: &mut [u32], lent: Lent) -> Answer {
         let lent = plain::Lent {
-            block: lent.block,
+            cdb: lent.cdb,
             data: lent.data,
             medium: lent.medium,
             pending: lent.pending,

@@ -1,7 +1,7 @@
 //! Requests drawn at random, with an eye on the state: boundaries of fragments, lengths that just
 //! fit or just do not, and now and then junk.
 
-use crate::blocks::{self, Block};
+use crate::cdb::{self, Cdb};
 use crate::mood::{Kind, Mood, KINDS};
 use crate::outline::{Outline, Place};
 use crate::pool::OFFSETS;
@@ -14,6 +14,9 @@ pub struct Generator {
     pub mood: Mood,
     /// State, medium and pending buffer always have the right lengths.
     pub buffers_right: bool,
+    /// Fragments are of one block and made one after another, so that the list is full before the
+    /// disc is.
+    pub crowds: bool,
     /// WRITEs longer than this, in sectors, are rare where they fit.
     pub long_write: u64,
 }
@@ -24,6 +27,7 @@ impl Generator {
             random: Random::new(seed),
             mood: Mood::Writing,
             buffers_right: false,
+            crowds: false,
             long_write: 600,
         }
     }
@@ -31,11 +35,11 @@ impl Generator {
     /// A request for a drive in that state, its medium in a buffer of so many bytes.
     pub fn request(&mut self, state: &State, allocated: usize) -> Request {
         let outline = Outline::new(state);
-        let mut block = [0; 12];
-        self.random.fill(&mut block);
+        let mut cdb = [0; 12];
+        self.random.fill(&mut cdb);
         let kind = self.kind(&outline);
-        self.set_fields(kind, &outline, &mut block);
-        let mut request = Request::fitting(block, state.capacity());
+        self.set_fields(kind, &outline, &mut cdb);
+        let mut request = Request::fitting(cdb, state.capacity());
         request.medium_length = request.medium_length.min(allocated);
         request.data_offset = self.random.below(OFFSETS as u64) as usize;
         request.reply_length += self.extra_room();
@@ -45,8 +49,13 @@ impl Generator {
         request
     }
 
-    /// What the mood says, or what the disc is at the edge of.
+    /// What the mood says, what makes a crowd, or what the disc is at the edge of.
     fn kind(&mut self, outline: &Outline) -> Kind {
+        let crowds = self.crowds && !self.random.once_in(8);
+        let of_crowd = outline.next_of_crowd(self.mood).filter(|_| crowds);
+        if let Some(kind) = of_crowd.or_else(|| self.limit_try(outline)) {
+            return kind;
+        }
         let edge = outline.edge().filter(|edge| match edge {
             Kind::Finalize => self.random.once_in(30),
             _ => self.random.once_in(3),
@@ -54,41 +63,51 @@ impl Generator {
         edge.unwrap_or_else(|| KINDS[self.random.weighted(&self.mood.weights())])
     }
 
+    /// Now and then what tries the limit of records, if the list is at it.
+    fn limit_try(&mut self, outline: &Outline) -> Option<Kind> {
+        let tries = outline.limit_tries();
+        if tries.is_empty() || self.random.once_in(2) {
+            return None;
+        }
+        let kind = self.random.pick(tries);
+        (kind != Kind::Finalize || self.random.once_in(2)).then_some(kind)
+    }
+
     /// Sets the bytes that document 01 names; all others stay random.
-    fn set_fields(&mut self, kind: Kind, outline: &Outline, block: &mut Block) {
+    fn set_fields(&mut self, kind: Kind, outline: &Outline, cdb: &mut Cdb) {
         match kind {
-            Kind::TestUnitReady => block[0] = blocks::TEST_UNIT_READY,
+            Kind::TestUnitReady => cdb[0] = cdb::TEST_UNIT_READY,
             Kind::RequestSense => {
-                block[0] = blocks::REQUEST_SENSE;
-                block[4] = self.allocation(18) as u8;
+                cdb[0] = cdb::REQUEST_SENSE;
+                cdb[4] = self.allocation(18) as u8;
             }
-            Kind::ReadCapacity => block[0] = blocks::READ_CAPACITY,
-            Kind::Read => self.set_read(outline, block),
-            Kind::Write => self.set_write(outline, block),
-            Kind::SynchronizeCache => block[0] = blocks::SYNCHRONIZE_CACHE,
-            Kind::Reserve => self.set_reserve(outline, block),
-            Kind::CloseFragment => self.set_close_fragment(outline, block),
-            Kind::CloseSession => set_function(block, blocks::SESSION),
-            Kind::Finalize => set_function(block, blocks::FINALIZE),
+            Kind::ReadCapacity => cdb[0] = cdb::READ_CAPACITY,
+            Kind::Read => self.set_read(outline, cdb),
+            Kind::Write => self.set_write(outline, cdb),
+            Kind::SynchronizeCache => cdb[0] = cdb::SYNCHRONIZE_CACHE,
+            Kind::Reserve => self.set_reserve(outline, cdb),
+            Kind::CloseFragment => self.set_close_fragment(outline, cdb),
+            Kind::CloseSession => set_function(cdb, cdb::SESSION),
+            Kind::Finalize => set_function(cdb, cdb::FINALIZE),
             Kind::CloseOther => {
                 let function = self.random.pick(&[0b000, 0b011, 0b100, 0b101, 0b111]);
-                set_function(block, function);
+                set_function(cdb, function);
             }
-            Kind::DiscInformation => self.set_disc_information(block),
-            Kind::FragmentInformation => self.set_fragment_information(outline, block),
-            Kind::Junk => self.set_junk(block),
+            Kind::DiscInformation => self.set_disc_information(cdb),
+            Kind::FragmentInformation => self.set_fragment_information(outline, cdb),
+            Kind::Junk => self.set_junk(cdb),
         }
     }
 
-    fn set_read(&mut self, outline: &Outline, block: &mut Block) {
-        block[0] = blocks::READ;
+    fn set_read(&mut self, outline: &Outline, cdb: &mut Cdb) {
+        cdb[0] = cdb::READ;
         let readable = self.place(outline, |place| place.recorded_end > place.first);
         let (from, sectors) = match readable {
             Some(place) if !self.random.once_in(3) => self.read_near(&place),
             _ => self.read_anywhere(outline),
         };
         let sectors = if self.random.once_in(30) { 0 } else { sectors };
-        blocks::set_run(block, from as u32, sectors as u16);
+        cdb::set_run(cdb, from as u32, sectors as u16);
     }
 
     /// A run that begins in the recorded part, and often ends next to its end.
@@ -125,8 +144,8 @@ impl Generator {
         (from, sectors)
     }
 
-    fn set_write(&mut self, outline: &Outline, block: &mut Block) {
-        block[0] = blocks::WRITE;
+    fn set_write(&mut self, outline: &Outline, cdb: &mut Cdb) {
+        cdb[0] = cdb::WRITE;
         let wanted = self.write_target(outline);
         let (to, sectors) = match wanted {
             Some(place) if !self.random.once_in(8) => {
@@ -135,7 +154,7 @@ impl Generator {
             Some(place) => (self.near_miss(&place), self.random.between(0, 40)),
             None => (self.boundary(outline), self.random.between(0, 40)),
         };
-        blocks::set_run(block, to as u32, sectors.min(65_535) as u16);
+        cdb::set_run(cdb, to as u32, sectors.min(65_535) as u16);
     }
 
     /// Some incomplete fragment: reserved ones first where the tail should stay blank.
@@ -145,6 +164,7 @@ impl Generator {
                 self.place(outline, |place| place.is_incomplete() && place.reserved)
             }
             Mood::Filling => self.place(outline, Place::is_tail),
+            Mood::Fragmenting if self.crowds => self.place(outline, Place::is_tail),
             _ => None,
         };
         preferred.or_else(|| self.place(outline, Place::is_incomplete))
@@ -161,6 +181,7 @@ impl Generator {
             Mood::Closing if self.random.once_in(8) => {
                 return self.length_to_session_edge(outline, place)
             }
+            Mood::Fragmenting if self.crowds => return self.random.between(1, to_block_end),
             Mood::Fragmenting if !self.random.once_in(6) => return self.random.between(1, 20),
             _ => {}
         }
@@ -212,11 +233,13 @@ impl Generator {
         }
     }
 
-    fn set_reserve(&mut self, outline: &Outline, block: &mut Block) {
-        block[0] = blocks::RESERVE;
+    fn set_reserve(&mut self, outline: &Outline, cdb: &mut Cdb) {
+        cdb[0] = cdb::RESERVE;
         let room = outline.places.last().map_or(0, |place| place.room);
         let most = room.saturating_sub(32);
+        let crowds = self.crowds && outline.next_of_crowd(Mood::Reserving).is_some();
         let size = match self.random.below(if self.mood == Mood::Reserving { 120 } else { 16 }) {
+            _ if crowds => self.random.between(1, 16),
             0 => 0,
             1 if self.random.once_in(4) => most,
             2 => most + 1,
@@ -226,14 +249,15 @@ impl Generator {
             6 => self.random.between(1, most.max(1)),
             _ => self.random.between(1, 48),
         };
-        blocks::set_size(block, size as u32);
+        cdb::set_size(cdb, size as u32);
     }
 
     /// The last fragment more often than others.
-    fn set_close_fragment(&mut self, outline: &Outline, block: &mut Block) {
-        set_function(block, blocks::FRAGMENT);
+    fn set_close_fragment(&mut self, outline: &Outline, cdb: &mut Cdb) {
+        set_function(cdb, cdb::FRAGMENT);
         let count = outline.places.len() as u64;
         let number = match self.random.below(20) {
+            _ if self.crowds && !self.random.once_in(6) => count,
             _ if self.mood == Mood::Fragmenting && self.random.once_in(2) => count,
             0 => 0,
             1 => count + 1,
@@ -242,23 +266,23 @@ impl Generator {
             4..=9 => count,
             _ => self.random.between(1, count),
         };
-        blocks::set_number(block, number as u16);
+        cdb::set_number(cdb, number as u16);
     }
 
-    fn set_disc_information(&mut self, block: &mut Block) {
-        block[0] = blocks::READ_DISC_INFORMATION;
-        block[1] &= 0b1111_1000;
+    fn set_disc_information(&mut self, cdb: &mut Cdb) {
+        cdb[0] = cdb::READ_DISC_INFORMATION;
+        cdb[1] &= 0b1111_1000;
         if self.random.once_in(8) {
-            block[1] |= self.random.between(1, 7) as u8;
+            cdb[1] |= self.random.between(1, 7) as u8;
         }
         let allocation = self.allocation(34);
-        blocks::set_allocation(block, allocation);
+        cdb::set_allocation(cdb, allocation);
     }
 
-    fn set_fragment_information(&mut self, outline: &Outline, block: &mut Block) {
-        block[0] = blocks::READ_FRAGMENT_INFORMATION;
+    fn set_fragment_information(&mut self, outline: &Outline, cdb: &mut Cdb) {
+        cdb[0] = cdb::READ_FRAGMENT_INFORMATION;
         let by = self.random.weighted(&[10, 10, 1, 1]) as u8;
-        block[1] = block[1] & 0b1111_1100 | by;
+        cdb[1] = cdb[1] & 0b1111_1100 | by;
         let count = outline.places.len() as u64;
         let value = match self.random.below(10) {
             _ if by != 1 => self.boundary(outline),
@@ -267,20 +291,21 @@ impl Generator {
             2 => 0xFF,
             3 => self.random.draw() << 8 | 0xFF,
             4 => self.random.draw() << 8 | count,
+            5 => count,
             _ => self.random.between(1, count),
         };
-        blocks::set_value(block, value as u32);
+        cdb::set_value(cdb, value as u32);
         let allocation = self.allocation(36);
-        blocks::set_allocation(block, allocation);
+        cdb::set_allocation(cdb, allocation);
     }
 
     /// Any bytes, a listed opcode now and then. A READ is kept short: its reply buffer is filled.
-    fn set_junk(&mut self, block: &mut Block) {
+    fn set_junk(&mut self, cdb: &mut Cdb) {
         if self.random.once_in(4) {
-            block[0] = self.random.pick(&blocks::OPCODES);
+            cdb[0] = self.random.pick(&cdb::OPCODES);
         }
-        if block[0] == blocks::READ {
-            block[7] = 0;
+        if cdb[0] == cdb::READ {
+            cdb[7] = 0;
         }
     }
 
@@ -314,10 +339,13 @@ impl Generator {
         base.saturating_add_signed(step)
     }
 
-    /// Any fragment of the wanted sort.
+    /// Any fragment of the wanted sort, the last one more often than others.
     fn place(&mut self, outline: &Outline, wanted: impl Fn(&Place) -> bool) -> Option<Place> {
         let count = outline.places.iter().filter(|place| wanted(place)).count();
-        let drawn = self.random.below(count as u64) as usize;
+        let drawn = match self.random.once_in(6) {
+            true => count.saturating_sub(1),
+            false => self.random.below(count as u64) as usize,
+        };
         outline.places.iter().filter(|place| wanted(place)).nth(drawn).copied()
     }
 
@@ -331,7 +359,7 @@ impl Generator {
     }
 }
 
-fn set_function(block: &mut Block, function: u8) {
-    block[0] = blocks::CLOSE;
-    block[2] = block[2] & 0b1111_1000 | function;
+fn set_function(cdb: &mut Cdb, function: u8) {
+    cdb[0] = cdb::CLOSE;
+    cdb[2] = cdb[2] & 0b1111_1000 | function;
 }

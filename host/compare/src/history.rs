@@ -2,7 +2,7 @@
 
 use crate::bench::{block_bytes, recorded_blocks, Bench};
 use crate::pool::pool;
-use crate::{blocks, Request};
+use crate::{cdb, Request};
 use gladhamre::{Answer, State, RECORD_LIMIT, SECTOR_BYTES};
 
 /// What each recorded block held when it was recorded.
@@ -56,11 +56,11 @@ impl Writes {
 
     /// Enters an accepted WRITE.
     pub fn note(&mut self, request: &Request, answer: &Answer, before: &State) {
-        let Some(block) = request.twelve() else {
+        let Some(cdb) = request.twelve() else {
             return;
         };
-        let (address, sectors) = blocks::run(&block);
-        if block[0] != blocks::WRITE || answer.number != 0 || sectors == 0 {
+        let (address, sectors) = cdb::run(&cdb);
+        if cdb[0] != cdb::WRITE || answer.number != 0 || sectors == 0 {
             return;
         }
         let mut ends = before.records().map(|record| 16 * (record.start + record.length));

@@ -62,7 +62,7 @@ impl Mood {
 }
 
 /// The kinds of requests.
-#[derive(Clone, Copy)]
+#[derive(Clone, Copy, PartialEq, Eq)]
 pub enum Kind {
     TestUnitReady,
     RequestSense,

@@ -1,6 +1,6 @@
 //! What the generator wants to know of a state. It must not trip over junk.
 
-use crate::mood::Kind;
+use crate::mood::{Kind, Mood};
 use gladhamre::{Record, State, RECORD_LIMIT};
 
 /// Sectors between two sessions.
@@ -73,6 +73,45 @@ impl Outline {
         Outline {
             sectors: 16 * u64::from(state.capacity()),
             places: state.records().enumerate().map(place).collect(),
+        }
+    }
+
+    /// The commands that try the limit of records, where at most one is free.
+    pub fn limit_tries(&self) -> &'static [Kind] {
+        match RECORD_LIMIT - self.places.len() {
+            0 => &[
+                Kind::Reserve,
+                Kind::Write,
+                Kind::CloseFragment,
+                Kind::CloseSession,
+                Kind::CloseSession,
+                Kind::Finalize,
+                Kind::Read,
+                Kind::DiscInformation,
+                Kind::FragmentInformation,
+            ],
+            1 => &[
+                Kind::Reserve,
+                Kind::Write,
+                Kind::CloseFragment,
+                Kind::CloseSession,
+                Kind::CloseSession,
+            ],
+            _ => &[],
+        }
+    }
+
+    /// The command that brings a crowd one fragment nearer to the limit, while there is room.
+    pub fn next_of_crowd(&self, mood: Mood) -> Option<Kind> {
+        let last = self.places.last().filter(|place| place.is_tail() && place.room > 32)?;
+        if self.places.len() + 1 >= RECORD_LIMIT {
+            return None;
+        }
+        match (mood, last.is_blank()) {
+            (Mood::Fragmenting, true) => Some(Kind::Write),
+            (Mood::Reserving, true) => Some(Kind::Reserve),
+            (Mood::Fragmenting | Mood::Reserving, false) => Some(Kind::CloseFragment),
+            _ => None,
         }
     }
 

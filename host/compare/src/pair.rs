@@ -2,15 +2,17 @@
 //! what they leave is compared.
 
 use crate::coverage::answer_name;
+use crate::event::Event;
 use crate::pool::{fill_from_pool, pool, OFFSETS};
-use crate::situations::Event;
 use crate::{Coverage, Drive, Random, Request};
-use gladhamre::{Answer, Lent, State, BLOCK_BYTES, SECTOR_BYTES, STATE_WORDS};
+use gladhamre::{
+    Answer, Lent, State, BLOCK_BYTES, RECORD_LIMIT, RECORD_WORDS, SECTOR_BYTES, STATE_WORDS,
+};
 use std::fmt;
 use std::ops::Range;
 
-/// Words allocated for a state image: some more than it has, to lend too many.
-const IMAGE_ROOM: usize = 400;
+/// Words allocated for a state image: a record and some more than it has, to lend too many.
+pub const IMAGE_ROOM: usize = STATE_WORDS + RECORD_WORDS + 3;
 
 /// Bytes allocated for a pending buffer.
 const PENDING_ROOM: usize = BLOCK_BYTES + SECTOR_BYTES;
@@ -57,7 +59,7 @@ impl<'a> Side<'a> {
         self.reply.clear();
         self.reply.extend_from_slice(stale_reply);
         let lent = Lent {
-            block: &request.block,
+            cdb: &request.cdb,
             data: request.data(),
             medium: &mut self.medium[..request.medium_length],
             pending: &mut self.pending[..request.pending_length],
@@ -166,10 +168,10 @@ impl<'a> Pair<'a> {
         self.compare_after(&left, &right, &before, &after)
             .map_err(|what| self.difference(&what, request, &before))?;
         match &request.twelve() {
-            Some(block) => {
-                self.coverage.note(&Event { block, answer: &left, before: &before, after: &after })
+            Some(cdb) => {
+                self.coverage.note(&Event { cdb, answer: &left, before: &before, after: &after })
             }
-            None => self.coverage.note_cut_block(left.number),
+            None => self.coverage.note_cut_cdb(left.number),
         }
         self.commands_since_whole += 1;
         if self.commands_since_whole * BYTES_FOR_A_COMMAND > self.allocated() {
@@ -191,7 +193,7 @@ impl<'a> Pair<'a> {
         same("word of the state", &self.left.image, &self.right.image)?;
         same("byte of the reply buffer", &self.left.reply, &self.right.reply)?;
         same("byte of the pending buffer", &self.left.pending, &self.right.pending)?;
-        for index in 0..gladhamre::RECORD_LIMIT {
+        for index in 0..RECORD_LIMIT {
             let bytes = self.touched(before, after, index);
             same(
                 "byte of the touched stretch",
@@ -223,12 +225,12 @@ impl<'a> Pair<'a> {
     fn difference(&self, what: &str, request: &Request, before: &State) -> Difference {
         let records: Vec<_> = before.records().collect();
         self.differ_in(&format!(
-            "{what}\nafter command {} of this comparison, block {:02X?}, {} bytes of data, \
+            "{what}\nafter command {} of this comparison, command block {:02X?}, {} bytes of data, \
              {} of reply buffer, {} of medium, {} of pending buffer, {} state words\n\
              on a disc of {} blocks, finalized {}, sense {:X?}, {} pending in fragment {}, \
              {records:?}",
             self.coverage.commands + 1,
-            request.block,
+            request.cdb,
             request.data_length,
             request.reply_length,
             request.medium_length,

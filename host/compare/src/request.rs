@@ -1,13 +1,13 @@
 //! What is sent to a drive in one command.
 
-use crate::blocks::{self, Block};
+use crate::cdb::{self, Cdb};
 use crate::pool::pool;
 use gladhamre::{BLOCK_BYTES, STATE_WORDS};
 
 /// A command with the lengths of everything that is lent for it.
 #[derive(Clone, Debug, PartialEq, Eq)]
 pub struct Request {
-    pub block: Vec<u8>,
+    pub cdb: Vec<u8>,
     /// Where in the pool the data begin.
     pub data_offset: usize,
     pub data_length: usize,
@@ -18,17 +18,17 @@ pub struct Request {
 }
 
 impl Request {
-    /// The request of a block with exactly the lengths that it asks for, on a disc of so many
-    /// blocks.
-    pub fn fitting(block: Block, capacity: u32) -> Request {
+    /// The request of a command block with exactly the lengths that it asks for, on a disc of so
+    /// many blocks.
+    pub fn fitting(cdb: Cdb, capacity: u32) -> Request {
         Request {
             data_offset: 0,
-            data_length: blocks::data_length(&block),
-            reply_length: blocks::reply_room(&block),
+            data_length: cdb::data_length(&cdb),
+            reply_length: cdb::reply_room(&cdb),
             state_words: STATE_WORDS,
             medium_length: capacity as usize * BLOCK_BYTES,
             pending_length: BLOCK_BYTES,
-            block: block.to_vec(),
+            cdb: cdb.to_vec(),
         }
     }
 
@@ -37,7 +37,7 @@ impl Request {
     }
 
     /// The twelve bytes, if there are twelve.
-    pub fn twelve(&self) -> Option<Block> {
-        self.block.as_slice().try_into().ok()
+    pub fn twelve(&self) -> Option<Cdb> {
+        self.cdb.as_slice().try_into().ok()
     }
 }

@@ -1,12 +1,14 @@
 //! The rounds of a comparison: sequences from a blank disc, states injected, junk.
 
-use crate::blocks::{opcode_only, TEST_UNIT_READY};
+use crate::cdb::{opcode_only, TEST_UNIT_READY};
+use crate::pair::IMAGE_ROOM;
 use crate::{states, unsound, Coverage, Difference, Drive, Generator, Mood, Pair, Random, Request};
-use gladhamre::{State, STATE_WORDS};
+use gladhamre::{State, RECORD_LIMIT, STATE_WORDS};
 use plain::Rule;
 
-/// Capacities of the discs that sequences run on.
-pub const CAPACITIES: [u32; 3] = [256, 300, 1_000];
+/// Capacities of the discs that sequences run on. The first two are full before the list is; the
+/// third has room for a full list of short fragments, and hardly for a session after it.
+pub const CAPACITIES: [u32; 4] = [256, 300, 480, 1_000];
 
 /// The capacity of the largest disc.
 pub const CAPACITY_LIMIT: u32 = 143_444;
@@ -14,7 +16,7 @@ pub const CAPACITY_LIMIT: u32 = 143_444;
 /// How much a comparison does.
 #[derive(Clone, Copy, Debug)]
 pub struct Effort {
-    /// Sequences from a blank disc, for each of the capacities; some two hundred commands each.
+    /// Sequences from a blank disc, for each of the capacities; some three hundred commands each.
     pub sequences: u64,
     /// Blocks of the largest disc whose state is injected.
     pub injected_blocks: u32,
@@ -29,7 +31,7 @@ pub struct Effort {
 impl Effort {
     /// One round, as much as the gate compares.
     pub const ROUND: Effort = Effort {
-        sequences: 2_000,
+        sequences: 1_200,
         injected_blocks: 1_000,
         sound: 60_000,
         unsound: 1_000,
@@ -85,7 +87,8 @@ pub fn largest_disc(pair: &mut Pair, seed: u64) -> Result<(), Difference> {
 
 fn sequence(pair: &mut Pair, generator: &mut Generator, capacity: u32) -> Result<(), Difference> {
     pair.blank(capacity)?;
-    for (mood, commands) in theme(&mut generator.random) {
+    generator.crowds = generator.random.once_in(crowds_once_in(capacity));
+    for (mood, commands) in theme(&mut generator.random, generator.crowds) {
         generator.mood = mood;
         for _ in 0..commands {
             step(pair, generator)?;
@@ -113,8 +116,11 @@ fn step(pair: &mut Pair, generator: &mut Generator) -> Result<(), Difference> {
 }
 
 /// The moods of a sequence, and for how many commands each lasts.
-pub fn theme(random: &mut Random) -> Vec<(Mood, u64)> {
+pub fn theme(random: &mut Random, crowds: bool) -> Vec<(Mood, u64)> {
     let end = (Mood::Finishing, 60);
+    if crowds {
+        return crowd(random).into_iter().chain([(Mood::Reading, 40), end]).collect();
+    }
     match random.below(7) {
         0 => vec![(Mood::Reserving, 120), (Mood::Completing, 250), (Mood::Closing, 60), end],
         1 => vec![(Mood::Reserving, 80), (Mood::Writing, 150), (Mood::Reading, 60), end],
@@ -122,6 +128,24 @@ pub fn theme(random: &mut Random) -> Vec<(Mood, u64)> {
         3 => vec![(Mood::Closing, 250), (Mood::Reading, 60), end],
         4 => vec![(Mood::Writing, 200), (Mood::Filling, 100), (Mood::Reading, 60), end],
         _ => (0..8).map(|_| (random.pick(&Mood::ALL), 50)).chain([end]).collect(),
+    }
+}
+
+/// A sequence in so many makes a crowd of fragments: more of them where the list can be filled.
+pub fn crowds_once_in(capacity: u32) -> u64 {
+    if capacity as usize >= 2 * RECORD_LIMIT {
+        4
+    } else {
+        12
+    }
+}
+
+/// A full list where the disc has room for it: by fragments closed, reserved, or both.
+fn crowd(random: &mut Random) -> Vec<(Mood, u64)> {
+    match random.below(3) {
+        0 => vec![(Mood::Fragmenting, 450), (Mood::Closing, 30)],
+        1 => vec![(Mood::Reserving, 200), (Mood::Completing, 300), (Mood::Closing, 30)],
+        _ => vec![(Mood::Fragmenting, 200), (Mood::Reserving, 130), (Mood::Writing, 80)],
     }
 }
 
@@ -201,7 +225,7 @@ pub fn blank_discs(pair: &mut Pair, seed: u64, count: u64) -> Result<(), Differe
             _ => random.draw() as u32,
         };
         let words = match random.below(3) {
-            0 => random.between(0, 400) as usize,
+            0 => random.between(0, IMAGE_ROOM as u64) as usize,
             _ => STATE_WORDS,
         };
         let mut image = [0; STATE_WORDS];

@@ -1,14 +1,15 @@
-//! Lengths that are wrong: of block, data, reply buffer, medium, pending buffer or state image.
+//! Lengths that are wrong: of command block, data, reply buffer, medium, pending buffer or state image.
 
+use crate::pair::IMAGE_ROOM;
 use crate::{Generator, Request};
-use gladhamre::{BLOCK_BYTES, SECTOR_BYTES};
+use gladhamre::{BLOCK_BYTES, HEADER_WORDS, RECORD_WORDS, SECTOR_BYTES, STATE_WORDS};
 
 impl Generator {
     /// Makes one length wrong, or several.
     pub(crate) fn spoil(&mut self, request: &mut Request, allocated: usize) {
         loop {
             match self.random.below(if self.buffers_right { 3 } else { 6 }) {
-                0 => self.spoil_block(&mut request.block),
+                0 => self.spoil_cdb(&mut request.cdb),
                 1 => request.data_length = self.wrong_data_length(request.data_length),
                 2 => request.reply_length = self.shorter(request.reply_length),
                 3 => {
@@ -16,7 +17,7 @@ impl Generator {
                         self.wrong_medium_length(request.medium_length, allocated)
                 }
                 4 => request.pending_length = self.wrong_pending_length(),
-                _ => request.state_words = self.random.pick(&[0, 1, 6, 7, 389, 390, 392, 397, 400]),
+                _ => request.state_words = self.wrong_state_words(),
             }
             if !self.random.once_in(4) {
                 return;
@@ -24,9 +25,9 @@ impl Generator {
         }
     }
 
-    fn spoil_block(&mut self, block: &mut Vec<u8>) {
+    fn spoil_cdb(&mut self, cdb: &mut Vec<u8>) {
         let length = self.random.below(21) as usize;
-        block.resize(length, self.random.draw() as u8);
+        cdb.resize(length, self.random.draw() as u8);
     }
 
     fn wrong_data_length(&mut self, right: usize) -> usize {
@@ -58,6 +59,22 @@ impl Generator {
             _ => self.random.below(right as u64) as usize,
         };
         length.min(allocated)
+    }
+
+    /// A word or a record too few or too many, or hardly any.
+    fn wrong_state_words(&mut self) -> usize {
+        self.random.pick(&[
+            0,
+            1,
+            HEADER_WORDS - 1,
+            HEADER_WORDS,
+            STATE_WORDS - RECORD_WORDS,
+            STATE_WORDS - 2,
+            STATE_WORDS - 1,
+            STATE_WORDS + 1,
+            STATE_WORDS + RECORD_WORDS,
+            IMAGE_ROOM,
+        ])
     }
 
     fn wrong_pending_length(&mut self) -> usize {

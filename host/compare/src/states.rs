@@ -12,7 +12,7 @@ pub(crate) const APPENDED: u32 = 1;
 enum Ending {
     /// With a tail.
     Tail,
-    /// Without one: 64 records.
+    /// Without one: no record is free.
     ListFull,
     /// Without one: the last record ends at C - 1 or C.
     DiscFull,
@@ -23,17 +23,27 @@ enum Ending {
 pub fn sound(random: &mut Random, capacity: u32) -> State {
     let endings =
         [Ending::Tail, Ending::Tail, Ending::ListFull, Ending::DiscFull, Ending::Finalized];
-    let ending = random.pick(&endings);
+    let ending = match random.pick(&endings) {
+        Ending::ListFull if most_records(capacity) < RECORD_LIMIT as u32 => Ending::DiscFull,
+        ending => ending,
+    };
     with_ending(random, capacity, ending)
+}
+
+/// As many records as the limit allows and the disc has room for, with a dividing block between
+/// two of them.
+fn most_records(capacity: u32) -> u32 {
+    capacity.div_ceil(2).min(RECORD_LIMIT as u32)
 }
 
 fn with_ending(random: &mut Random, capacity: u32, ending: Ending) -> State {
     let mut records = layout(random, capacity, ending);
     let last_session = records.last().map_or(0, |last| last.session);
     let last = records.len() - 1;
+    let none_open = ending == Ending::Finalized || random.once_in(2);
     for (index, record) in records.iter_mut().enumerate() {
         let is_tail = ending == Ending::Tail && index == last;
-        let may_be_open = ending != Ending::Finalized && record.session == last_session;
+        let may_be_open = !none_open && record.session == last_session;
         fill_in(random, record, is_tail, may_be_open);
     }
     let mut state = State::from_words([0; STATE_WORDS]);
@@ -52,7 +62,7 @@ fn with_ending(random: &mut Random, capacity: u32, ending: Ending) -> State {
 
 /// Records with session, start and length: first the least that they take, then what is to spare.
 fn layout(random: &mut Random, capacity: u32, ending: Ending) -> Vec<Record> {
-    let count = record_count(random, ending);
+    let count = record_count(random, most_records(capacity), ending);
     let mut spare = capacity - (2 * count - 1);
     let most_jumps = (count - 1).min(spare / 127);
     let most_jumps = random.pick(&[0, 1, 2, most_jumps]).min(most_jumps);
@@ -70,14 +80,14 @@ fn layout(random: &mut Random, capacity: u32, ending: Ending) -> Vec<Record> {
     records
 }
 
-fn record_count(random: &mut Random, ending: Ending) -> u32 {
-    let limit = RECORD_LIMIT as u64;
+fn record_count(random: &mut Random, most: u32, ending: Ending) -> u32 {
+    let most = u64::from(most);
     let count = match random.below(6) {
-        _ if ending == Ending::ListFull => limit,
+        _ if ending == Ending::ListFull => most,
         0 => 1,
         1 => random.between(2, 3),
-        2 => random.between(limit - 2, limit),
-        3 => random.between(1, limit),
+        2 => random.between(most - 2, most),
+        3 => random.between(1, most),
         _ => random.between(1, 10),
     };
     count as u32
@@ -138,4 +148,66 @@ fn pending(random: &mut Random, records: &[Record]) -> (u32, u32) {
         return (0, 0);
     }
     (random.between(1, 15) as u32, random.pick(&open))
+}
+
+#[cfg(test)]
+mod tests {
+    use super::{most_records, sound};
+    use crate::Random;
+    use gladhamre::{State, RECORD_LIMIT};
+    use plain::broken_rules;
+    use std::collections::BTreeSet;
+
+    fn ending(state: &State) -> &'static str {
+        let last = state.records().last().expect("a sound list has a record");
+        let open = last.recorded < last.length;
+        let blocks_left = last.start + last.length + 1 < state.capacity();
+        match (state.finalized(), last.kind, open, blocks_left) {
+            (1, ..) => "finalized",
+            (_, 1, true, _) if last.recorded == 0 => "a tail with nothing recorded",
+            (_, 1, true, _) => "a tail",
+            (_, _, true, true) => "incomplete, blocks left",
+            (_, _, true, false) => "incomplete, none left",
+            (_, _, false, true) => "complete, blocks left",
+            (_, _, false, false) => "complete, none left",
+        }
+    }
+
+    /// The endings of the sound lists with so many records on a disc of 480 blocks.
+    fn endings(count: usize) -> BTreeSet<&'static str> {
+        let mut random = Random::new(1);
+        let states = (0..20_000).map(|_| sound(&mut random, 480));
+        let wanted: Vec<State> = states.filter(|state| state.records().count() == count).collect();
+        assert!(wanted.iter().all(|state| broken_rules(state.words()).is_empty()));
+        wanted.iter().map(ending).collect()
+    }
+
+    /// With one record free and with none there is every ending, those that no sequence reaches
+    /// included; only a full list ends with blocks left and no tail.
+    #[test]
+    fn crowded_lists_end_in_every_way() {
+        let common = [
+            "finalized",
+            "a tail with nothing recorded",
+            "a tail",
+            "incomplete, none left",
+            "complete, none left",
+        ];
+        assert_eq!(endings(RECORD_LIMIT - 1), BTreeSet::from(common));
+        let full = common.into_iter().chain(["incomplete, blocks left", "complete, blocks left"]);
+        assert_eq!(endings(RECORD_LIMIT), full.collect());
+    }
+
+    /// A disc that is too small for a full list has as many records as fit.
+    #[test]
+    fn small_discs_have_room() {
+        let mut random = Random::new(2);
+        let most = (0..2_000).map(|_| {
+            let state = sound(&mut random, 256);
+            assert!(broken_rules(state.words()).is_empty());
+            state.records().count()
+        });
+        assert_eq!(most.max(), Some(most_records(256) as usize));
+        assert_eq!(most_records(256), 128);
+    }
 }

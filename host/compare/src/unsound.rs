@@ -39,7 +39,7 @@ fn break_rule(random: &mut Random, rule: Rule, state: &mut State) {
         }),
         Rule::IncompleteInLastSession => change_record(random, state, reopen),
         Rule::TailIsLast | Rule::TailReachesCapacity => change_record(random, state, shorten),
-        Rule::TailMissing => state.words_mut()[1] = 0,
+        Rule::TailMissing => lose_tail(random, state),
         Rule::PendingNamesIncomplete => break_pending(random, state),
         Rule::FinalizedComplete => state.words_mut()[1] = 1,
     }
@@ -79,7 +79,8 @@ fn break_sense(random: &mut Random, state: &mut State) {
 }
 
 fn break_pending(random: &mut Random, state: &mut State) {
-    let numbers = [0, 1, 2, 3, 64, 65, 255, 256, 257, u32::MAX];
+    let limit = RECORD_LIMIT as u32;
+    let numbers = [0, 1, 2, 3, limit, limit + 1, 255, 256, 257, u32::MAX];
     let counts = [0, 1, 15, 16, 17, 255, 256, 257, u32::MAX];
     match random.below(3) {
         0 => state.words_mut()[5] = random.pick(&counts),
@@ -170,6 +171,15 @@ fn append_empty(random: &mut Random, state: &mut State) {
     let mut record = follower(state.records().last().as_ref(), 0, random.once_in(2));
     record.kind = random.pick(&[RESERVED, APPENDED]);
     state.set_record(count, record);
+}
+
+/// A finalized list that is called open, or one that was full and lacks its last record.
+fn lose_tail(random: &mut Random, state: &mut State) {
+    if random.once_in(2) && used(state) == RECORD_LIMIT {
+        state.set_record(RECORD_LIMIT - 1, Record::default());
+    } else {
+        state.words_mut()[1] = 0;
+    }
 }
 
 /// Changes a few words of an image to values near and far.

@@ -4,6 +4,7 @@
 
 use compare::rounds::{self, Effort};
 use compare::{rounds_wanted, seed, Coverage, Difference, Linked, Pair, Plain, Random};
+use gladhamre::RECORD_LIMIT;
 use std::thread;
 
 const EFFORT: Effort = Effort::ROUND;
@@ -75,7 +76,7 @@ fn sequences_from_blank_discs() {
     for (count, name) in reached.situations() {
         assert!(count > 0, "never met: {name}");
     }
-    assert_eq!(reached.most_records, 64);
+    assert_eq!(reached.most_records, RECORD_LIMIT);
     assert!(reached.most_sessions >= 5);
     assert!(reached.finalized > 0 && reached.full > 0);
     assert!(reached.pending_counts.iter().all(|&commands| commands > 0));

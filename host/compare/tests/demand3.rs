@@ -3,8 +3,9 @@
 
 use compare::demand3::{check, Tally};
 use compare::{rounds_wanted, seed, Drive, Linked, Plain};
+use gladhamre::RECORD_LIMIT;
 
-fn check_sequences(drive: &dyn Drive, capacity: u32, count: u64) {
+fn check_sequences(drive: &dyn Drive, capacity: u32, count: u64) -> Tally {
     let mut tally = Tally::default();
     for number in 0..count * rounds_wanted() {
         let seed = seed() + number;
@@ -15,6 +16,7 @@ fn check_sequences(drive: &dyn Drive, capacity: u32, count: u64) {
     println!("{} on {capacity} blocks: {tally:?}", drive.name());
     assert!(tally.tried_accepted > 0 && tally.tried_accepted < tally.tried);
     assert!(tally.writes_cut > 0 && tally.parts > 2 * tally.writes_cut);
+    tally
 }
 
 #[test]
@@ -25,6 +27,12 @@ fn on_256_blocks() {
 #[test]
 fn on_300_blocks() {
     check_sequences(&Linked, 300, 60);
+}
+
+/// With full lists among them.
+#[test]
+fn on_480_blocks() {
+    assert_eq!(check_sequences(&Linked, 480, 24).most_records, RECORD_LIMIT);
 }
 
 #[test]

@@ -1,7 +1,7 @@
 //! Document 01's "A shift on a 300-block disc", line by line, with the sectors' bytes, on both
 //! drives.
 
-use compare::{blocks, pool, Drive, Linked, Plain};
+use compare::{cdb, pool, Drive, Linked, Plain};
 use gladhamre::{Lent, Record, State, BLOCK_BYTES, SECTOR_BYTES, STATE_WORDS};
 
 const ACCEPTED: u32 = 0;
@@ -29,10 +29,10 @@ impl<'a> Host<'a> {
     }
 
     /// Sends a command; gives the answer's number, the reply and the blocks recorded.
-    fn send(&mut self, block: [u8; 12], data: &[u8]) -> (u32, Vec<u8>, u64) {
-        let mut reply = vec![0xEE; blocks::reply_room(&block)];
+    fn send(&mut self, cdb: [u8; 12], data: &[u8]) -> (u32, Vec<u8>, u64) {
+        let mut reply = vec![0xEE; cdb::reply_room(&cdb)];
         let lent = Lent {
-            block: &block,
+            cdb: &cdb,
             data,
             medium: &mut self.medium,
             pending: &mut self.pending,
@@ -44,26 +44,26 @@ impl<'a> Host<'a> {
     }
 
     /// Sends a command without data; gives the answer's number.
-    fn number(&mut self, block: [u8; 12]) -> u32 {
-        self.send(block, &[]).0
+    fn number(&mut self, cdb: [u8; 12]) -> u32 {
+        self.send(cdb, &[]).0
     }
 
     fn write(&mut self, address: u32, data: &[u8]) -> (u32, u64) {
         let sectors = (data.len() / SECTOR_BYTES) as u16;
-        let (number, reply, recorded) = self.send(blocks::write(address, sectors), data);
+        let (number, reply, recorded) = self.send(cdb::write(address, sectors), data);
         assert!(reply.is_empty());
         (number, recorded)
     }
 
     fn read(&mut self, address: u32, sectors: u16) -> (u32, Vec<u8>) {
-        let (number, reply, _) = self.send(blocks::read(address, sectors), &[]);
+        let (number, reply, _) = self.send(cdb::read(address, sectors), &[]);
         (number, reply)
     }
 
     /// A number of the 52h reply for a fragment.
     fn report(&mut self, number: u32, at: usize) -> u32 {
-        let block = blocks::read_fragment_information(1, number, 36);
-        let (answer, reply, _) = self.send(block, &[]);
+        let cdb = cdb::read_fragment_information(1, number, 36);
+        let (answer, reply, _) = self.send(cdb, &[]);
         assert_eq!(answer, ACCEPTED);
         u32::from_be_bytes(reply[at..at + 4].try_into().expect("four bytes"))
     }
@@ -98,7 +98,7 @@ fn lines_of_one_run() {
 fn blank_disc(host: &mut Host) {
     let mut expected = [0; 34];
     expected[..7].copy_from_slice(&[0x00, 0x20, 0x00, 0x01, 0x01, 0x01, 0x01]);
-    let information = host.send(blocks::read_disc_information(34), &[]);
+    let information = host.send(cdb::read_disc_information(34), &[]);
     assert_eq!(information, (ACCEPTED, expected.to_vec(), 0));
     assert_eq!(host.report(1, 16), 4_800);
 }
@@ -113,7 +113,7 @@ fn write_and_flush(host: &mut Host) {
     assert_eq!(host.next_writable(1), 20);
     assert_eq!(host.write(16, data(2, 1)), (0x052102, 0));
     assert_eq!(host.state.sense(), [0x5, 0x21, 0x02]);
-    assert_eq!(host.send(blocks::opcode_only(0x35), &[]), (ACCEPTED, vec![], 1));
+    assert_eq!(host.send(cdb::opcode_only(0x35), &[]), (ACCEPTED, vec![], 1));
     assert_eq!(host.state.record(0).zero_filled, 12);
     assert_eq!(host.state.pending_count(), 0);
     assert_eq!(host.next_writable(1), 32);
@@ -133,13 +133,13 @@ fn reads(host: &mut Host) {
 }
 
 fn close_and_reserve(host: &mut Host) {
-    assert_eq!(host.number(blocks::close(blocks::FRAGMENT, 1)), ACCEPTED);
+    assert_eq!(host.number(cdb::close(cdb::FRAGMENT, 1)), ACCEPTED);
     assert_eq!(host.report(2, 8), 48);
     assert_eq!(host.report(0xFF, 8), 48);
-    assert_eq!(host.number(blocks::reserve(33)), ACCEPTED);
+    assert_eq!(host.number(cdb::reserve(33)), ACCEPTED);
     assert_eq!((host.report(2, 8), host.report(2, 24)), (48, 48));
     assert_eq!(host.report(0xFF, 8), 112);
-    assert_eq!(host.number(blocks::close(blocks::SESSION, 0)), 0x057203);
+    assert_eq!(host.number(cdb::close(cdb::SESSION, 0)), 0x057203);
 }
 
 fn next_session(host: &mut Host) {
@@ -147,7 +147,7 @@ fn next_session(host: &mut Host) {
     assert_eq!(host.write(48, data(3, 48)), (ACCEPTED, 3));
     assert_eq!(host.read(48, 48), (ACCEPTED, data(3, 48).to_vec()));
     assert_eq!(host.state.record(1).recorded, host.state.record(1).length);
-    assert_eq!(host.number(blocks::close(blocks::SESSION, 0)), ACCEPTED);
+    assert_eq!(host.number(cdb::close(cdb::SESSION, 0)), ACCEPTED);
     assert_eq!(host.report(0xFF, 8), 2_144);
     let records: Vec<Record> = host.state.records().collect();
     assert_eq!(records.len(), 3);
@@ -161,13 +161,13 @@ fn last_line() {
             let host = &mut Host::blank(drive);
             let sectors = 16 * end as usize;
             assert_eq!(host.write(0, data(4, sectors)), (ACCEPTED, end));
-            assert_eq!(host.number(blocks::close(blocks::SESSION, 0)), number);
+            assert_eq!(host.number(cdb::close(cdb::SESSION, 0)), number);
             let tail = if number == ACCEPTED { 4_784 } else { 0 };
             assert_eq!(host.report(0xFF, 8), tail);
         }
         for (size, number) in [(4_768, ACCEPTED), (4_769, 0x056300)] {
             let host = &mut Host::blank(drive);
-            assert_eq!(host.number(blocks::reserve(size)), number);
+            assert_eq!(host.number(cdb::reserve(size)), number);
         }
     });
 }

@@ -1,7 +1,7 @@
 //! A disc in memory, with the linked drive over it.
 
 use crate::fragments::{recorded_end, BLOCK_SECTORS};
-use gladhamre::blocks::{self, Block};
+use gladhamre::cdb::{self, Cdb};
 use gladhamre::{Accepted, Lent, Record, Refusal, State, BLOCK_BYTES};
 
 /// What the buffers hold before anything is written.
@@ -35,11 +35,11 @@ impl Disc {
     }
 
     /// Sends a command with a reply buffer of the length that it asks for.
-    pub fn send(&mut self, block: &Block, data: &[u8]) -> Outcome {
+    pub fn send(&mut self, cdb: &Cdb, data: &[u8]) -> Outcome {
         let before: Vec<Record> = self.state.records().collect();
-        let mut reply = vec![0; blocks::reply_room(block)];
+        let mut reply = vec![0; cdb::reply_room(cdb)];
         let answer = self.state.command(Lent {
-            block,
+            cdb,
             data,
             medium: &mut self.medium,
             pending: &mut self.pending,

@@ -80,7 +80,7 @@ pub fn sessions(map: &Map) -> Vec<Beginning> {
 }
 
 /// Labels in a row with their places, as F2 or S1. `place` gives that of a block and `width` is a
-/// letter's; a label less than a letter behind the one before it is joined with that, as F2-4.
+/// letter's; a label less than a letter after the one before it is joined with that, as F2-4.
 pub fn labels(
     letter: char,
     beginnings: &[Beginning],

@@ -12,6 +12,9 @@ use gladhamre::{Record, RECORD_LIMIT};
 const RUNS: usize = 48;
 const RUNS_TO_A_LINE: usize = 6;
 
+/// Digits of a fragment's number.
+const DIGITS: usize = RECORD_LIMIT.ilog10() as usize + 1;
+
 /// Next writable addresses that the summary has room for.
 const ADDRESSES: usize = 6;
 
@@ -77,7 +80,7 @@ fn bounds(first: u32, end: u32) -> String {
 fn line(cells: [&str; 9]) -> String {
     let [number, session, kind, blocks, recorded, zero_filled, pending, next, front] = cells;
     let text = format!(
-        "{number:>2}  {session:>7}  {kind:<20}  {blocks:<20}  {recorded:<20}  {zero_filled:>11}  \
+        "{number:>DIGITS$}  {session:>7}  {kind:<20}  {blocks:<20}  {recorded:<20}  {zero_filled:>11}  \
          {pending:>7}  {next:>7}  {front}"
     );
     text.trim_end().into()

@@ -3,7 +3,7 @@
 use crate::disc::{Disc, Outcome};
 use crate::fragments::tail_next;
 use crate::{table, words};
-use gladhamre::blocks::{self, Block};
+use gladhamre::cdb::{self, Cdb};
 use gladhamre::{Record, Refusal, SECTOR_BYTES};
 use script::{Data, Part};
 use std::io::{self, Write};
@@ -23,7 +23,7 @@ impl Run {
         let lines = part
             .commands
             .into_iter()
-            .map(|command| Line { block: command.block, data: command.data, expected: None })
+            .map(|command| Line { cdb: command.cdb, data: command.data, expected: None })
             .collect();
         let title = format!("A disc of {} blocks", part.capacity);
         Run { title, capacity: part.capacity, lines, mapped: true }
@@ -32,16 +32,16 @@ impl Run {
 
 /// One command.
 pub struct Line {
-    pub block: Block,
+    pub cdb: Cdb,
     pub data: Data,
     pub expected: Option<Expected>,
 }
 
 /// The bytes that go with a command.
-pub fn data_bytes(data: &Data, block: &Block) -> Vec<u8> {
-    let length = blocks::data_length(block);
+pub fn data_bytes(data: &Data, cdb: &Cdb) -> Vec<u8> {
+    let length = cdb::data_length(cdb);
     match data {
-        Data::Stamp => stamped(blocks::run(block).0, length / SECTOR_BYTES),
+        Data::Stamp => stamped(cdb::run(cdb).0, length / SECTOR_BYTES),
         Data::Fill(byte) => vec![*byte; length],
         Data::Zeros(count) => vec![0; *count],
         Data::Bytes(bytes) => bytes.clone(),
@@ -125,10 +125,12 @@ pub fn play(run: &Run, out: &mut impl Write) -> io::Result<(Disc, usize)> {
     writeln!(out, "\n{}\n", run.title)?;
     table::heading(out)?;
     for (index, line) in run.lines.iter().enumerate() {
-        let outcome = disc.send(&line.block, &data_bytes(&line.data, &line.block));
+        let before = disc.state.clone();
+        let outcome = disc.send(&line.cdb, &data_bytes(&line.data, &line.cdb));
         let differences = line.expected.as_ref().map(|e| e.differences(&outcome, &disc));
         wrong += usize::from(differences.as_ref().is_some_and(|found| !found.is_empty()));
-        table::row(out, index + 1, &line.block, &outcome, &disc, differences.as_deref())?;
+        let command = table::Command { cdb: &line.cdb, outcome: &outcome, before: &before };
+        table::row(out, index + 1, &command, &disc, differences.as_deref())?;
     }
     Ok((disc, wrong))
 }

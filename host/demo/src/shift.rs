@@ -3,7 +3,7 @@
 
 use crate::play::stamped;
 use crate::{Expected, Line, Run};
-use gladhamre::blocks::{self, Block};
+use gladhamre::cdb::{self, Cdb};
 use gladhamre::{Record, SECTOR_BYTES};
 use script::Data;
 
@@ -45,7 +45,7 @@ fn reserved(start: u32, length: u32, recorded: u32) -> Record {
 }
 
 /// A command that is accepted, records nothing and replies nothing.
-fn accepted(block: Block, next: u32, list: &[Record]) -> Line {
+fn accepted(cdb: Cdb, next: u32, list: &[Record]) -> Line {
     let expected = Expected {
         number: 0,
         recorded: 0,
@@ -54,7 +54,7 @@ fn accepted(block: Block, next: u32, list: &[Record]) -> Line {
         pending: 0,
         list: list.to_vec(),
     };
-    Line { block, data: Data::Stamp, expected: Some(expected) }
+    Line { cdb, data: Data::Stamp, expected: Some(expected) }
 }
 
 impl Line {
@@ -89,23 +89,23 @@ fn first_run() -> Vec<Line> {
     let open = [closed[0], reserved(3, 3, 0), tail];
     let complete = [closed[0], reserved(3, 3, 3), tail];
     let second = [closed[0], reserved(3, 3, 3), appended(2, 134, 166, 0, 0)];
-    let close_session = blocks::close(blocks::SESSION, 0);
+    let close_session = cdb::close(cdb::SESSION, 0);
     vec![
-        accepted(blocks::read_disc_information(34), 0, &blank).replying(blank_disc_information()),
-        accepted(blocks::read_fragment_information(1, 1, 36), 0, &blank)
+        accepted(cdb::read_disc_information(34), 0, &blank).replying(blank_disc_information()),
+        accepted(cdb::read_fragment_information(1, 1, 36), 0, &blank)
             .replying(blank_track_information()),
-        accepted(blocks::write(0, 20), 20, &written).recording(1).pending(4),
-        accepted(blocks::write(16, 1), 20, &written).pending(4).refused(INVALID_ADDRESS_FOR_WRITE),
-        accepted(blocks::opcode_only(blocks::SYNCHRONIZE_CACHE), 32, &flushed).recording(1),
-        accepted(blocks::read(16, 16), 32, &flushed).replying(flushed_block()),
-        accepted(blocks::read(32, 1), 32, &flushed).refused(BLANK_CHECK),
-        accepted(blocks::read(4_800, 1), 32, &flushed).refused(ADDRESS_OUT_OF_RANGE),
-        accepted(blocks::read(4_800, 0), 32, &flushed),
-        accepted(blocks::close(blocks::FRAGMENT, 1), 48, &closed),
-        accepted(blocks::reserve(33), 112, &open),
+        accepted(cdb::write(0, 20), 20, &written).recording(1).pending(4),
+        accepted(cdb::write(16, 1), 20, &written).pending(4).refused(INVALID_ADDRESS_FOR_WRITE),
+        accepted(cdb::opcode_only(cdb::SYNCHRONIZE_CACHE), 32, &flushed).recording(1),
+        accepted(cdb::read(16, 16), 32, &flushed).replying(flushed_block()),
+        accepted(cdb::read(32, 1), 32, &flushed).refused(BLANK_CHECK),
+        accepted(cdb::read(4_800, 1), 32, &flushed).refused(ADDRESS_OUT_OF_RANGE),
+        accepted(cdb::read(4_800, 0), 32, &flushed),
+        accepted(cdb::close(cdb::FRAGMENT, 1), 48, &closed),
+        accepted(cdb::reserve(33), 112, &open),
         accepted(close_session, 112, &open).refused(INCOMPLETE_TRACK_IN_SESSION),
-        accepted(blocks::write(48, 49), 112, &open).refused(END_OF_USER_AREA),
-        accepted(blocks::write(48, 48), 112, &complete).recording(3),
+        accepted(cdb::write(48, 49), 112, &open).refused(END_OF_USER_AREA),
+        accepted(cdb::write(48, 48), 112, &complete).recording(3),
         accepted(close_session, 2_144, &second),
     ]
 }
@@ -137,8 +137,8 @@ fn flushed_block() -> Vec<u8> {
 /// A tail with so many blocks recorded, then 010.
 fn session_after(end: u32) -> Vec<Line> {
     let written = [appended(1, 0, 300, end, 0)];
-    let write = accepted(blocks::write(0, 16 * end as u16), 16 * end, &written);
-    let close = blocks::close(blocks::SESSION, 0);
+    let write = accepted(cdb::write(0, 16 * end as u16), 16 * end, &written);
+    let close = cdb::close(cdb::SESSION, 0);
     let closed = match end {
         171 => accepted(close, 4_784, &[appended(1, 0, 171, 171, 0), appended(2, 299, 1, 0, 0)]),
         _ => accepted(close, 16 * end, &written).refused(END_OF_USER_AREA),
@@ -147,9 +147,9 @@ fn session_after(end: u32) -> Vec<Line> {
 }
 
 fn reserve(sectors: u32) -> Vec<Line> {
-    let block = blocks::reserve(sectors);
+    let cdb = cdb::reserve(sectors);
     vec![match sectors {
-        4_768 => accepted(block, 4_784, &[reserved(0, 298, 0), appended(1, 299, 1, 0, 0)]),
-        _ => accepted(block, 0, &[appended(1, 0, 300, 0, 0)]).refused(END_OF_USER_AREA),
+        4_768 => accepted(cdb, 4_784, &[reserved(0, 298, 0), appended(1, 299, 1, 0, 0)]),
+        _ => accepted(cdb, 0, &[appended(1, 0, 300, 0, 0)]).refused(END_OF_USER_AREA),
     }]
 }

@@ -1,23 +1,23 @@
 //! Commands, answers, senses, replies and fragments in words.
 
 use crate::fragments;
-use gladhamre::blocks::{self, Block};
+use gladhamre::cdb::{self, Cdb};
 use gladhamre::{Record, Refusal};
 
 /// A command block in words.
-pub fn command(block: &Block) -> String {
-    let (value, length) = blocks::run(block);
-    match block[0] {
-        blocks::TEST_UNIT_READY => "TEST UNIT READY".into(),
-        blocks::REQUEST_SENSE => "REQUEST SENSE".into(),
-        blocks::READ_CAPACITY => "READ CAPACITY".into(),
-        blocks::READ => format!("READ {} at {value}", sectors(length.into())),
-        blocks::WRITE => format!("WRITE {} at {value}", sectors(length.into())),
-        blocks::SYNCHRONIZE_CACHE => "SYNCHRONIZE CACHE".into(),
-        blocks::READ_DISC_INFORMATION => "READ DISC INFORMATION".into(),
-        blocks::READ_FRAGMENT_INFORMATION => track_information(block[1] & 0b11, value),
-        blocks::RESERVE => format!("RESERVE TRACK of {}", sectors(number_at(block, 5))),
-        blocks::CLOSE => close(block[2] & 0b111, u16::from_be_bytes([block[4], block[5]])),
+pub fn command(cdb: &Cdb) -> String {
+    let (value, length) = cdb::run(cdb);
+    match cdb[0] {
+        cdb::TEST_UNIT_READY => "TEST UNIT READY".into(),
+        cdb::REQUEST_SENSE => "REQUEST SENSE".into(),
+        cdb::READ_CAPACITY => "READ CAPACITY".into(),
+        cdb::READ => format!("READ {} at {value}", sectors(length.into())),
+        cdb::WRITE => format!("WRITE {} at {value}", sectors(length.into())),
+        cdb::SYNCHRONIZE_CACHE => "SYNCHRONIZE CACHE".into(),
+        cdb::READ_DISC_INFORMATION => "READ DISC INFORMATION".into(),
+        cdb::READ_FRAGMENT_INFORMATION => track_information(cdb[1] & 0b11, value),
+        cdb::RESERVE => format!("RESERVE TRACK of {}", sectors(number_at(cdb, 5))),
+        cdb::CLOSE => close(cdb[2] & 0b111, u16::from_be_bytes([cdb[4], cdb[5]])),
         opcode => format!("opcode {opcode:02X}h, not listed"),
     }
 }
@@ -34,9 +34,9 @@ fn track_information(by: u8, value: u32) -> String {
 
 fn close(function: u8, number: u16) -> String {
     match function {
-        blocks::FRAGMENT => format!("CLOSE TRACK {number}"),
-        blocks::SESSION => "CLOSE SESSION".into(),
-        blocks::FINALIZE => "CLOSE and finalize".into(),
+        cdb::FRAGMENT => format!("CLOSE TRACK {number}"),
+        cdb::SESSION => "CLOSE SESSION".into(),
+        cdb::FINALIZE => "CLOSE and finalize".into(),
         other => format!("CLOSE, function {other:03b}"),
     }
 }
@@ -127,19 +127,17 @@ pub fn next(address: Option<u32>) -> String {
 }
 
 /// What a reply says; nothing for commands without one.
-pub fn reply(block: &Block, reply: &[u8]) -> Option<String> {
+pub fn reply(cdb: &Cdb, reply: &[u8]) -> Option<String> {
     let four = |at: usize| number_at(reply, at);
     let sent = format!("{} bytes", reply.len());
-    let text = match (block[0], reply.len()) {
+    let text = match (cdb[0], reply.len()) {
         (_, 0) => return None,
-        (blocks::REQUEST_SENSE, 14..) => {
-            sense([reply[2].into(), reply[12].into(), reply[13].into()])
-        }
-        (blocks::READ_CAPACITY, 8) => {
+        (cdb::REQUEST_SENSE, 14..) => sense([reply[2].into(), reply[12].into(), reply[13].into()]),
+        (cdb::READ_CAPACITY, 8) => {
             format!("last readable address {}, sectors of {} bytes", four(0), four(4))
         }
-        (blocks::READ_DISC_INFORMATION, 34) => disc_information(reply),
-        (blocks::READ_FRAGMENT_INFORMATION, 36) => format!(
+        (cdb::READ_DISC_INFORMATION, 34) => disc_information(reply),
+        (cdb::READ_FRAGMENT_INFORMATION, 36) => format!(
             "fragment {}, session {}, {}first sector {}, next {}, free {}, length {}",
             u16::from_be_bytes([reply[32], reply[2]]),
             u16::from_be_bytes([reply[33], reply[3]]),
@@ -149,7 +147,7 @@ pub fn reply(block: &Block, reply: &[u8]) -> Option<String> {
             four(16),
             four(24)
         ),
-        (blocks::READ, _) => sector_contents(reply),
+        (cdb::READ, _) => sector_contents(reply),
         _ => hex(reply),
     };
     Some(format!("{sent}: {text}"))

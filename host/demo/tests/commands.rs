@@ -3,7 +3,7 @@
 
 use demo::{data_bytes, fragment_list, reply_bytes, Disc, Outcome};
 use gladhamre::{
-    blocks, raw, Lent, Refusal, State, BLOCK_BYTES, RECORD_LIMIT, SECTOR_BYTES, STATE_WORDS,
+    cdb, raw, Lent, Refusal, State, BLOCK_BYTES, RECORD_LIMIT, SECTOR_BYTES, STATE_WORDS,
 };
 use std::collections::BTreeSet;
 use std::fs;
@@ -61,10 +61,10 @@ impl Player {
         }
         let parts = script::parse(line, Path::new(ROOT)).expect("a line of a script");
         let command = &parts[0].commands[0];
-        let data = data_bytes(&command.data, &command.block);
-        let outcome = self.disc.send(&command.block, &data);
+        let data = data_bytes(&command.data, &command.cdb);
+        let outcome = self.disc.send(&command.cdb, &data);
         self.answers.insert(name(&outcome.answer));
-        self.answer = Some(told(&command.block, &outcome));
+        self.answer = Some(told(&command.cdb, &outcome));
         self.listed = false;
     }
 }
@@ -85,7 +85,7 @@ fn name<T>(answer: &Result<T, Refusal>) -> String {
 }
 
 /// The answer, the blocks recorded and the reply.
-fn told(block: &blocks::Block, outcome: &Outcome) -> String {
+fn told(cdb: &cdb::Cdb, outcome: &Outcome) -> String {
     let mut text = name(&outcome.answer);
     match outcome.answer.map_or(0, |accepted| accepted.recorded) {
         0 => {}
@@ -94,7 +94,7 @@ fn told(block: &blocks::Block, outcome: &Outcome) -> String {
     }
     match outcome.reply.as_slice() {
         [] => {}
-        reply if block[0] == blocks::READ => text += &format!("; reply {}", sectors(reply)),
+        reply if cdb[0] == cdb::READ => text += &format!("; reply {}", sectors(reply)),
         reply => text += &format!("; reply {}", reply_bytes(reply)),
     }
     text
@@ -186,7 +186,7 @@ fn table<'a>(manual: &'a str, heading: &str) -> Vec<Vec<&'a str>> {
 
 /// What is lent for one command on the blank disc of 256 blocks.
 struct Buffers {
-    block: Vec<u8>,
+    cdb: Vec<u8>,
     data: Vec<u8>,
     state: Vec<u32>,
     medium: Vec<u8>,
@@ -195,14 +195,14 @@ struct Buffers {
 }
 
 impl Buffers {
-    fn fitting(block: blocks::Block) -> Buffers {
+    fn fitting(cdb: cdb::Cdb) -> Buffers {
         Buffers {
-            block: block.to_vec(),
-            data: vec![0; blocks::data_length(&block)],
+            cdb: cdb.to_vec(),
+            data: vec![0; cdb::data_length(&cdb)],
             state: State::blank(256).expect("a capacity").words().to_vec(),
             medium: vec![0; 256 * BLOCK_BYTES],
             pending: vec![0; BLOCK_BYTES],
-            reply: vec![0; blocks::reply_room(&block)],
+            reply: vec![0; cdb::reply_room(&cdb)],
         }
     }
 
@@ -210,7 +210,7 @@ impl Buffers {
         let answer = raw::command(
             &mut self.state,
             Lent {
-                block: &self.block,
+                cdb: &self.cdb,
                 data: &self.data,
                 medium: &mut self.medium,
                 pending: &mut self.pending,
@@ -224,21 +224,21 @@ impl Buffers {
 /// The buffers that a row of the table speaks of.
 fn lent(row: &str) -> Buffers {
     let mut lent = Buffers::fitting(match row {
-        row if row.contains("WRITE of 1") => blocks::write(0, 1),
-        row if row.contains("READ of 1") => blocks::read(0, 1),
-        row if row.contains("opcode 12h") => blocks::opcode_only(0x12),
-        _ => blocks::opcode_only(blocks::TEST_UNIT_READY),
+        row if row.contains("WRITE of 1") => cdb::write(0, 1),
+        row if row.contains("READ of 1") => cdb::read(0, 1),
+        row if row.contains("opcode 12h") => cdb::opcode_only(0x12),
+        _ => cdb::opcode_only(cdb::TEST_UNIT_READY),
     });
     match row {
-        "a command block of 10 bytes" => lent.block.truncate(10),
+        "a command block of 10 bytes" => lent.cdb.truncate(10),
         "a command block of 10 bytes and no pending buffer" => {
-            lent.block.truncate(10);
+            lent.cdb.truncate(10);
             lent.pending.clear();
         }
         "a medium of one block less" => lent.medium.truncate(255 * BLOCK_BYTES),
         "a pending buffer of 2,048 bytes" => lent.pending.truncate(SECTOR_BYTES),
         "a state whose C is 255" => lent.state[0] = 255,
-        "a state of 390 words" => lent.state.truncate(STATE_WORDS - 1),
+        "a state one word short" => lent.state.truncate(STATE_WORDS - 1),
         "a state whose first record starts at block 1" => lent.state[8] = 1,
         "a state with the sense 5/21/01" => lent.state[2..5].copy_from_slice(&[0x5, 0x21, 0x01]),
         "a WRITE of 1 with 2,047 bytes of data" => lent.data.truncate(2_047),
@@ -270,12 +270,12 @@ fn numbers_are_the_drives() {
         row[1].replace(',', "")
     };
     for (what, is) in [
-        ("bytes of a command block", blocks::BLOCK_LENGTH.to_string()),
+        ("bytes of a command block", cdb::CDB_LENGTH.to_string()),
         ("bytes of a sector", SECTOR_BYTES.to_string()),
         ("sectors of a block", (BLOCK_BYTES / SECTOR_BYTES).to_string()),
         ("bytes of a block, and of the pending buffer", BLOCK_BYTES.to_string()),
         ("records, the tail's included", RECORD_LIMIT.to_string()),
-        ("longest READ and WRITE", format!("{} sectors", blocks::LONGEST_DATA / SECTOR_BYTES)),
+        ("longest READ and WRITE", format!("{} sectors", cdb::LONGEST_DATA / SECTOR_BYTES)),
     ] {
         assert_eq!(number(what), is, "{what}");
     }
@@ -331,5 +331,5 @@ fn commands_are_all_there() {
         .filter_map(|line| line.strip_prefix("## ")?.split_once("h ")?.0.get(..2))
         .filter_map(|opcode| u8::from_str_radix(opcode, 16).ok())
         .collect();
-    assert_eq!(chapters, blocks::OPCODES);
+    assert_eq!(chapters, cdb::OPCODES);
 }

@@ -2,7 +2,7 @@
 
 use demo::map::{self, Sector};
 use demo::{image, play, shift, text, Disc, Map, Run};
-use gladhamre::{blocks, Record, State};
+use gladhamre::{cdb, Record, State, RECORD_LIMIT};
 use std::path::Path;
 use std::process::{Command, Output};
 
@@ -20,6 +20,11 @@ fn left_by(text: &str) -> Disc {
     let mut parts = script::parse(text, Path::new(SCRIPTS)).expect("a good script");
     assert_eq!(parts.len(), 1);
     played(&Run::of_part(parts.remove(0))).0
+}
+
+/// The text of a script that is an example.
+fn script(name: &str) -> String {
+    std::fs::read_to_string(format!("{SCRIPTS}/{name}")).expect("it is there")
 }
 
 /// The map of that disc.
@@ -94,16 +99,16 @@ fn map_of_the_shift() {
     assert_eq!(map.blocks[1][4..], [Sector::ZeroFilled; 12]);
     let text = printed(&map);
     for line in [
-        "300 blocks, sectors 0 to 4799; open, session 2 is the last one; 3 fragments of at most 64",
+        &format!("300 blocks, sectors 0 to 4799; open, session 2 is the last one; 3 fragments of at most {RECORD_LIMIT}"),
         "5 blocks recorded, 12 sectors of them zero-filled; 0 sectors pending; next writable addresses: 2144",
         "         +0        +10       +20       +30       +40",
         "         S1",
         "         F1 F2",
         &format!("      0  #+|###{}", "C".repeat(44)),
         "                                           F3",
-        " 1        1  appended, complete    0-1 (2)               0-1 (2)                        12        0        -  -",
-        " 2        1  reserved, complete    3-5 (3)               3-5 (3)                         0        0        -  dividing 2",
-        " 3        2  tail, blank           134-299 (166)         -                               0        0     2144  Closure 6-69, Intro 70-133",
+        "  1        1  appended, complete    0-1 (2)               0-1 (2)                        12        0        -  -",
+        "  2        1  reserved, complete    3-5 (3)               3-5 (3)                         0        0        -  dividing 2",
+        "  3        2  tail, blank           134-299 (166)         -                               0        0     2144  Closure 6-69, Intro 70-133",
         "  20-31",
     ] {
         assert_line(&text, line);
@@ -120,7 +125,7 @@ fn kinds_are_told_apart() {
     assert_line(&finalized, &format!("      0  ##{}", "-".repeat(48)));
     assert_line(
         &finalized,
-        "300 blocks, sectors 0 to 4799; finalized, with 1 session; 1 fragment of at most 64",
+        &format!("300 blocks, sectors 0 to 4799; finalized, with 1 session; 1 fragment of at most {RECORD_LIMIT}"),
     );
     assert_line(&finalized, "in no fragment: blocks 2-299 (298)");
 }
@@ -132,7 +137,8 @@ fn largest(length: impl Fn(usize) -> u32) -> Map {
     let mut state = State::blank(capacity).expect("a capacity");
     let mut zero_filled = vec![false; 16 * capacity as usize];
     let mut start = 0;
-    for index in 0..63 {
+    let last = RECORD_LIMIT - 1;
+    for index in 0..last {
         let length = length(index);
         let recorded = length / 2;
         state.set_record(
@@ -143,14 +149,14 @@ fn largest(length: impl Fn(usize) -> u32) -> Map {
         start += length + 1;
     }
     let length = capacity - start;
-    state
-        .set_record(63, Record { session: 1, start, length, recorded: 0, zero_filled: 0, kind: 1 });
+    let tail = Record { session: 1, start, length, recorded: 0, zero_filled: 0, kind: 1 };
+    state.set_record(last, tail);
     Map::of_state("The largest disc", &state, &zero_filled)
 }
 
-/// Fragments of 1,000 blocks.
+/// Fragments of 800 blocks.
 fn roomy() -> Map {
-    largest(|_| 1_000)
+    largest(|_| 800)
 }
 
 /// Many fragments in a cell, from the last one of the first row on.
@@ -158,21 +164,24 @@ fn crowded() -> Map {
     largest(|index| if index == 0 { 4_970 } else { 2 })
 }
 
-/// The largest disc with the longest list is still a page.
+/// The largest disc with the longest list is still a page, and a line for each fragment.
 #[test]
 fn large_maps_are_a_page() {
     let map = roomy();
     let text = printed(&map);
-    assert!(text.lines().count() < 150, "{text}");
+    assert!(text.lines().count() < 86 + RECORD_LIMIT, "{text}");
     assert!(text.lines().all(|line| line.chars().count() <= 160), "{text}");
-    assert_line(&text, &format!("  65000  {}", ".".repeat(50)));
-    assert_line(&text, "63 runs of zero-filled sectors:");
-    assert_line(&text, "  and 15 runs more");
-    assert_line(&text, "64        1  tail, blank           63063-143443 (80381)  -                               0        0  1009008  dividing 63062");
+    let last = RECORD_LIMIT - 1;
+    let tail = 801 * last;
+    assert_line(&text, &format!("{:>7}  {}", tail.next_multiple_of(5_000), ".".repeat(50)));
+    assert_line(&text, &format!("{last} runs of zero-filled sectors:"));
+    assert_line(&text, &format!("  and {} runs more", last - 48));
+    let blocks = format!("{tail}-143443 ({})", 143_444 - tail);
+    assert_line(&text, &format!("{RECORD_LIMIT}        1  tail, blank           {blocks:<20}  -                               0        0  {}  dividing {}", 16 * tail, tail - 1));
     let svg = image(&[map]);
     assert!(svg.len() < 1 << 20, "{} bytes", svg.len());
     let height = number_of(&svg, "height=\"");
-    assert!(height < 2_700, "{height}");
+    assert!(height < 1_740 + 15 * RECORD_LIMIT, "{height}");
 }
 
 /// The number after the first place of an attribute.
@@ -223,7 +232,7 @@ fn labels_keep_apart() {
     let closed: String = (0..40)
         .map(|at| format!("2A 00 {:08X} 00 0001\n5B 00 01 00 {:04X}\n", 32 * at, at + 1))
         .collect();
-    for map in [roomy(), crowded(), mapped(&closed)] {
+    for map in [roomy(), crowded(), mapped(&closed), mapped(&script("four-rooms.txt"))] {
         for row in text::rows(&map).iter().filter(|row| row.trim_start().starts_with(['S', 'F'])) {
             let touch = |two: &[u8]| two[0].is_ascii_digit() && two[1].is_ascii_alphabetic();
             assert!(!row.as_bytes().windows(2).any(touch), "{row}");
@@ -251,8 +260,7 @@ fn svg_labels(svg: &str, attribute: &str) -> Vec<String> {
 /// The sectors shown as zero-filled are as many as each fragment's F says, and hold zeros.
 #[test]
 fn zero_filled_sectors_are_those_counted() {
-    let text = std::fs::read_to_string(format!("{SCRIPTS}/cold-store.txt")).expect("it is there");
-    let mut disc = left_by(&text);
+    let mut disc = left_by(&script("cold-store.txt"));
     let blocks = Map::of("a disc", &disc).blocks;
     let records: Vec<_> = disc.state.records().collect();
     assert!(records.iter().any(|record| record.zero_filled > 16));
@@ -262,12 +270,46 @@ fn zero_filled_sectors_are_those_counted() {
         assert_eq!(shown, record.zero_filled as usize);
     }
     for (address, sector) in blocks.iter().flatten().enumerate() {
-        let outcome = disc.send(&blocks::read(address as u32, 1), &[]);
+        let outcome = disc.send(&cdb::read(address as u32, 1), &[]);
         let readable = matches!(sector, Sector::Recorded | Sector::ZeroFilled);
         assert_eq!(outcome.answer.is_ok(), readable, "sector {address}");
         let zeros = outcome.reply.iter().all(|&byte| byte == 0);
         assert!(!readable || zeros == (*sector == Sector::ZeroFilled), "sector {address}");
     }
+}
+
+/// Four rooms for 40 days fill the list. Of each command what it changed is shown, and the answers
+/// at the limit are those that the script's comments say.
+#[test]
+fn four_rooms_fill_the_list() {
+    let mut parts = script::parse(&script("four-rooms.txt"), Path::new(SCRIPTS)).expect("a script");
+    let (disc, _, table) = played(&Run::of_part(parts.remove(0)));
+    assert_eq!((disc.state.records().count(), disc.state.finalized()), (RECORD_LIMIT, 1));
+    assert!(disc.state.records().all(|record| record.length == 1 && record.kind == 1));
+    let zeros: u32 = disc.state.records().map(|record| record.zero_filled).sum();
+    assert_eq!(zeros, 40 * 11);
+    let (limit, last) = (RECORD_LIMIT, RECORD_LIMIT - 1);
+    for line in [
+        &format!("     5B 00 01 00 00 {last:02X} 00 00 00 00 00 00    {} fragments as before it", last - 1),
+        &format!("                                            {last} appended, session 1, block 316, 1 of 1 recorded"),
+        &format!("                                            {limit} tail, session 1, blocks 318-479, 0 of 162 recorded"),
+        "319  RESERVE TRACK of 16 sectors            refused   5/72/05 no more reservations           5088      0",
+        &format!("321  CLOSE TRACK {limit}                        accepted  0/00/00 no sense                          -      1"),
+        &format!("                                            {limit} appended, session 1, block 318, 1 of 1 recorded, 11 zero-filled"),
+        "322  WRITE 16 sectors at 5120               refused   5/21/02 invalid address for write         -      0",
+        "323  RESERVE TRACK of 16 sectors            refused   5/72/05 no more reservations              -      0",
+        "324  CLOSE SESSION                          refused   5/72/05 no more reservations              -      0",
+        &format!("325  CLOSE TRACK {}                        refused   5/24/00 invalid field in command          -      0", limit + 1),
+        "327  READ TRACK INFORMATION, tail           refused   5/24/00 invalid field in command          -      0",
+        &format!("     reply of 34 bytes: disc appendable, last session incomplete, sessions 1, its fragments 1 to {limit}"),
+        "     reply of 32768 bytes: begins 04 04 04 04 04 04 04 04, 11 sectors all zero",
+        "330  CLOSE and finalize                     accepted  0/00/00 no sense                          -      0",
+        &format!("     reply of 34 bytes: disc finalized, last session complete, sessions 1, its fragments 1 to {limit}"),
+        "332  WRITE 16 sectors at 5120               refused   7/27/00 write protected                   -      0",
+    ] {
+        assert_line(&table, line);
+    }
+    assert!(table.lines().count() < 4 * 332, "{} lines", table.lines().count());
 }
 
 #[test]
@@ -355,8 +397,10 @@ fn program_ends_as_it_should() {
     assert!(good.status.success());
     assert!(String::from_utf8_lossy(&good.stdout).contains("All 21 answers are as document 01"));
     assert!(folder.join("shift.svg").is_file());
-    let example = format!("{SCRIPTS}/cold-store.txt");
-    assert!(demo(&[&example, "--image", &path("script.svg")]).status.success());
+    for name in ["cold-store.txt", "four-rooms.txt"] {
+        let example = format!("{SCRIPTS}/{name}");
+        assert!(demo(&[&example, "--image", &path("script.svg")]).status.success());
+    }
     std::fs::write(folder.join("bad.txt"), "disc 300\n0x2A\n").expect("a script");
     let bad = demo(&[&path("bad.txt")]);
     assert_eq!(bad.status.code(), Some(2));

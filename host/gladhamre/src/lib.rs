@@ -5,25 +5,25 @@
 //! content: what does not fit is refused by a number.
 //!
 //! ```
-//! use gladhamre::{blocks, Lent, Refusal, State, BLOCK_BYTES, SECTOR_BYTES};
+//! use gladhamre::{cdb, Lent, Refusal, State, BLOCK_BYTES, SECTOR_BYTES};
 //!
 //! let mut state = State::blank(256).expect("256 blocks are a capacity");
 //! let mut medium = vec![0; 256 * BLOCK_BYTES];
 //! let mut pending = vec![0; BLOCK_BYTES];
 //! let mut reply = vec![0; 20 * SECTOR_BYTES];
 //! let readings = vec![0xA1; 20 * SECTOR_BYTES];
-//! let mut command = |block: &[u8], data: &[u8]| {
+//! let mut command = |cdb: &[u8], data: &[u8]| {
 //!     let (medium, pending, reply) = (&mut medium, &mut pending, &mut reply);
-//!     state.command(Lent { block, data, medium, pending, reply })
+//!     state.command(Lent { cdb, data, medium, pending, reply })
 //! };
 //!
-//! let written = command(&blocks::write(0, 20), &readings).expect("the tail begins at 0");
+//! let written = command(&cdb::write(0, 20), &readings).expect("the tail begins at 0");
 //! assert_eq!(written.recorded, 1);
-//! let flushed = command(&blocks::opcode_only(blocks::SYNCHRONIZE_CACHE), &[]);
+//! let flushed = command(&cdb::opcode_only(cdb::SYNCHRONIZE_CACHE), &[]);
 //! assert_eq!(flushed.map(|accepted| accepted.recorded), Ok(1));
 //! let blank_check = Refusal::Drive { key: 0x8, code: 0x00, qualifier: 0x00 };
-//! assert_eq!(command(&blocks::read(32, 1), &[]), Err(blank_check));
-//! command(&blocks::read(0, 20), &[]).expect("sectors 0 to 31 are recorded");
+//! assert_eq!(command(&cdb::read(32, 1), &[]), Err(blank_check));
+//! command(&cdb::read(0, 20), &[]).expect("sectors 0 to 31 are recorded");
 //! assert_eq!(reply, readings);
 //! assert_eq!(state.record(0).zero_filled, 12);
 //! ```
@@ -33,9 +33,9 @@
 pub mod raw;
 mod state;
 
-pub use blocks::{self, SECTOR_BYTES};
+pub use cdb::{self, SECTOR_BYTES};
 pub use raw::{Answer, Lent};
-pub use state::{Record, State, RECORD_LIMIT, STATE_WORDS};
+pub use state::{Record, State, HEADER_WORDS, RECORD_LIMIT, RECORD_WORDS, STATE_WORDS};
 
 /// The bytes of an ECC block, which is 16 sectors.
 pub const BLOCK_BYTES: usize = 32_768;

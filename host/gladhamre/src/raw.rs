@@ -2,7 +2,8 @@
 
 /// What the caller lends for one command.
 pub struct Lent<'a> {
-    pub block: &'a [u8],
+    /// The command block.
+    pub cdb: &'a [u8],
     pub data: &'a [u8],
     pub medium: &'a mut [u8],
     pub pending: &'a mut [u8],
@@ -20,7 +21,8 @@ pub struct Answer {
     pub recorded: u64,
 }
 
-/// Writes the image of a blank disc. An image that is not 391 words stays as it is.
+/// Writes the image of a blank disc. An image of another length than
+/// [`STATE_WORDS`](crate::STATE_WORDS) stays as it is.
 pub fn blank(capacity: u32, state: &mut [u32]) -> u32 {
     linked::blank(capacity, state)
 }
@@ -72,8 +74,8 @@ mod linked {
         let mut recorded = u64::MAX;
         let number = unsafe {
             gladhamre_command(
-                lent.block.as_ptr(),
-                lent.block.len(),
+                lent.cdb.as_ptr(),
+                lent.cdb.len(),
                 lent.data.as_ptr(),
                 lent.data.len(),
                 state.as_mut_ptr(),

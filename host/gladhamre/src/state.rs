@@ -1,12 +1,15 @@
-//! The state image: 391 words, with names for them.
+//! The state image: 32-bit words, with names for them.
 
 use crate::{raw, Accepted, Lent, Refusal};
 
 /// The most records that a state has.
-pub const RECORD_LIMIT: usize = 64;
+pub const RECORD_LIMIT: usize = 160;
 
-const HEADER_WORDS: usize = 7;
-const RECORD_WORDS: usize = 6;
+/// The words before the records.
+pub const HEADER_WORDS: usize = 7;
+
+/// The words of a record.
+pub const RECORD_WORDS: usize = 6;
 
 /// The words of a state image.
 pub const STATE_WORDS: usize = HEADER_WORDS + RECORD_WORDS * RECORD_LIMIT;

@@ -50,7 +50,7 @@ impl Sense {
 #[derive(Clone, Copy, Debug, PartialEq, Eq)]
 pub enum Refusal {
     /// L1: the command block is not 12 bytes long.
-    BlockLength,
+    CdbLength,
     /// L2: the capacity is out of range, or medium or pending buffer have another length than they
     /// should.
     BufferLength,
@@ -66,7 +66,7 @@ impl Refusal {
     /// The number by which document 01 knows the refusal.
     pub fn number(self) -> u32 {
         match self {
-            Refusal::BlockLength => 1,
+            Refusal::CdbLength => 1,
             Refusal::BufferLength => 2,
             Refusal::UnsoundState => 3,
             Refusal::TransferLength => 4,

@@ -4,7 +4,8 @@ use crate::{Refusal, BLOCK_BYTES, CAPACITIES};
 
 /// What the caller lends for one command.
 pub struct Lent<'a> {
-    pub block: &'a [u8],
+    /// The command block.
+    pub cdb: &'a [u8],
     pub data: &'a [u8],
     pub medium: &'a mut [u8],
     pub pending: &'a mut [u8],
@@ -13,8 +14,8 @@ pub struct Lent<'a> {
 
 impl Lent<'_> {
     /// The twelve bytes of the command block, or L1.
-    pub(crate) fn command_block(&self) -> Result<[u8; 12], Refusal> {
-        self.block.try_into().map_err(|_| Refusal::BlockLength)
+    pub(crate) fn twelve_bytes(&self) -> Result<[u8; 12], Refusal> {
+        self.cdb.try_into().map_err(|_| Refusal::CdbLength)
     }
 
     /// L2. The capacity is missing where an empty state image is lent.

@@ -21,23 +21,23 @@ pub enum Command {
 }
 
 impl Command {
-    pub fn decode(block: &[u8; 12]) -> Command {
-        let two = |at: usize| u64::from(u16::from_be_bytes([block[at], block[at + 1]]));
+    pub fn decode(cdb: &[u8; 12]) -> Command {
+        let two = |at: usize| u64::from(u16::from_be_bytes([cdb[at], cdb[at + 1]]));
         let four = |at: usize| (two(at) << 16) | two(at + 2);
-        match block[0] {
+        match cdb[0] {
             0x00 => Command::TestUnitReady,
-            0x03 => Command::RequestSense { allocation: block[4].into() },
+            0x03 => Command::RequestSense { allocation: cdb[4].into() },
             0x25 => Command::ReadCapacity,
             0x28 => Command::Read { from: Address(four(2)), sectors: two(7) },
             0x2A => Command::Write { to: Address(four(2)), sectors: two(7) },
             0x35 => Command::SynchronizeCache,
             0x53 => Command::Reserve { sectors: four(5) },
-            0x5B => Command::Close { function: block[2] & 0b111, number: two(4) },
+            0x5B => Command::Close { function: cdb[2] & 0b111, number: two(4) },
             0x51 => {
-                Command::ReadDiscInformation { kind: block[1] & 0b111, allocation: two(7) as usize }
+                Command::ReadDiscInformation { kind: cdb[1] & 0b111, allocation: two(7) as usize }
             }
             0x52 => Command::ReadFragmentInformation {
-                by: block[1] & 0b11,
+                by: cdb[1] & 0b11,
                 value: four(2),
                 allocation: two(7) as usize,
             },

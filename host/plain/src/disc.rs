@@ -64,6 +64,11 @@ impl Fragment {
     }
 }
 
+/// The limit of fragments, one too low or too high with that mistake.
+pub(crate) fn limit_with(fault: Option<Fault>, too_low: Fault, too_high: Fault) -> usize {
+    FRAGMENT_LIMIT + usize::from(fault == Some(too_high)) - usize::from(fault == Some(too_low))
+}
+
 /// Sectors gathered in the pending buffer: at least 1 and at most 15, all of one fragment.
 #[derive(Clone, Copy, Debug, PartialEq, Eq)]
 pub(crate) struct Pending {
@@ -104,6 +109,11 @@ impl Disc {
     /// Whether this mistake is switched on.
     pub(crate) fn slips(&self, fault: Fault) -> bool {
         self.fault == Some(fault)
+    }
+
+    /// The limit of fragments, one too low or too high where that mistake is switched on.
+    pub(crate) fn limit(&self, too_low: Fault, too_high: Fault) -> usize {
+        limit_with(self.fault, too_low, too_high)
     }
 
     /// The block after the last one of the disc.

@@ -2,6 +2,9 @@
 
 use crate::Rule;
 
+/// The most fragments that a disc had before the limit was raised.
+pub(crate) const FORMER_LIMIT: usize = 64;
+
 /// A mistake of the drive.
 #[derive(Clone, Copy, Debug, PartialEq, Eq)]
 pub enum Fault {
@@ -63,8 +66,24 @@ pub enum Fault {
     BlankReservedClosed,
     /// 001 zero-fills one block too many, the dividing one.
     CloseFillsDividingBlock,
-    /// 53h is refused at 63 records.
+    /// 53h is refused where one record is free.
     RecordLimitTooLow,
+    /// 53h is taken where no record is free.
+    RecordLimitTooHigh,
+    /// 53h is refused at the limit of before, [`FORMER_LIMIT`].
+    RecordLimitOfBefore,
+    /// 001 makes no tail where one record is free.
+    TailLimitTooLow,
+    /// 001 with a full list puts a new tail in the place of the last record.
+    TailOverwritesRecord,
+    /// 010 is refused where it keeps one record less than the limit.
+    KeptLimitTooLow,
+    /// 010 is taken where it keeps a full list.
+    KeptLimitTooHigh,
+    /// L3 is not given for a list without a tail that lacks one record to the limit.
+    FullListTooLow,
+    /// L3 is given for a full list without a tail.
+    FullListTooHigh,
     /// 110 refuses every session that is only a blank tail, not session 1 alone.
     EmptySessionRefused,
     /// 110 leaves the disc unfinalized.
@@ -77,11 +96,11 @@ impl Fault {
     /// Every mistake, with every rule that can be left untested.
     pub fn all() -> Vec<Fault> {
         let rules = Rule::ALL.map(Fault::RuleUntested);
-        Self::OF_COMMANDS.into_iter().chain(rules).collect()
+        Self::OF_COMMANDS.into_iter().chain(rules).chain([Fault::FullListTooLow]).collect()
     }
 
     /// The mistakes that commands on sound states can show.
-    pub const OF_COMMANDS: [Fault; 32] = [
+    pub const OF_COMMANDS: [Fault; 39] = [
         Fault::FlushOnRefusal,
         Fault::FlushFillsFragment,
         Fault::WriteInPart,
@@ -111,6 +130,13 @@ impl Fault {
         Fault::BlankReservedClosed,
         Fault::CloseFillsDividingBlock,
         Fault::RecordLimitTooLow,
+        Fault::RecordLimitTooHigh,
+        Fault::RecordLimitOfBefore,
+        Fault::TailLimitTooLow,
+        Fault::TailOverwritesRecord,
+        Fault::KeptLimitTooLow,
+        Fault::KeptLimitTooHigh,
+        Fault::FullListTooHigh,
         Fault::EmptySessionRefused,
         Fault::FinalizeForgotten,
         Fault::StrayWrite,

@@ -3,7 +3,7 @@
 
 use crate::answer::Accepted;
 use crate::command::Command;
-use crate::disc::{Disc, Pending};
+use crate::disc::{limit_with, Disc, Pending};
 use crate::sound::rules_broken_by;
 use crate::{Answer, Block, Fault, Fragment, Kind, Lent, Refusal, Sense, FRAGMENT_LIMIT};
 
@@ -14,7 +14,7 @@ const RECORD_WORDS: usize = 6;
 pub const IMAGE_WORDS: usize = HEADER_WORDS + RECORD_WORDS * FRAGMENT_LIMIT;
 
 /// Writes the image of a blank disc, or an all-zero one where the capacity is out of range. An
-/// image that has not 391 words stays as it is. Gives 0 or the refusal's number.
+/// image of another length stays as it is. Gives 0 or the refusal's number.
 pub fn blank(capacity: u32, image: &mut [u32]) -> u32 {
     let words: Option<&mut [u32; IMAGE_WORDS]> = image.try_into().ok();
     match (Disc::blank(capacity.into()), words) {
@@ -42,11 +42,11 @@ fn command_on_image(
     lent: &mut Lent,
     fault: Option<Fault>,
 ) -> Result<Accepted, Refusal> {
-    let block = lent.command_block()?;
+    let cdb = lent.twelve_bytes()?;
     lent.check_lengths(image.first().map(|&word| word.into()))?;
     let words: &mut [u32; IMAGE_WORDS] = image.try_into().map_err(|_| Refusal::UnsoundState)?;
     let mut disc = Disc::from_image(words, fault)?;
-    let result = disc.obey(Command::decode(&block), lent);
+    let result = disc.obey(Command::decode(&cdb), lent);
     if matches!(result, Ok(_) | Err(Refusal::Drive(_))) {
         disc.write_image(words);
     }
@@ -57,7 +57,8 @@ impl Disc {
     /// The disc of an image, or L3. The capacity's range is not tested here.
     pub fn from_image(image: &[u32; IMAGE_WORDS], fault: Option<Fault>) -> Result<Disc, Refusal> {
         let words = Words::read(image);
-        let mut broken = rules_broken_by(&words);
+        let full_list = limit_with(fault, Fault::FullListTooLow, Fault::FullListTooHigh);
+        let mut broken = rules_broken_by(&words, full_list);
         if let Some(Fault::RuleUntested(rule)) = fault {
             broken = broken.without(rule);
         }

@@ -3,8 +3,9 @@
 
 use crate::command::Command;
 use crate::disc::Disc;
+use crate::fault::FORMER_LIMIT;
 use crate::reply::{self, Report};
-use crate::{Address, Block, Fault, Kind, Sense, BLOCK_SECTORS, FRAGMENT_LIMIT};
+use crate::{Address, Block, Fault, Kind, Sense, BLOCK_SECTORS};
 
 /// Closure and Intro between two sessions, 64 blocks each.
 pub(crate) const SESSION_GAP: u64 = 128;
@@ -106,7 +107,7 @@ impl Disc {
     }
 
     /// 53h: 7/27/00 on a finalized disc; 5/24/00 for size 0; 5/72/05 without a blank tail or with
-    /// 64 records; 5/63/00 where the new tail would start at the end of the disc or later.
+    /// a full list; 5/63/00 where the new tail would start at the end of the disc or later.
     fn judge_reserve(&self, sectors: u64) -> Result<Step, Sense> {
         if self.finalized && !(sectors == 0 && self.slips(Fault::ReserveRefusalsSwapped)) {
             return Err(Sense::WRITE_PROTECTED);
@@ -114,7 +115,10 @@ impl Disc {
         if sectors == 0 {
             return Err(Sense::INVALID_FIELD);
         }
-        let limit = FRAGMENT_LIMIT - usize::from(self.slips(Fault::RecordLimitTooLow));
+        let limit = match self.slips(Fault::RecordLimitOfBefore) {
+            true => FORMER_LIMIT,
+            false => self.limit(Fault::RecordLimitTooLow, Fault::RecordLimitTooHigh),
+        };
         let index = self
             .blank_tail()
             .filter(|_| self.fragments.len() < limit)
@@ -152,7 +156,7 @@ impl Disc {
     }
 
     /// 010: nothing to do on a finalized disc or in a session that is only a blank tail. Judged as
-    /// after the flush: 5/72/03 with an incomplete reserved fragment, 5/72/05 where 64 records are
+    /// after the flush: 5/72/03 with an incomplete reserved fragment, 5/72/05 where a full list is
     /// kept, 5/63/00 where the next session would not have a block.
     fn judge_close_session(&self) -> Result<Step, Sense> {
         if self.finalized || self.last_session_is_empty() {
@@ -162,7 +166,7 @@ impl Disc {
             return Err(Sense::INCOMPLETE_FRAGMENT_IN_SESSION);
         }
         let (kept, end) = self.kept_after_flush();
-        let list_full = kept == FRAGMENT_LIMIT;
+        let list_full = kept >= self.limit(Fault::KeptLimitTooLow, Fault::KeptLimitTooHigh);
         let slack = u64::from(self.slips(Fault::SessionLimitTooHigh));
         let disc_full = end + SESSION_GAP + 1 > self.end() + slack;
         if list_full && !(disc_full && self.slips(Fault::CloseRefusalsSwapped)) {

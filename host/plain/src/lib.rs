@@ -33,4 +33,4 @@ pub use units::{Address, Block, BLOCK_BYTES, BLOCK_SECTORS, SECTOR_BYTES};
 pub const CAPACITIES: std::ops::RangeInclusive<u64> = 256..=143_444;
 
 /// The most fragments that a disc can have, the tail included.
-pub const FRAGMENT_LIMIT: usize = 64;
+pub const FRAGMENT_LIMIT: usize = 160;

@@ -16,12 +16,12 @@ impl Disc {
     }
 
     fn answer(&mut self, lent: &mut Lent) -> Result<Accepted, Refusal> {
-        let block = lent.command_block()?;
+        let cdb = lent.twelve_bytes()?;
         lent.check_lengths(Some(self.capacity))?;
-        self.obey(Command::decode(&block), lent)
+        self.obey(Command::decode(&cdb), lent)
     }
 
-    /// L4 and the drive, once block, medium and pending buffer have the right lengths.
+    /// L4 and the drive, once command block, medium and pending buffer have the right lengths.
     pub(crate) fn obey(&mut self, command: Command, lent: &mut Lent) -> Result<Accepted, Refusal> {
         let judged = self.judge(command);
         if !(self.slips(Fault::TransferTestedLate) && judged.is_err()) {
@@ -175,15 +175,25 @@ impl Disc {
         }
         fragment.length = fragment.recorded;
         let (session, next) = (fragment.session, fragment.end() + 1);
-        if next < self.end() && self.fragments.len() < FRAGMENT_LIMIT {
+        if next < self.end() && self.has_free_record() {
             self.push_tail(session, next);
         }
         flushed
     }
 
+    /// Whether there is a record for a new tail.
+    fn has_free_record(&mut self) -> bool {
+        if self.slips(Fault::TailOverwritesRecord) {
+            self.fragments.truncate(FRAGMENT_LIMIT - 1);
+        }
+        let limit = FRAGMENT_LIMIT - usize::from(self.slips(Fault::TailLimitTooLow));
+        self.fragments.len() < limit
+    }
+
     /// Records zeros in the fragment's unrecorded blocks. Gives their number.
     fn fill_with_zeros(&mut self, index: usize, lent: &mut Lent) -> u64 {
-        let stray = u64::from(self.slips(Fault::CloseFillsDividingBlock));
+        let has_block_behind = self.fragments[index].end() < self.end();
+        let stray = u64::from(self.slips(Fault::CloseFillsDividingBlock) && has_block_behind);
         let fragment = &mut self.fragments[index];
         let blocks = fragment.length - fragment.recorded;
         lent.medium[block_stretch(fragment.first_unrecorded(), blocks + stray)].fill(0);

@@ -34,7 +34,7 @@ pub enum Rule {
     TailIsLast,
     /// A tail reaches the capacity.
     TailReachesCapacity,
-    /// Without a tail a disc is finalized, or has 64 records, or its last record ends at C - 1 or
+    /// Without a tail a disc is finalized, or its list is full, or its last record ends at C - 1 or
     /// later.
     TailMissing,
     /// 1 to 15 pending sectors name an incomplete record, none name 0.
@@ -92,10 +92,11 @@ impl RuleSet {
 
 /// The rules that a state image of the right length breaks.
 pub fn broken_rules(image: &[u32; crate::IMAGE_WORDS]) -> RuleSet {
-    rules_broken_by(&Words::read(image))
+    rules_broken_by(&Words::read(image), FRAGMENT_LIMIT)
 }
 
-pub(crate) fn rules_broken_by(words: &Words) -> RuleSet {
+/// The same of words, with the number of records from which a list is full.
+pub(crate) fn rules_broken_by(words: &Words, full_list: usize) -> RuleSet {
     let mut broken = RuleSet::default();
     let used = &words.used;
     broken.require(Rule::AnyRecord, !used.is_empty());
@@ -108,7 +109,7 @@ pub(crate) fn rules_broken_by(words: &Words) -> RuleSet {
         require_of_place(&mut broken, used, position);
     }
     if let Some(last) = used.last() {
-        require_of_last(&mut broken, words, used.len(), last);
+        require_of_last(&mut broken, words, last, used.len() >= full_list);
     }
     let at_rest = words.pending_count() == 0 && used.iter().all(Record::is_complete);
     broken.require(Rule::FinalizedComplete, words.finalized() == 0 || at_rest);
@@ -150,13 +151,13 @@ fn follows(forerunner: &Record, record: &Record) -> bool {
 }
 
 /// The rules that look at the last record.
-fn require_of_last(broken: &mut RuleSet, words: &Words, count: usize, last: &Record) {
+fn require_of_last(broken: &mut RuleSet, words: &Words, last: &Record, list_is_full: bool) {
     broken.require(Rule::TailReachesCapacity, !last.is_tail() || last.end() >= words.capacity());
     broken.require(
         Rule::TailMissing,
         words.finalized() != 0
             || last.is_tail()
-            || count == FRAGMENT_LIMIT
+            || list_is_full
             || last.end() + 1 >= words.capacity(),
     );
 }

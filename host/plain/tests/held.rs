@@ -43,9 +43,9 @@ impl Buffers {
         }
     }
 
-    fn lend<'a>(&'a mut self, block: &'a [u8], data: &'a [u8]) -> Lent<'a> {
+    fn lend<'a>(&'a mut self, cdb: &'a [u8], data: &'a [u8]) -> Lent<'a> {
         Lent {
-            block,
+            cdb,
             data,
             medium: &mut self.medium,
             pending: &mut self.pending,
@@ -61,12 +61,12 @@ fn held_and_as_image() {
     assert_eq!(plain::blank(CAPACITY, &mut image), 0);
     let (mut own, mut other) = (Buffers::new(), Buffers::new());
     let bytes: Vec<u8> = (0..49 * SECTOR_BYTES).map(|at| (at / 100) as u8).collect();
-    for (block, number) in &COMMANDS {
-        let sectors = if block[0] == 0x2A { block[8] } else { 0 };
+    for (cdb, number) in &COMMANDS {
+        let sectors = if cdb[0] == 0x2A { cdb[8] } else { 0 };
         let data = &bytes[..usize::from(sectors) * SECTOR_BYTES];
-        let answer = held.command(own.lend(block, data));
-        assert_eq!(answer.number, *number, "{block:02X?}");
-        assert_eq!(answer, plain::command(&mut image, other.lend(block, data), None));
+        let answer = held.command(own.lend(cdb, data));
+        assert_eq!(answer.number, *number, "{cdb:02X?}");
+        assert_eq!(answer, plain::command(&mut image, other.lend(cdb, data), None));
         assert!(own == other);
         let mut written = [0; IMAGE_WORDS];
         held.write_image(&mut written);

@@ -39,12 +39,12 @@ impl Drive {
     }
 
     /// One command, with the data that it asks for and more room for the reply than any asks for.
-    fn obey(&mut self, block: &[u8]) {
-        let sectors = usize::from(u16::from_be_bytes([block[7], block[8]]));
-        let data = vec![0x5A; if block[0] == 0x2A { sectors * SECTOR_BYTES } else { 0 }];
+    fn obey(&mut self, cdb: &[u8]) {
+        let sectors = usize::from(u16::from_be_bytes([cdb[7], cdb[8]]));
+        let data = vec![0x5A; if cdb[0] == 0x2A { sectors * SECTOR_BYTES } else { 0 }];
         let mut reply = vec![0; sectors.max(1) * SECTOR_BYTES];
         let (medium, pending) = (&mut self.medium, &mut self.pending);
-        let lent = Lent { block, data: &data, medium, pending, reply: &mut reply };
+        let lent = Lent { cdb, data: &data, medium, pending, reply: &mut reply };
         let answer = plain::command(&mut self.image, lent, None);
         assert!(answer.number == 0 || answer.number > 4, "refused on the link: {}", answer.number);
     }

@@ -1,6 +1,6 @@
 //! The rules of a sound list, by one example each.
 
-use plain::{blank, broken_rules, Rule, RuleSet, IMAGE_WORDS};
+use plain::{blank, broken_rules, Rule, RuleSet, FRAGMENT_LIMIT, IMAGE_WORDS};
 
 const RESERVED: u32 = 0;
 const APPENDED: u32 = 1;
@@ -120,4 +120,49 @@ fn rules_of_sessions_and_tail() {
     breaks_with(Rule::IncompleteInLastSession, written(), 0, [1, 0, 2, 1, 12, RESERVED]);
     breaks_with(Rule::TailIsLast, written(), 1, [2, 130, 3, 1, 0, APPENDED]);
     breaks_with(Rule::TailReachesCapacity, written(), 2, [2, 134, 165, 0, 0, APPENDED]);
+}
+
+/// So many fragments of one block on a disc of 480, all complete, and the rest of the disc in none.
+fn crowded(count: usize) -> Image {
+    let records: Vec<[u32; 6]> =
+        (0..count as u32).map(|index| [1, 2 * index, 1, 1, 0, RESERVED]).collect();
+    let mut image = image(&records);
+    image[0] = 480;
+    image
+}
+
+/// A full list needs no tail, one that lacks a record does. A tail may be the last record.
+#[test]
+fn full_lists() {
+    let last = FRAGMENT_LIMIT - 1;
+    let start = 2 * last as u32;
+    assert!(is_sound(&crowded(FRAGMENT_LIMIT)));
+    assert_eq!(broken_rules(&crowded(last)), RuleSet::only(Rule::TailMissing));
+    for ending in [
+        [1, start, 480 - start, 0, 0, APPENDED],
+        [1, start, 480 - start, 5, 80, APPENDED],
+        [1, start, 5, 0, 0, RESERVED],
+        [1, start, 479 - start, 3, 0, RESERVED],
+        [2, start + 127, 7, 7, 0, APPENDED],
+    ] {
+        let mut full = crowded(last);
+        put(&mut full, last, ending);
+        let is_open = ending[3] < ending[2];
+        full[5..7].copy_from_slice(if is_open { &[15, FRAGMENT_LIMIT as u32] } else { &[0, 0] });
+        assert!(is_sound(&full), "{ending:?}");
+    }
+    let mut with_tail = crowded(last - 1);
+    put(&mut with_tail, last - 1, [1, start - 2, 482 - start, 0, 0, APPENDED]);
+    assert!(is_sound(&with_tail));
+}
+
+/// Pending sectors name a record of the list, the last one at most.
+#[test]
+fn pending_at_the_end_of_a_full_list() {
+    let last = FRAGMENT_LIMIT - 1;
+    let mut full = crowded(last);
+    put(&mut full, last, [1, 2 * last as u32, 3, 1, 0, RESERVED]);
+    full[5..7].copy_from_slice(&[1, FRAGMENT_LIMIT as u32]);
+    breaks(Rule::PendingNamesIncomplete, full, |image| image[6] += 1);
+    breaks(Rule::PendingNamesIncomplete, full, |image| image[6] -= 1);
 }

@@ -5,7 +5,7 @@
 
 #![forbid(unsafe_code)]
 
-use blocks::{Block, BLOCK_LENGTH, SECTOR_BYTES};
+use cdb::{Cdb, CDB_LENGTH, SECTOR_BYTES};
 use std::fmt;
 use std::fs::{self, File};
 use std::io::Read;
@@ -31,7 +31,7 @@ pub struct Part {
 /// One command.
 #[derive(Debug)]
 pub struct Command {
-    pub block: Block,
+    pub cdb: Cdb,
     pub data: Data,
 }
 
@@ -114,27 +114,27 @@ fn blank_disc(words: &[&str]) -> Result<Part, String> {
 
 fn command(words: &[&str], folder: &Path) -> Result<Command, String> {
     let end = words.iter().position(|&word| word == "data").unwrap_or(words.len());
-    let block = command_block(&words[..end])?;
+    let cdb = cdb(&words[..end])?;
     let data = match words.get(end + 1..) {
         None => Data::Stamp,
-        Some(source) => data(source, &block, folder)?,
+        Some(source) => data(source, &cdb, folder)?,
     };
-    Ok(Command { block, data })
+    Ok(Command { cdb, data })
 }
 
 /// Bytes in hexadecimal, apart or not; those missing at the end are zero.
-fn command_block(words: &[&str]) -> Result<Block, String> {
+fn cdb(words: &[&str]) -> Result<Cdb, String> {
     let mut bytes = Vec::new();
     for word in words {
         bytes.extend(hex_bytes(word)?);
     }
     let count = bytes.len();
-    if !(1..=BLOCK_LENGTH).contains(&count) {
-        return Err(format!("a command block has 1 to {BLOCK_LENGTH} bytes, this one {count}"));
+    if !(1..=CDB_LENGTH).contains(&count) {
+        return Err(format!("a command block has 1 to {CDB_LENGTH} bytes, this one {count}"));
     }
-    let mut block = [0; BLOCK_LENGTH];
-    block[..count].copy_from_slice(&bytes);
-    Ok(block)
+    let mut cdb = [0; CDB_LENGTH];
+    cdb[..count].copy_from_slice(&bytes);
+    Ok(cdb)
 }
 
 fn hex_bytes(word: &str) -> Result<Vec<u8>, String> {
@@ -150,7 +150,7 @@ fn hex_bytes(word: &str) -> Result<Vec<u8>, String> {
 }
 
 /// Where data comes from.
-fn data(words: &[&str], block: &Block, folder: &Path) -> Result<Data, String> {
+fn data(words: &[&str], cdb: &Cdb, folder: &Path) -> Result<Data, String> {
     match words {
         ["stamp"] => Ok(Data::Stamp),
         ["fill", byte] => match hex_bytes(byte).as_deref() {
@@ -160,19 +160,19 @@ fn data(words: &[&str], block: &Block, folder: &Path) -> Result<Data, String> {
         ["length", count] => {
             let count: usize =
                 count.parse().map_err(|_| format!("{count:?} is not a number of bytes"))?;
-            if count > blocks::LONGEST_DATA {
+            if count > cdb::LONGEST_DATA {
                 return Err(format!("no command takes {count} bytes of data"));
             }
             Ok(Data::Zeros(count))
         }
-        ["file", name] => file(&folder.join(name), block),
+        ["file", name] => file(&folder.join(name), cdb),
         _ => Err("data is `stamp`, `fill BYTE`, `file NAME` or `length COUNT`".into()),
     }
 }
 
 /// A file's bytes, its last sector filled up with zeros. No more is read than the command takes.
-fn file(path: &Path, block: &Block) -> Result<Data, String> {
-    let wanted = blocks::data_length(block) / SECTOR_BYTES;
+fn file(path: &Path, cdb: &Cdb) -> Result<Data, String> {
+    let wanted = cdb::data_length(cdb) / SECTOR_BYTES;
     let says = |has: String| format!("{} has {has}, the command takes {wanted}", path.display());
     let Some(mut bytes) = read_at_most(path, wanted * SECTOR_BYTES)? else {
         return Err(says(format!("more than {}", sectors(wanted))));

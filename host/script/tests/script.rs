@@ -1,7 +1,7 @@
 //! Scripts are read as described, bad ones are refused by their line, and tools/trace reads the same
 //! format.
 
-use blocks::{Block, BLOCK_LENGTH};
+use cdb::{Cdb, CDB_LENGTH};
 use script::{parse, Data, Part};
 use std::fs::{self, File};
 use std::io::Write;
@@ -26,15 +26,15 @@ fn scripts_are_read() {
         00 data length 7\r\n";
     let parts = parsed(text).expect("a good script");
     assert_eq!(parts.iter().map(|part| part.capacity).collect::<Vec<_>>(), [300, 256]);
-    assert_eq!(parts[0].commands[0].block, blocks::write(0, 1));
+    assert_eq!(parts[0].commands[0].cdb, cdb::write(0, 1));
     assert_eq!(parts[0].commands[0].data, Data::Fill(0xFF));
-    assert_eq!(parts[1].commands[0].block, blocks::write(0, 1));
+    assert_eq!(parts[1].commands[0].cdb, cdb::write(0, 1));
     assert_eq!(parts[1].commands[0].data, Data::Stamp);
     assert_eq!(parts[1].commands[1].data, Data::Zeros(7));
 }
 
 /// What is no command block, with the message; tools/trace says the same.
-const NO_BLOCKS: [(&str, &str); 11] = [
+const NO_CDBS: [(&str, &str); 11] = [
     ("", "line 1: the script has no command"),
     ("# nothing\n\n", "line 2: the script has no command"),
     (
@@ -62,7 +62,7 @@ const NO_BLOCKS: [(&str, &str); 11] = [
 
 #[test]
 fn bad_scripts_are_refused_by_line() {
-    for (text, message) in NO_BLOCKS.into_iter().chain([
+    for (text, message) in NO_CDBS.into_iter().chain([
         ("disc", "line 1: write `disc` and the number of blocks"),
         ("disc many", "line 1: \"many\" is not a number of blocks"),
         ("disc 255", "line 1: a disc has 256 to 143444 blocks, this one 255"),
@@ -103,7 +103,7 @@ fn files_have_the_sectors_that_the_command_takes() {
     assert!(missing.starts_with("line 1: ") && missing.contains("missing.csv: "), "{missing}");
     let parts = parsed("2A 00 00000000 00 0003 data file readings.csv").expect("it fits");
     let Data::Bytes(bytes) = &parts[0].commands[0].data else { panic!("a file's bytes") };
-    assert_eq!(bytes.len(), 3 * blocks::SECTOR_BYTES);
+    assert_eq!(bytes.len(), 3 * cdb::SECTOR_BYTES);
     fs::remove_file(endless).expect("it was there");
 }
 
@@ -141,15 +141,15 @@ fn a_script_that_cannot_be_read_makes_no_trace() {
 }
 
 /// The trace of command blocks: each after its mark.
-fn trace_of(blocks: &[Block]) -> Vec<u8> {
-    blocks.iter().flat_map(|block| [&[0xA5, 0x5A], &block[..]].concat()).collect()
+fn trace_of(cdbs: &[Cdb]) -> Vec<u8> {
+    cdbs.iter().flat_map(|cdb| [&[0xA5, 0x5A], &cdb[..]].concat()).collect()
 }
 
 #[test]
-fn traces_are_made_of_the_same_blocks() {
+fn traces_are_made_of_the_same_cdbs() {
     let mut every_byte = String::new();
-    for first in (0..=0xFF_u8).step_by(BLOCK_LENGTH) {
-        let bytes = (first..=0xFF).take(BLOCK_LENGTH).map(|byte| format!("{byte:02x}"));
+    for first in (0..=0xFF_u8).step_by(CDB_LENGTH) {
+        let bytes = (first..=0xFF).take(CDB_LENGTH).map(|byte| format!("{byte:02x}"));
         every_byte += &format!("{}\n", bytes.collect::<Vec<_>>().join(" "));
     }
     for text in [
@@ -159,10 +159,10 @@ fn traces_are_made_of_the_same_blocks() {
         &every_byte,
     ] {
         let parts = parsed(text).expect("a good script");
-        let blocks: Vec<Block> = parts[0].commands.iter().map(|command| command.block).collect();
+        let cdbs: Vec<Cdb> = parts[0].commands.iter().map(|command| command.cdb).collect();
         let made = traced(text);
         assert!(made.status.success() && made.stderr.is_empty(), "{text}");
-        assert_eq!(made.stdout, trace_of(&blocks), "{text}");
+        assert_eq!(made.stdout, trace_of(&cdbs), "{text}");
     }
 }
 
@@ -182,8 +182,8 @@ fn traces_are_refused_by_line() {
                 .into(),
         ),
     ];
-    let no_blocks = NO_BLOCKS.map(|(text, message)| (text, message.to_owned()));
-    for (text, message) in no_blocks.into_iter().chain(no_trace) {
+    let no_cdbs = NO_CDBS.map(|(text, message)| (text, message.to_owned()));
+    for (text, message) in no_cdbs.into_iter().chain(no_trace) {
         let refused = traced(text);
         assert_eq!(refused.status.code(), Some(2), "{text:?}");
         assert!(refused.stdout.is_empty(), "{text:?}");

@@ -12,7 +12,7 @@ fn main() -> ExitCode {
         return ExitCode::FAILURE;
     };
     let depths = match stack::measure(seed) {
-        Ok(depths) => depths,
+        Ok(measurement) => measurement.depths,
         Err(difference) => {
             eprintln!("{difference}");
             return ExitCode::FAILURE;

@@ -1,0 +1,150 @@
+//! Command blocks from their fields, all other bytes 0, and the lengths that they ask for.
+
+#![forbid(unsafe_code)]
+
+/// The bytes of a sector.
+pub const SECTOR_BYTES: usize = 2_048;
+
+/// A command block.
+pub type Cdb = [u8; CDB_LENGTH];
+
+/// The bytes of a command block.
+pub const CDB_LENGTH: usize = 12;
+
+pub const TEST_UNIT_READY: u8 = 0x00;
+pub const REQUEST_SENSE: u8 = 0x03;
+pub const READ_CAPACITY: u8 = 0x25;
+pub const READ: u8 = 0x28;
+pub const WRITE: u8 = 0x2A;
+pub const SYNCHRONIZE_CACHE: u8 = 0x35;
+pub const READ_DISC_INFORMATION: u8 = 0x51;
+pub const READ_FRAGMENT_INFORMATION: u8 = 0x52;
+pub const RESERVE: u8 = 0x53;
+pub const CLOSE: u8 = 0x5B;
+
+/// Every listed opcode.
+pub const OPCODES: [u8; 10] = [
+    TEST_UNIT_READY,
+    REQUEST_SENSE,
+    READ_CAPACITY,
+    READ,
+    WRITE,
+    SYNCHRONIZE_CACHE,
+    READ_DISC_INFORMATION,
+    READ_FRAGMENT_INFORMATION,
+    RESERVE,
+    CLOSE,
+];
+
+/// Functions of CLOSE.
+pub const FRAGMENT: u8 = 0b001;
+pub const SESSION: u8 = 0b010;
+pub const FINALIZE: u8 = 0b110;
+
+pub fn opcode_only(opcode: u8) -> Cdb {
+    let mut cdb = [0; 12];
+    cdb[0] = opcode;
+    cdb
+}
+
+pub fn request_sense(allocation: u8) -> Cdb {
+    let mut cdb = opcode_only(REQUEST_SENSE);
+    cdb[4] = allocation;
+    cdb
+}
+
+pub fn read(address: u32, sectors: u16) -> Cdb {
+    let mut cdb = opcode_only(READ);
+    set_run(&mut cdb, address, sectors);
+    cdb
+}
+
+pub fn write(address: u32, sectors: u16) -> Cdb {
+    let mut cdb = opcode_only(WRITE);
+    set_run(&mut cdb, address, sectors);
+    cdb
+}
+
+pub fn reserve(sectors: u32) -> Cdb {
+    let mut cdb = opcode_only(RESERVE);
+    set_size(&mut cdb, sectors);
+    cdb
+}
+
+pub fn close(function: u8, number: u16) -> Cdb {
+    let mut cdb = opcode_only(CLOSE);
+    cdb[2] = function;
+    set_number(&mut cdb, number);
+    cdb
+}
+
+pub fn read_disc_information(allocation: u16) -> Cdb {
+    let mut cdb = opcode_only(READ_DISC_INFORMATION);
+    set_allocation(&mut cdb, allocation);
+    cdb
+}
+
+/// 52h by address (0) or by number (1).
+pub fn read_fragment_information(by: u8, value: u32, allocation: u16) -> Cdb {
+    let mut cdb = opcode_only(READ_FRAGMENT_INFORMATION);
+    cdb[1] = by;
+    set_value(&mut cdb, value);
+    set_allocation(&mut cdb, allocation);
+    cdb
+}
+
+/// Address and length of READ and WRITE.
+pub fn set_run(cdb: &mut Cdb, address: u32, sectors: u16) {
+    set_value(cdb, address);
+    set_allocation(cdb, sectors);
+}
+
+/// The size of RESERVE.
+pub fn set_size(cdb: &mut Cdb, sectors: u32) {
+    cdb[5..9].copy_from_slice(&sectors.to_be_bytes());
+}
+
+/// The number of CLOSE.
+pub fn set_number(cdb: &mut Cdb, number: u16) {
+    cdb[4..6].copy_from_slice(&number.to_be_bytes());
+}
+
+/// An address or a number in bytes 2 to 5.
+pub fn set_value(cdb: &mut Cdb, value: u32) {
+    cdb[2..6].copy_from_slice(&value.to_be_bytes());
+}
+
+/// A length in bytes 7 and 8.
+pub fn set_allocation(cdb: &mut Cdb, allocation: u16) {
+    cdb[7..9].copy_from_slice(&allocation.to_be_bytes());
+}
+
+/// Address and length, as WRITE and READ have them.
+pub fn run(cdb: &Cdb) -> (u32, u16) {
+    let address = u32::from_be_bytes([cdb[2], cdb[3], cdb[4], cdb[5]]);
+    (address, u16::from_be_bytes([cdb[7], cdb[8]]))
+}
+
+/// The bytes of data that the longest WRITE takes.
+pub const LONGEST_DATA: usize = u16::MAX as usize * SECTOR_BYTES;
+
+/// How many bytes of data the command block asks for.
+pub fn data_length(cdb: &Cdb) -> usize {
+    match cdb[0] {
+        WRITE => usize::from(run(cdb).1) * SECTOR_BYTES,
+        _ => 0,
+    }
+}
+
+/// How many bytes the reply buffer must have.
+pub fn reply_room(cdb: &Cdb) -> usize {
+    let allocation = usize::from(run(cdb).1);
+    match cdb[0] {
+        REQUEST_SENSE => usize::from(cdb[4]).min(18),
+        READ_CAPACITY => 8,
+        READ => allocation * SECTOR_BYTES,
+        READ_DISC_INFORMATION => allocation.min(34),
+        READ_FRAGMENT_INFORMATION => allocation.min(36),
+        _ => 0,
+    }
+}

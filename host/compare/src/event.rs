@@ -1,0 +1,160 @@
+//! One command with the states before and after it, and what can be asked of it.
+
+use crate::cdb::{self, Cdb};
+use gladhamre::{Answer, Record, State, RECORD_LIMIT};
+
+/// Blocks between two sessions.
+const SESSION_GAP: u32 = 128;
+
+/// One command with the states before and after it.
+pub struct Event<'a> {
+    pub cdb: &'a Cdb,
+    pub answer: &'a Answer,
+    pub before: &'a State,
+    pub after: &'a State,
+}
+
+/// Whether no record is free.
+pub fn is_full(state: &State) -> bool {
+    state.record(RECORD_LIMIT - 1) != Record::default()
+}
+
+/// Whether exactly one record is free.
+pub fn lacks_one(state: &State) -> bool {
+    !is_full(state) && state.record(RECORD_LIMIT - 2) != Record::default()
+}
+
+fn is_tail(record: &Record) -> bool {
+    record.kind == 1 && record.recorded < record.length
+}
+
+impl Event<'_> {
+    pub fn accepted(&self, opcode: u8) -> bool {
+        self.cdb[0] == opcode && self.answer.number == 0
+    }
+
+    pub fn refused(&self, opcode: u8, number: u32) -> bool {
+        self.cdb[0] == opcode && self.answer.number == number
+    }
+
+    pub fn closed(&self, function: u8) -> bool {
+        self.accepted(cdb::CLOSE) && self.cdb[2] & 0b111 == function
+    }
+
+    pub fn close_refused(&self, function: u8, number: u32) -> bool {
+        self.refused(cdb::CLOSE, number) && self.cdb[2] & 0b111 == function
+    }
+
+    /// 52h by number, answered so.
+    pub fn named(&self, value: usize, number: u32) -> bool {
+        self.cdb[0] == cdb::READ_FRAGMENT_INFORMATION
+            && self.cdb[1] & 0b11 == 1
+            && self.address() == value as u64
+            && self.answer.number == number
+    }
+
+    /// 52h by address, accepted.
+    pub fn located(&self) -> bool {
+        self.accepted(cdb::READ_FRAGMENT_INFORMATION) && self.cdb[1] & 0b11 == 0
+    }
+
+    pub fn address(&self) -> u64 {
+        cdb::run(self.cdb).0.into()
+    }
+
+    pub fn length(&self) -> u16 {
+        cdb::run(self.cdb).1
+    }
+
+    pub fn number(&self) -> u32 {
+        u16::from_be_bytes([self.cdb[4], self.cdb[5]]).into()
+    }
+
+    pub fn last_before(&self) -> Record {
+        self.before.records().last().unwrap_or_default()
+    }
+
+    pub fn last_after(&self) -> Record {
+        self.after.records().last().unwrap_or_default()
+    }
+
+    pub fn last_end(&self) -> u32 {
+        self.last_after().start + self.last_after().length
+    }
+
+    /// The record whose sectors were pending, before and after.
+    fn pending_record(&self) -> Option<(Record, Record)> {
+        let index = (self.before.pending_fragment() as usize).checked_sub(1)?;
+        Some((self.before.record(index), self.after.record(index)))
+    }
+
+    /// The pending block was filled up with zeros.
+    pub fn flushed(&self) -> bool {
+        self.pending_record().is_some_and(|(before, after)| after.zero_filled > before.zero_filled)
+    }
+
+    pub fn flushed_reserved(&self) -> bool {
+        self.flushed() && self.pending_record().is_some_and(|(before, _)| before.kind == 0)
+    }
+
+    /// Some record became complete without being cut.
+    pub fn completed(&self) -> bool {
+        self.before.records().zip(self.after.records()).any(|(before, after)| {
+            before.recorded < before.length
+                && after.recorded == after.length
+                && after.length == before.length
+        })
+    }
+
+    pub fn tail_has_pending_only(&self) -> bool {
+        let last = self.last_before();
+        let number = self.before.records().count() as u32;
+        last.kind == 1 && last.recorded == 0 && self.before.pending_fragment() == number
+    }
+
+    /// The next writable address that the fragment with pending sectors would have after a flush.
+    pub fn next_after_flush(&self) -> u64 {
+        self.pending_record().map_or(0, |(record, _)| {
+            16 * (u64::from(record.start) + u64::from(record.recorded) + 1)
+        })
+    }
+
+    /// There was a tail and now there is none.
+    pub fn lost_tail(&self, function: u8) -> bool {
+        self.closed(function) && is_tail(&self.last_before()) && !is_tail(&self.last_after())
+    }
+
+    /// The last fragment before the command is a tail with sectors recorded or pending.
+    pub fn tail_is_written(&self) -> bool {
+        let last = self.last_before();
+        is_tail(&last) && (last.recorded > 0 || self.tail_has_pending_only())
+    }
+
+    /// The last fragment before the command is a tail with nothing recorded and nothing pending.
+    pub fn tail_is_blank(&self) -> bool {
+        is_tail(&self.last_before()) && !self.tail_is_written()
+    }
+
+    /// A RESERVE leaves at least one block for the new tail.
+    pub fn reservation_fits(&self) -> bool {
+        let size = u32::from_be_bytes([self.cdb[5], self.cdb[6], self.cdb[7], self.cdb[8]]);
+        let new_tail = u64::from(self.last_before().start) + u64::from(size.div_ceil(16)) + 1;
+        new_tail < self.before.capacity().into()
+    }
+
+    /// After the last fragment, a written tail cut, there is room for another session.
+    pub fn session_fits(&self) -> bool {
+        let last = self.last_before();
+        let pending_here = self.before.pending_fragment() == self.before.records().count() as u32;
+        let end = match is_tail(&last) {
+            true => last.start + last.recorded + u32::from(pending_here),
+            false => last.start + last.length,
+        };
+        end + SESSION_GAP < self.before.capacity()
+    }
+
+    /// The list is full before the command, and the address lies in its last record or after it.
+    pub fn reaches_last_record(&self) -> bool {
+        is_full(self.before) && self.address() >= 16 * u64::from(self.last_before().start)
+    }
+}

@@ -5,7 +5,7 @@ use Prim.Native.Nat.{ℕ, _+_, _-_, _*_, _/_, _%_}
 use mathlib.Core.Path.{_≡_, refl}
 use mathlib.Core.Bool.{false}
 use mathlib.Core.List.{List, [], _∷_, _++_, map}
-use lib.ListN.{length, replicate}
+use lib.ListN.{replicate}
 use Rattle.protocol.specs.Answer.{sense}
 use Rattle.protocol.specs.Command.{decode}
 use Rattle.protocol.specs.Reports.{discBytes, trackBytes}
@@ -21,10 +21,7 @@ use Rattle.commands.specs.Judge.{perform}
 use Rattle.examples.specs.Types.{Reserved, Appended, Fragment, Disc}
 use Rattle.examples.specs.Shift.{Line, line, Shown, shown}
 use Rattle.examples.specs.States.{on, column, lastStart, crowded}
-
--- a command block by its first bytes, zeros after them
-abbrev block : List ℕ → List ℕ
-block b = b ++ replicate (12 - length b) 0
+use Rattle.examples.specs.Tour.{cdb}
 
 -- a number in four bytes, of which the low two are enough
 abbrev wide : ℕ → List ℕ
@@ -32,7 +29,7 @@ wide n = 0 ∷ 0 ∷ (n / 256) ∷ (n % 256) ∷ []
 
 -- WRITE of n sectors at such an address
 abbrev writeAt : ℕ → ℕ → List ℕ
-writeAt a n = block (0x2A ∷ 0 ∷ (wide a ++ (0 ∷ 0 ∷ n ∷ [])))
+writeAt a n = cdb (0x2A ∷ 0 ∷ (wide a ++ (0 ∷ 0 ∷ n ∷ [])))
 
 -- a full list: the last record reserved, with w of its two blocks recorded; a blank tail; and session 2 in that tail's record
 abbrev fullList : ℕ → List Fragment
@@ -65,55 +62,55 @@ sessionLast = column (limit - 2) 0 ++ (fragment 1 (lastStart - 2) 1 1 0 Appended
 abbrev lastFreeRun : List Line
 lastFreeRun =
     -- 5B/001 of the last but one record: one is free, and the tail after it takes that
-    line (block (0x5B ∷ 0 ∷ 1 ∷ 0 ∷ 0 ∷ (limit - 1) ∷ [])) 0 0 [] (sense 0 0 0) (16 * lastStart) 0 (lastRecordTaken 0)
+    line (cdb (0x5B ∷ 0 ∷ 1 ∷ 0 ∷ 0 ∷ (limit - 1) ∷ [])) 0 0 [] (sense 0 0 0) (16 * lastStart) 0 (lastRecordTaken 0)
     -- a block is written there, and 5B/001 of the last record: none is free, so no tail follows
     ∷ line (writeAt (16 * lastStart) 16) 0 1 [] (sense 0 0 0) (16 * lastStart + 16) 0 (lastRecordTaken 1)
-    ∷ line (block (0x5B ∷ 0 ∷ 1 ∷ 0 ∷ 0 ∷ limit ∷ [])) 0 0 [] (sense 0 0 0) 0 0 noneFree
+    ∷ line (cdb (0x5B ∷ 0 ∷ 1 ∷ 0 ∷ 0 ∷ limit ∷ [])) 0 0 [] (sense 0 0 0) 0 0 noneFree
     -- 5B/010: a full list is kept, though e + 129 is the capacity and not above it
-    ∷ line (block (0x5B ∷ 0 ∷ 2 ∷ [])) 0x057205 0 [] (sense 0x5 0x72 0x05) 0 0 noneFree
+    ∷ line (cdb (0x5B ∷ 0 ∷ 2 ∷ [])) 0x057205 0 [] (sense 0x5 0x72 0x05) 0 0 noneFree
     ∷ []
 
 abbrev lastReservedRun : List Line
 lastReservedRun =
     -- RESERVE 16 with one record free: the new tail takes it; and again, with none free
-    line (block (0x53 ∷ 0 ∷ 0 ∷ 0 ∷ 0 ∷ 0 ∷ 0 ∷ 0 ∷ 16 ∷ [])) 0 0 [] (sense 0 0 0) (16 * lastStart) 0 lastReserved
-    ∷ line (block (0x53 ∷ 0 ∷ 0 ∷ 0 ∷ 0 ∷ 0 ∷ 0 ∷ 0 ∷ 16 ∷ [])) 0x057205 0 [] (sense 0x5 0x72 0x05) (16 * lastStart) 0 lastReserved
+    line (cdb (0x53 ∷ 0 ∷ 0 ∷ 0 ∷ 0 ∷ 0 ∷ 0 ∷ 0 ∷ 16 ∷ [])) 0 0 [] (sense 0 0 0) (16 * lastStart) 0 lastReserved
+    ∷ line (cdb (0x53 ∷ 0 ∷ 0 ∷ 0 ∷ 0 ∷ 0 ∷ 0 ∷ 0 ∷ 16 ∷ [])) 0x057205 0 [] (sense 0x5 0x72 0x05) (16 * lastStart) 0 lastReserved
     ∷ []
 
 abbrev lastSessionRun : List Line
 lastSessionRun =
     -- 5B/010 with one record free and a written tail: all are kept, and session 2 takes the last record, 128 blocks after the tail's end
-    line (block (0x5B ∷ 0 ∷ 2 ∷ [])) 0 0 [] (sense 0 0 0) (16 * (lastStart + 127)) 0 sessionLast
+    line (cdb (0x5B ∷ 0 ∷ 2 ∷ [])) 0 0 [] (sense 0 0 0) (16 * (lastStart + 127)) 0 sessionLast
     ∷ []
 
 abbrev fullRun : List Line
 fullRun =
     -- 5B/010 and 5B/110 with all that can be wrong: a reserved fragment is incomplete, a full list is kept, e + 129 is above the capacity
-    line (block (0x5B ∷ 0 ∷ 2 ∷ [])) 0x057203 0 [] (sense 0x5 0x72 0x03) 0 0 (fullList 1)
-    ∷ line (block (0x5B ∷ 0 ∷ 6 ∷ [])) 0x057203 0 [] (sense 0x5 0x72 0x03) 0 0 (fullList 1)
+    line (cdb (0x5B ∷ 0 ∷ 2 ∷ [])) 0x057203 0 [] (sense 0x5 0x72 0x03) 0 0 (fullList 1)
+    ∷ line (cdb (0x5B ∷ 0 ∷ 6 ∷ [])) 0x057203 0 [] (sense 0x5 0x72 0x03) 0 0 (fullList 1)
     -- its last block is written
     ∷ line (writeAt (16 * lastStart + 16) 16) 0 1 [] (sense 0 0 0) 0 0 (fullList 2)
     -- 5B/010: a full list is kept
-    ∷ line (block (0x5B ∷ 0 ∷ 2 ∷ [])) 0x057205 0 [] (sense 0x5 0x72 0x05) 0 0 (fullList 2)
+    ∷ line (cdb (0x5B ∷ 0 ∷ 2 ∷ [])) 0x057205 0 [] (sense 0x5 0x72 0x05) 0 0 (fullList 2)
     ∷ []
 
 abbrev droppedRun : List Line
 droppedRun =
     -- with a full list RESERVE 2064, 129 blocks, for which there is no room either, and RESERVE 16
-    line (block (0x53 ∷ 0 ∷ 0 ∷ 0 ∷ 0 ∷ 0 ∷ 0 ∷ 8 ∷ 0x10 ∷ [])) 0x057205 0 [] (sense 0x5 0x72 0x05) (16 * lastStart) 0 droppedList
-    ∷ line (block (0x53 ∷ 0 ∷ 0 ∷ 0 ∷ 0 ∷ 0 ∷ 0 ∷ 0 ∷ 16 ∷ [])) 0x057205 0 [] (sense 0x5 0x72 0x05) (16 * lastStart) 0 droppedList
+    line (cdb (0x53 ∷ 0 ∷ 0 ∷ 0 ∷ 0 ∷ 0 ∷ 0 ∷ 8 ∷ 0x10 ∷ [])) 0x057205 0 [] (sense 0x5 0x72 0x05) (16 * lastStart) 0 droppedList
+    ∷ line (cdb (0x53 ∷ 0 ∷ 0 ∷ 0 ∷ 0 ∷ 0 ∷ 0 ∷ 0 ∷ 16 ∷ [])) 0x057205 0 [] (sense 0x5 0x72 0x05) (16 * lastStart) 0 droppedList
     -- 51h: the session's first and last fragment
-    ∷ line (block (0x51 ∷ 0 ∷ 0 ∷ 0 ∷ 0 ∷ 0 ∷ 0 ∷ 0 ∷ 34 ∷ [])) 0 0
+    ∷ line (cdb (0x51 ∷ 0 ∷ 0 ∷ 0 ∷ 0 ∷ 0 ∷ 0 ∷ 0 ∷ 34 ∷ [])) 0 0
     (0 ∷ 0x20 ∷ 5 ∷ 1 ∷ 1 ∷ 1 ∷ limit ∷ replicate 27 0)
     (sense 0 0 0) (16 * lastStart) 0 droppedList
     -- 52h of the last number: a blank tail, 16 x 130 = 2,080 sectors free; the one after it is none
-    ∷ line (block (0x52 ∷ 1 ∷ 0 ∷ 0 ∷ 0 ∷ limit ∷ 0 ∷ 0 ∷ 36 ∷ [])) 0 0
+    ∷ line (cdb (0x52 ∷ 1 ∷ 0 ∷ 0 ∷ 0 ∷ limit ∷ 0 ∷ 0 ∷ 36 ∷ [])) 0 0
     (0 ∷ 0x22 ∷ limit ∷ 1 ∷ 0 ∷ 4 ∷ 0x41 ∷ 1
     ∷ (wide (16 * lastStart) ++ wide (16 * lastStart) ++ wide 2080 ++ wide 16 ++ wide 2080 ++ replicate 8 0))
     (sense 0 0 0) (16 * lastStart) 0 droppedList
-    ∷ line (block (0x52 ∷ 1 ∷ 0 ∷ 0 ∷ 0 ∷ (limit + 1) ∷ 0 ∷ 0 ∷ 36 ∷ [])) 0x052400 0 [] (sense 0x5 0x24 0x00) (16 * lastStart) 0 droppedList
+    ∷ line (cdb (0x52 ∷ 1 ∷ 0 ∷ 0 ∷ 0 ∷ (limit + 1) ∷ 0 ∷ 0 ∷ 36 ∷ [])) 0x052400 0 [] (sense 0x5 0x24 0x00) (16 * lastStart) 0 droppedList
     -- 5B/010, which drops the blank tail and so keeps one record fewer: session 2, 128 blocks after the last of those
-    ∷ line (block (0x5B ∷ 0 ∷ 2 ∷ [])) 0 0 [] (sense 0 0 0) (16 * (lastStart + 127)) 0 openedList
+    ∷ line (cdb (0x5B ∷ 0 ∷ 2 ∷ [])) 0 0 [] (sense 0 0 0) (16 * (lastStart + 127)) 0 openedList
     ∷ []
 
 -- a run: the list that it starts on, and its lines, each on what the last one left

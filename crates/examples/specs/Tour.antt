@@ -57,8 +57,8 @@ played d (l ∷ ls) =
     shown v ∷ played (v .disc) ls
 
 -- a command block by its first bytes, zeros after them
-abbrev block : List ℕ → List ℕ
-block b = b ++ replicate (12 - length b) 0
+abbrev pub cdb : List ℕ → List ℕ
+cdb b = b ++ replicate (12 - length b) 0
 
 -- a state by its records in use
 abbrev state : ℕ → Bool → Sense → ℕ → ℕ → List Fragment → Disc
@@ -162,133 +162,133 @@ threeHundred = fragment 1 0 300 0 0 Appended ∷ []
 abbrev firstRun : List Line
 firstRun =
     -- WRITE 0 of 5: five sectors pending, no block recorded
-    line (block (0x2A ∷ 0 ∷ 0 ∷ 0 ∷ 0 ∷ 0 ∷ 0 ∷ 0 ∷ 5 ∷ [])) 10240 0 0 0 [] (sense 0 0 0) 5 5 tailOnly
+    line (cdb (0x2A ∷ 0 ∷ 0 ∷ 0 ∷ 0 ∷ 0 ∷ 0 ∷ 0 ∷ 5 ∷ [])) 10240 0 0 0 [] (sense 0 0 0) 5 5 tailOnly
     -- 51h: an incomplete session and disc, 4 x 1 + 1; sectors that are only pending make the tail no blank one
-    ∷ line (block (0x51 ∷ 0 ∷ 0 ∷ 0 ∷ 0 ∷ 0 ∷ 0 ∷ 0 ∷ 34 ∷ [])) 0 34 0 0
+    ∷ line (cdb (0x51 ∷ 0 ∷ 0 ∷ 0 ∷ 0 ∷ 0 ∷ 0 ∷ 0 ∷ 34 ∷ [])) 0 34 0 0
     (0 ∷ 0x20 ∷ 5 ∷ 1 ∷ 1 ∷ 1 ∷ 1 ∷ replicate 27 0)
     (sense 0 0 0) 5 5 tailOnly
     -- 52h FFh, the tail: neither reserved nor blank, W = 0, next 5, free 9,600 - 5 = 9,595
-    ∷ line (block (0x52 ∷ 1 ∷ 0 ∷ 0 ∷ 0 ∷ 0xFF ∷ 0 ∷ 0 ∷ 36 ∷ [])) 0 36 0 0
+    ∷ line (cdb (0x52 ∷ 1 ∷ 0 ∷ 0 ∷ 0 ∷ 0xFF ∷ 0 ∷ 0 ∷ 36 ∷ [])) 0 36 0 0
     (0 ∷ 0x22 ∷ 1 ∷ 1 ∷ 0 ∷ 4 ∷ 1 ∷ 1 ∷ 0 ∷ 0 ∷ 0 ∷ 0 ∷ 0 ∷ 0 ∷ 0 ∷ 5 ∷ 0 ∷ 0 ∷ 0x25 ∷ 0x7B
     ∷ 0 ∷ 0 ∷ 0 ∷ 0x10 ∷ 0 ∷ 0 ∷ 0x25 ∷ 0x80 ∷ replicate 8 0)
     (sense 0 0 0) 5 5 tailOnly
     -- 25h: nothing can be read
-    ∷ line (block (0x25 ∷ [])) 0 8 0 0 (0 ∷ 0 ∷ 0 ∷ 0 ∷ 0 ∷ 0 ∷ 8 ∷ 0 ∷ []) (sense 0 0 0) 5 5 tailOnly
+    ∷ line (cdb (0x25 ∷ [])) 0 8 0 0 (0 ∷ 0 ∷ 0 ∷ 0 ∷ 0 ∷ 0 ∷ 8 ∷ 0 ∷ []) (sense 0 0 0) 5 5 tailOnly
     -- READ 0 of 1: a pending sector is unrecorded to a reader
-    ∷ line (block (0x28 ∷ 0 ∷ 0 ∷ 0 ∷ 0 ∷ 0 ∷ 0 ∷ 0 ∷ 1 ∷ [])) 0 2048 0x080000 0 [] (sense 0x8 0x00 0x00) 5 5 tailOnly
+    ∷ line (cdb (0x28 ∷ 0 ∷ 0 ∷ 0 ∷ 0 ∷ 0 ∷ 0 ∷ 0 ∷ 1 ∷ [])) 0 2048 0x080000 0 [] (sense 0x8 0x00 0x00) 5 5 tailOnly
     -- 03h of 18: key 8
-    ∷ line (block (0x03 ∷ 0 ∷ 0 ∷ 0 ∷ 0x12 ∷ [])) 0 18 0 0 (0x70 ∷ 0 ∷ 8 ∷ 0 ∷ 0 ∷ 0 ∷ 0 ∷ 0x0A ∷ replicate 10 0) (sense 0 0 0) 5 5 tailOnly
+    ∷ line (cdb (0x03 ∷ 0 ∷ 0 ∷ 0 ∷ 0x12 ∷ [])) 0 18 0 0 (0x70 ∷ 0 ∷ 8 ∷ 0 ∷ 0 ∷ 0 ∷ 0 ∷ 0x0A ∷ replicate 10 0) (sense 0 0 0) 5 5 tailOnly
     -- WRITE 9 of 1: not the next writable address
-    ∷ line (block (0x2A ∷ 0 ∷ 0 ∷ 0 ∷ 0 ∷ 9 ∷ 0 ∷ 0 ∷ 1 ∷ [])) 2048 0 0x052102 0 [] (sense 0x5 0x21 0x02) 5 5 tailOnly
+    ∷ line (cdb (0x2A ∷ 0 ∷ 0 ∷ 0 ∷ 0 ∷ 9 ∷ 0 ∷ 0 ∷ 1 ∷ [])) 2048 0 0x052102 0 [] (sense 0x5 0x21 0x02) 5 5 tailOnly
     -- 03h cut to the 14 bytes of byte 4, not to the 18 of byte 3: key 5, ASC 21h, ASCQ 02h
-    ∷ line (block (0x03 ∷ 0 ∷ 0 ∷ 0x12 ∷ 0x0E ∷ [])) 0 14 0 0
+    ∷ line (cdb (0x03 ∷ 0 ∷ 0 ∷ 0x12 ∷ 0x0E ∷ [])) 0 14 0 0
     (0x70 ∷ 0 ∷ 5 ∷ 0 ∷ 0 ∷ 0 ∷ 0 ∷ 0x0A ∷ 0 ∷ 0 ∷ 0 ∷ 0 ∷ 0x21 ∷ 2 ∷ [])
     (sense 0 0 0) 5 5 tailOnly
     -- 03h again: the last one cleared the sense
-    ∷ line (block (0x03 ∷ 0 ∷ 0 ∷ 0 ∷ 0x12 ∷ [])) 0 18 0 0 (0x70 ∷ 0 ∷ 0 ∷ 0 ∷ 0 ∷ 0 ∷ 0 ∷ 0x0A ∷ replicate 10 0) (sense 0 0 0) 5 5 tailOnly
+    ∷ line (cdb (0x03 ∷ 0 ∷ 0 ∷ 0 ∷ 0x12 ∷ [])) 0 18 0 0 (0x70 ∷ 0 ∷ 0 ∷ 0 ∷ 0 ∷ 0 ∷ 0 ∷ 0x0A ∷ replicate 10 0) (sense 0 0 0) 5 5 tailOnly
     -- WRITE 5 of 27: 5 + 27 = 32 sectors are two blocks
-    ∷ line (block (0x2A ∷ 0 ∷ 0 ∷ 0 ∷ 0 ∷ 5 ∷ 0 ∷ 0 ∷ 27 ∷ [])) 55296 0 0 2 [] (sense 0 0 0) 32 0 written
+    ∷ line (cdb (0x2A ∷ 0 ∷ 0 ∷ 0 ∷ 0 ∷ 5 ∷ 0 ∷ 0 ∷ 27 ∷ [])) 55296 0 0 2 [] (sense 0 0 0) 32 0 written
     -- 52h number 1, written: 02h + 01h; next 32, free 9,600 - 32 = 9,568, last recorded 31
-    ∷ line (block (0x52 ∷ 1 ∷ 0 ∷ 0 ∷ 0 ∷ 1 ∷ 0 ∷ 0 ∷ 36 ∷ [])) 0 36 0 0
+    ∷ line (cdb (0x52 ∷ 1 ∷ 0 ∷ 0 ∷ 0 ∷ 1 ∷ 0 ∷ 0 ∷ 36 ∷ [])) 0 36 0 0
     (0 ∷ 0x22 ∷ 1 ∷ 1 ∷ 0 ∷ 4 ∷ 1 ∷ 3 ∷ 0 ∷ 0 ∷ 0 ∷ 0 ∷ 0 ∷ 0 ∷ 0 ∷ 0x20 ∷ 0 ∷ 0 ∷ 0x25 ∷ 0x60
     ∷ 0 ∷ 0 ∷ 0 ∷ 0x10 ∷ 0 ∷ 0 ∷ 0x25 ∷ 0x80 ∷ 0 ∷ 0 ∷ 0 ∷ 0x1F ∷ replicate 4 0)
     (sense 0 0 0) 32 0 written
     -- 25h: the last of 32 sectors
-    ∷ line (block (0x25 ∷ [])) 0 8 0 0 (0 ∷ 0 ∷ 0 ∷ 0x1F ∷ 0 ∷ 0 ∷ 8 ∷ 0 ∷ []) (sense 0 0 0) 32 0 written
+    ∷ line (cdb (0x25 ∷ [])) 0 8 0 0 (0 ∷ 0 ∷ 0 ∷ 0x1F ∷ 0 ∷ 0 ∷ 8 ∷ 0 ∷ []) (sense 0 0 0) 32 0 written
     -- 5B/001 number 1: L = 2, and a tail at block 0 + 2 + 1
-    ∷ line (block (0x5B ∷ 0 ∷ 1 ∷ 0 ∷ 0 ∷ 1 ∷ [])) 0 0 0 0 [] (sense 0 0 0) 48 0 closed
+    ∷ line (cdb (0x5B ∷ 0 ∷ 1 ∷ 0 ∷ 0 ∷ 1 ∷ [])) 0 0 0 0 [] (sense 0 0 0) 48 0 closed
     -- 25h: 31 still, though nothing of the last fragment is recorded
-    ∷ line (block (0x25 ∷ [])) 0 8 0 0 (0 ∷ 0 ∷ 0 ∷ 0x1F ∷ 0 ∷ 0 ∷ 8 ∷ 0 ∷ []) (sense 0 0 0) 48 0 closed
+    ∷ line (cdb (0x25 ∷ [])) 0 8 0 0 (0 ∷ 0 ∷ 0 ∷ 0x1F ∷ 0 ∷ 0 ∷ 8 ∷ 0 ∷ []) (sense 0 0 0) 48 0 closed
     -- RESERVE 32: two blocks exactly, and a tail at 3 + 2 + 1
-    ∷ line (block (0x53 ∷ 0 ∷ 0 ∷ 0 ∷ 0 ∷ 0 ∷ 0 ∷ 0 ∷ 32 ∷ [])) 0 0 0 0 [] (sense 0 0 0) 96 0 reserved
+    ∷ line (cdb (0x53 ∷ 0 ∷ 0 ∷ 0 ∷ 0 ∷ 0 ∷ 0 ∷ 0 ∷ 32 ∷ [])) 0 0 0 0 [] (sense 0 0 0) 96 0 reserved
     -- 52h number 2: reserved and blank, 01h + 80h + 40h; next 48, free 32 of 32
-    ∷ line (block (0x52 ∷ 1 ∷ 0 ∷ 0 ∷ 0 ∷ 2 ∷ 0 ∷ 0 ∷ 36 ∷ [])) 0 36 0 0
+    ∷ line (cdb (0x52 ∷ 1 ∷ 0 ∷ 0 ∷ 0 ∷ 2 ∷ 0 ∷ 0 ∷ 36 ∷ [])) 0 36 0 0
     (0 ∷ 0x22 ∷ 2 ∷ 1 ∷ 0 ∷ 4 ∷ 0xC1 ∷ 1 ∷ 0 ∷ 0 ∷ 0 ∷ 0x30 ∷ 0 ∷ 0 ∷ 0 ∷ 0x30 ∷ 0 ∷ 0 ∷ 0 ∷ 0x20
     ∷ 0 ∷ 0 ∷ 0 ∷ 0x10 ∷ 0 ∷ 0 ∷ 0 ∷ 0x20 ∷ replicate 8 0)
     (sense 0 0 0) 96 0 reserved
     -- WRITE 48 of 20 to it: one block, four sectors pending
-    ∷ line (block (0x2A ∷ 0 ∷ 0 ∷ 0 ∷ 0 ∷ 0x30 ∷ 0 ∷ 0 ∷ 20 ∷ [])) 40960 0 0 1 [] (sense 0 0 0) 96 4 halfReserved
+    ∷ line (cdb (0x2A ∷ 0 ∷ 0 ∷ 0 ∷ 0 ∷ 0x30 ∷ 0 ∷ 0 ∷ 20 ∷ [])) 40960 0 0 1 [] (sense 0 0 0) 96 4 halfReserved
     -- 52h of address 50: W > 0 and incomplete, 02h + 01h; next 16 x 4 + 4 = 68, free 80 - 68 = 12, last recorded 63
-    ∷ line (block (0x52 ∷ 0 ∷ 0 ∷ 0 ∷ 0 ∷ 0x32 ∷ 0 ∷ 0 ∷ 36 ∷ [])) 0 36 0 0
+    ∷ line (cdb (0x52 ∷ 0 ∷ 0 ∷ 0 ∷ 0 ∷ 0x32 ∷ 0 ∷ 0 ∷ 36 ∷ [])) 0 36 0 0
     (0 ∷ 0x22 ∷ 2 ∷ 1 ∷ 0 ∷ 4 ∷ 0x81 ∷ 3 ∷ 0 ∷ 0 ∷ 0 ∷ 0x30 ∷ 0 ∷ 0 ∷ 0 ∷ 0x44 ∷ 0 ∷ 0 ∷ 0 ∷ 0x0C
     ∷ 0 ∷ 0 ∷ 0 ∷ 0x10 ∷ 0 ∷ 0 ∷ 0 ∷ 0x20 ∷ 0 ∷ 0 ∷ 0 ∷ 0x3F ∷ replicate 4 0)
     (sense 0 0 0) 96 4 halfReserved
     -- 52h of address 32, in the dividing block
-    ∷ line (block (0x52 ∷ 0 ∷ 0 ∷ 0 ∷ 0 ∷ 0x20 ∷ 0 ∷ 0 ∷ 36 ∷ [])) 0 36 0x052100 0 [] (sense 0x5 0x21 0x00) 96 4 halfReserved
+    ∷ line (cdb (0x52 ∷ 0 ∷ 0 ∷ 0 ∷ 0 ∷ 0x20 ∷ 0 ∷ 0 ∷ 36 ∷ [])) 0 36 0x052100 0 [] (sense 0x5 0x21 0x00) 96 4 halfReserved
     -- 52h type 2, number 4, number 0: no such type, no such fragment
-    ∷ line (block (0x52 ∷ 2 ∷ 0 ∷ 0 ∷ 0 ∷ 1 ∷ 0 ∷ 0 ∷ 36 ∷ [])) 0 36 0x052400 0 [] (sense 0x5 0x24 0x00) 96 4 halfReserved
-    ∷ line (block (0x52 ∷ 1 ∷ 0 ∷ 0 ∷ 0 ∷ 4 ∷ 0 ∷ 0 ∷ 36 ∷ [])) 0 36 0x052400 0 [] (sense 0x5 0x24 0x00) 96 4 halfReserved
-    ∷ line (block (0x52 ∷ 1 ∷ 0 ∷ 0 ∷ 0 ∷ 0 ∷ 0 ∷ 0 ∷ 36 ∷ [])) 0 36 0x052400 0 [] (sense 0x5 0x24 0x00) 96 4 halfReserved
+    ∷ line (cdb (0x52 ∷ 2 ∷ 0 ∷ 0 ∷ 0 ∷ 1 ∷ 0 ∷ 0 ∷ 36 ∷ [])) 0 36 0x052400 0 [] (sense 0x5 0x24 0x00) 96 4 halfReserved
+    ∷ line (cdb (0x52 ∷ 1 ∷ 0 ∷ 0 ∷ 0 ∷ 4 ∷ 0 ∷ 0 ∷ 36 ∷ [])) 0 36 0x052400 0 [] (sense 0x5 0x24 0x00) 96 4 halfReserved
+    ∷ line (cdb (0x52 ∷ 1 ∷ 0 ∷ 0 ∷ 0 ∷ 0 ∷ 0 ∷ 0 ∷ 36 ∷ [])) 0 36 0x052400 0 [] (sense 0x5 0x24 0x00) 96 4 halfReserved
     -- 5B/010: as after the flush the reserved fragment is complete, F = 12; the blank tail goes; e = 5, session 2 at 5 + 128
-    ∷ line (block (0x5B ∷ 0 ∷ 2 ∷ [])) 0 0 0 1 [] (sense 0 0 0) 2128 0 nextSession
+    ∷ line (cdb (0x5B ∷ 0 ∷ 2 ∷ [])) 0 0 0 1 [] (sense 0 0 0) 2128 0 nextSession
     -- 5B/010 again: the last session is only a blank tail, nothing is done
-    ∷ line (block (0x5B ∷ 0 ∷ 2 ∷ [])) 0 0 0 0 [] (sense 0 0 0) 2128 0 nextSession
+    ∷ line (cdb (0x5B ∷ 0 ∷ 2 ∷ [])) 0 0 0 0 [] (sense 0 0 0) 2128 0 nextSession
     -- 51h: session 2, its first and last fragment is number 3; 4 x 0 + 1, the disc is not blank
-    ∷ line (block (0x51 ∷ 0 ∷ 0 ∷ 0 ∷ 0 ∷ 0 ∷ 0 ∷ 0 ∷ 34 ∷ [])) 0 34 0 0
+    ∷ line (cdb (0x51 ∷ 0 ∷ 0 ∷ 0 ∷ 0 ∷ 0 ∷ 0 ∷ 0 ∷ 34 ∷ [])) 0 34 0 0
     (0 ∷ 0x20 ∷ 1 ∷ 1 ∷ 2 ∷ 3 ∷ 3 ∷ replicate 27 0)
     (sense 0 0 0) 2128 0 nextSession
     -- 52h FFh: the blank tail in session 2, first and next 2,128, free 16 x 467 = 7,472
-    ∷ line (block (0x52 ∷ 1 ∷ 0 ∷ 0 ∷ 0 ∷ 0xFF ∷ 0 ∷ 0 ∷ 36 ∷ [])) 0 36 0 0
+    ∷ line (cdb (0x52 ∷ 1 ∷ 0 ∷ 0 ∷ 0 ∷ 0xFF ∷ 0 ∷ 0 ∷ 36 ∷ [])) 0 36 0 0
     (0 ∷ 0x22 ∷ 3 ∷ 2 ∷ 0 ∷ 4 ∷ 0x41 ∷ 1 ∷ 0 ∷ 0 ∷ 8 ∷ 0x50 ∷ 0 ∷ 0 ∷ 8 ∷ 0x50 ∷ 0 ∷ 0 ∷ 0x1D ∷ 0x30
     ∷ 0 ∷ 0 ∷ 0 ∷ 0x10 ∷ 0 ∷ 0 ∷ 0x1D ∷ 0x30 ∷ replicate 8 0)
     (sense 0 0 0) 2128 0 nextSession
     -- 25h: the last sector of fragment 2, 16 x 5 - 1
-    ∷ line (block (0x25 ∷ [])) 0 8 0 0 (0 ∷ 0 ∷ 0 ∷ 0x4F ∷ 0 ∷ 0 ∷ 8 ∷ 0 ∷ []) (sense 0 0 0) 2128 0 nextSession
+    ∷ line (cdb (0x25 ∷ [])) 0 8 0 0 (0 ∷ 0 ∷ 0 ∷ 0x4F ∷ 0 ∷ 0 ∷ 8 ∷ 0 ∷ []) (sense 0 0 0) 2128 0 nextSession
     -- WRITE 2128 of 1, and the 51h after it: session state 1
-    ∷ line (block (0x2A ∷ 0 ∷ 0 ∷ 0 ∷ 8 ∷ 0x50 ∷ 0 ∷ 0 ∷ 1 ∷ [])) 2048 0 0 0 [] (sense 0 0 0) 2129 1 nextSession
-    ∷ line (block (0x51 ∷ 0 ∷ 0 ∷ 0 ∷ 0 ∷ 0 ∷ 0 ∷ 0 ∷ 34 ∷ [])) 0 34 0 0
+    ∷ line (cdb (0x2A ∷ 0 ∷ 0 ∷ 0 ∷ 8 ∷ 0x50 ∷ 0 ∷ 0 ∷ 1 ∷ [])) 2048 0 0 0 [] (sense 0 0 0) 2129 1 nextSession
+    ∷ line (cdb (0x51 ∷ 0 ∷ 0 ∷ 0 ∷ 0 ∷ 0 ∷ 0 ∷ 0 ∷ 34 ∷ [])) 0 34 0 0
     (0 ∷ 0x20 ∷ 5 ∷ 1 ∷ 2 ∷ 3 ∷ 3 ∷ replicate 27 0)
     (sense 0 0 0) 2129 1 nextSession
     -- RESERVE 16: the tail is not blank
-    ∷ line (block (0x53 ∷ 0 ∷ 0 ∷ 0 ∷ 0 ∷ 0 ∷ 0 ∷ 0 ∷ 16 ∷ [])) 0 0 0x057205 0 [] (sense 0x5 0x72 0x05) 2129 1 nextSession
+    ∷ line (cdb (0x53 ∷ 0 ∷ 0 ∷ 0 ∷ 0 ∷ 0 ∷ 0 ∷ 0 ∷ 16 ∷ [])) 0 0 0x057205 0 [] (sense 0x5 0x72 0x05) 2129 1 nextSession
     -- 5B/111: no such function; 5B/001 number 4: unlisted
-    ∷ line (block (0x5B ∷ 0 ∷ 7 ∷ [])) 0 0 0x052400 0 [] (sense 0x5 0x24 0x00) 2129 1 nextSession
-    ∷ line (block (0x5B ∷ 0 ∷ 1 ∷ 0 ∷ 0 ∷ 4 ∷ [])) 0 0 0x052400 0 [] (sense 0x5 0x24 0x00) 2129 1 nextSession
+    ∷ line (cdb (0x5B ∷ 0 ∷ 7 ∷ [])) 0 0 0x052400 0 [] (sense 0x5 0x24 0x00) 2129 1 nextSession
+    ∷ line (cdb (0x5B ∷ 0 ∷ 1 ∷ 0 ∷ 0 ∷ 4 ∷ [])) 0 0 0x052400 0 [] (sense 0x5 0x24 0x00) 2129 1 nextSession
     -- 51h of type 1
-    ∷ line (block (0x51 ∷ 1 ∷ 0 ∷ 0 ∷ 0 ∷ 0 ∷ 0 ∷ 0 ∷ 34 ∷ [])) 0 34 0x052400 0 [] (sense 0x5 0x24 0x00) 2129 1 nextSession
+    ∷ line (cdb (0x51 ∷ 1 ∷ 0 ∷ 0 ∷ 0 ∷ 0 ∷ 0 ∷ 0 ∷ 34 ∷ [])) 0 34 0x052400 0 [] (sense 0x5 0x24 0x00) 2129 1 nextSession
     -- 5B/110: the flush records a block with 15 sectors of zeros, the tail ends with it, no tail follows
-    ∷ line (block (0x5B ∷ 0 ∷ 6 ∷ [])) 0 0 0 1 [] (sense 0 0 0) 0 0 twoSessions
+    ∷ line (cdb (0x5B ∷ 0 ∷ 6 ∷ [])) 0 0 0 1 [] (sense 0 0 0) 0 0 twoSessions
     -- 51h: finalized, 4 x 3 + 2
-    ∷ line (block (0x51 ∷ 0 ∷ 0 ∷ 0 ∷ 0 ∷ 0 ∷ 0 ∷ 0 ∷ 34 ∷ [])) 0 34 0 0
+    ∷ line (cdb (0x51 ∷ 0 ∷ 0 ∷ 0 ∷ 0 ∷ 0 ∷ 0 ∷ 0 ∷ 34 ∷ [])) 0 34 0 0
     (0 ∷ 0x20 ∷ 0x0E ∷ 1 ∷ 2 ∷ 3 ∷ 3 ∷ replicate 27 0)
     (sense 0 0 0) 0 0 twoSessions
     -- 5B/110 and 5B/010 again: nothing is done
-    ∷ line (block (0x5B ∷ 0 ∷ 6 ∷ [])) 0 0 0 0 [] (sense 0 0 0) 0 0 twoSessions
-    ∷ line (block (0x5B ∷ 0 ∷ 2 ∷ [])) 0 0 0 0 [] (sense 0 0 0) 0 0 twoSessions
+    ∷ line (cdb (0x5B ∷ 0 ∷ 6 ∷ [])) 0 0 0 0 [] (sense 0 0 0) 0 0 twoSessions
+    ∷ line (cdb (0x5B ∷ 0 ∷ 2 ∷ [])) 0 0 0 0 [] (sense 0 0 0) 0 0 twoSessions
     -- WRITE of 0 on the finalized disc is accepted, of 1 refused; so is RESERVE 0, before its size is looked at
-    ∷ line (block (0x2A ∷ 0 ∷ 0 ∷ 0 ∷ 8 ∷ 0x60 ∷ [])) 0 0 0 0 [] (sense 0 0 0) 0 0 twoSessions
-    ∷ line (block (0x2A ∷ 0 ∷ 0 ∷ 0 ∷ 8 ∷ 0x60 ∷ 0 ∷ 0 ∷ 1 ∷ [])) 2048 0 0x072700 0 [] (sense 0x7 0x27 0x00) 0 0 twoSessions
-    ∷ line (block (0x53 ∷ [])) 0 0 0x072700 0 [] (sense 0x7 0x27 0x00) 0 0 twoSessions
+    ∷ line (cdb (0x2A ∷ 0 ∷ 0 ∷ 0 ∷ 8 ∷ 0x60 ∷ [])) 0 0 0 0 [] (sense 0 0 0) 0 0 twoSessions
+    ∷ line (cdb (0x2A ∷ 0 ∷ 0 ∷ 0 ∷ 8 ∷ 0x60 ∷ 0 ∷ 0 ∷ 1 ∷ [])) 2048 0 0x072700 0 [] (sense 0x7 0x27 0x00) 0 0 twoSessions
+    ∷ line (cdb (0x53 ∷ [])) 0 0 0x072700 0 [] (sense 0x7 0x27 0x00) 0 0 twoSessions
     -- 52h FFh: there is no tail
-    ∷ line (block (0x52 ∷ 1 ∷ 0 ∷ 0 ∷ 0 ∷ 0xFF ∷ 0 ∷ 0 ∷ 36 ∷ [])) 0 36 0x052400 0 [] (sense 0x5 0x24 0x00) 0 0 twoSessions
+    ∷ line (cdb (0x52 ∷ 1 ∷ 0 ∷ 0 ∷ 0 ∷ 0xFF ∷ 0 ∷ 0 ∷ 36 ∷ [])) 0 36 0x052400 0 [] (sense 0x5 0x24 0x00) 0 0 twoSessions
     -- 52h number 3, complete: no next address, none free, last recorded 16 x 134 - 1 = 2,143; and 25h
-    ∷ line (block (0x52 ∷ 1 ∷ 0 ∷ 0 ∷ 0 ∷ 3 ∷ 0 ∷ 0 ∷ 36 ∷ [])) 0 36 0 0
+    ∷ line (cdb (0x52 ∷ 1 ∷ 0 ∷ 0 ∷ 0 ∷ 3 ∷ 0 ∷ 0 ∷ 36 ∷ [])) 0 36 0 0
     (0 ∷ 0x22 ∷ 3 ∷ 2 ∷ 0 ∷ 4 ∷ 1 ∷ 2 ∷ 0 ∷ 0 ∷ 8 ∷ 0x50 ∷ 0 ∷ 0 ∷ 0 ∷ 0 ∷ 0 ∷ 0 ∷ 0 ∷ 0
     ∷ 0 ∷ 0 ∷ 0 ∷ 0x10 ∷ 0 ∷ 0 ∷ 0 ∷ 0x10 ∷ 0 ∷ 0 ∷ 8 ∷ 0x5F ∷ replicate 4 0)
     (sense 0 0 0) 0 0 twoSessions
-    ∷ line (block (0x25 ∷ [])) 0 8 0 0 (0 ∷ 0 ∷ 8 ∷ 0x5F ∷ 0 ∷ 0 ∷ 8 ∷ 0 ∷ []) (sense 0 0 0) 0 0 twoSessions
+    ∷ line (cdb (0x25 ∷ [])) 0 8 0 0 (0 ∷ 0 ∷ 8 ∷ 0x5F ∷ 0 ∷ 0 ∷ 8 ∷ 0 ∷ []) (sense 0 0 0) 0 0 twoSessions
     -- 52h number 2, reserved and complete, cut to 12 bytes
-    ∷ line (block (0x52 ∷ 1 ∷ 0 ∷ 0 ∷ 0 ∷ 2 ∷ 0 ∷ 0 ∷ 12 ∷ [])) 0 12 0 0
+    ∷ line (cdb (0x52 ∷ 1 ∷ 0 ∷ 0 ∷ 0 ∷ 2 ∷ 0 ∷ 0 ∷ 12 ∷ [])) 0 12 0 0
     (0 ∷ 0x22 ∷ 2 ∷ 1 ∷ 0 ∷ 4 ∷ 0x81 ∷ 2 ∷ 0 ∷ 0 ∷ 0 ∷ 0x30 ∷ [])
     (sense 0 0 0) 0 0 twoSessions
     -- 00h, and an opcode that is not listed
-    ∷ line (block (0x00 ∷ [])) 0 0 0 0 [] (sense 0 0 0) 0 0 twoSessions
-    ∷ line (block (0xFF ∷ [])) 0 0 0x052000 0 [] (sense 0x5 0x20 0x00) 0 0 twoSessions
+    ∷ line (cdb (0x00 ∷ [])) 0 0 0 0 [] (sense 0 0 0) 0 0 twoSessions
+    ∷ line (cdb (0xFF ∷ [])) 0 0 0x052000 0 [] (sense 0x5 0x20 0x00) 0 0 twoSessions
     ∷ []
 
 abbrev fillingRun : List Line
 fillingRun =
     -- WRITE 80 of 1 to the tail: the 3 sectors pending in fragment 1 are flushed first, F = 13; one is pending in the tail
-    line (block (0x2A ∷ 0 ∷ 0 ∷ 0 ∷ 0 ∷ 0x50 ∷ 0 ∷ 0 ∷ 1 ∷ [])) 2048 0 0 1 [] (sense 0 0 0) 81 1 otherFlushed
+    line (cdb (0x2A ∷ 0 ∷ 0 ∷ 0 ∷ 0 ∷ 0x50 ∷ 0 ∷ 0 ∷ 1 ∷ [])) 2048 0 0 1 [] (sense 0 0 0) 81 1 otherFlushed
     -- 5B/001 number 1: the flush records a block of the tail, F = 15; then two blocks of fragment 1 become zeros, F = 13 + 32
-    ∷ line (block (0x5B ∷ 0 ∷ 1 ∷ 0 ∷ 0 ∷ 1 ∷ [])) 0 0 0 3 [] (sense 0 0 0) 96 0 bothFilled
+    ∷ line (cdb (0x5B ∷ 0 ∷ 1 ∷ 0 ∷ 0 ∷ 1 ∷ [])) 0 0 0 3 [] (sense 0 0 0) 96 0 bothFilled
     -- 5B/001 again: it is complete, nothing is done
-    ∷ line (block (0x5B ∷ 0 ∷ 1 ∷ 0 ∷ 0 ∷ 1 ∷ [])) 0 0 0 0 [] (sense 0 0 0) 96 0 bothFilled
+    ∷ line (cdb (0x5B ∷ 0 ∷ 1 ∷ 0 ∷ 0 ∷ 1 ∷ [])) 0 0 0 0 [] (sense 0 0 0) 96 0 bothFilled
     -- READ of its last sector and of the one after it, in the dividing block
-    ∷ line (block (0x28 ∷ 0 ∷ 0 ∷ 0 ∷ 0 ∷ 0x3F ∷ 0 ∷ 0 ∷ 1 ∷ [])) 0 2048 0 0 [] (sense 0 0 0) 96 0 bothFilled
-    ∷ line (block (0x28 ∷ 0 ∷ 0 ∷ 0 ∷ 0 ∷ 0x40 ∷ 0 ∷ 0 ∷ 1 ∷ [])) 0 2048 0x080000 0 [] (sense 0x8 0x00 0x00) 96 0 bothFilled
+    ∷ line (cdb (0x28 ∷ 0 ∷ 0 ∷ 0 ∷ 0 ∷ 0x3F ∷ 0 ∷ 0 ∷ 1 ∷ [])) 0 2048 0 0 [] (sense 0 0 0) 96 0 bothFilled
+    ∷ line (cdb (0x28 ∷ 0 ∷ 0 ∷ 0 ∷ 0 ∷ 0x40 ∷ 0 ∷ 0 ∷ 1 ∷ [])) 0 2048 0x080000 0 [] (sense 0x8 0x00 0x00) 96 0 bothFilled
     -- 5B/110: the tail ends with its one block
-    ∷ line (block (0x5B ∷ 0 ∷ 6 ∷ [])) 0 0 0 0 [] (sense 0 0 0) 0 0 allComplete
+    ∷ line (cdb (0x5B ∷ 0 ∷ 6 ∷ [])) 0 0 0 0 [] (sense 0 0 0) 0 0 allComplete
     ∷ []
 
 abbrev fieldsRun : List Line
@@ -304,34 +304,34 @@ fieldsRun =
     ∷ 0 ∷ 0 ∷ 0 ∷ 0x10 ∷ 0 ∷ 0 ∷ 0x12 ∷ 0xC0 ∷ replicate 8 0)
     (sense 0 0 0) 0 0 threeHundred
     -- 52h number 257 and 5B/001 number 257: unlisted, though byte 5 is 1
-    ∷ line (block (0x52 ∷ 1 ∷ 0 ∷ 0 ∷ 1 ∷ 1 ∷ 0 ∷ 0 ∷ 36 ∷ [])) 0 36 0x052400 0 [] (sense 0x5 0x24 0x00) 0 0 threeHundred
-    ∷ line (block (0x5B ∷ 0 ∷ 1 ∷ 0 ∷ 1 ∷ 1 ∷ [])) 0 0 0x052400 0 [] (sense 0x5 0x24 0x00) 0 0 threeHundred
+    ∷ line (cdb (0x52 ∷ 1 ∷ 0 ∷ 0 ∷ 1 ∷ 1 ∷ 0 ∷ 0 ∷ 36 ∷ [])) 0 36 0x052400 0 [] (sense 0x5 0x24 0x00) 0 0 threeHundred
+    ∷ line (cdb (0x5B ∷ 0 ∷ 1 ∷ 0 ∷ 1 ∷ 1 ∷ [])) 0 0 0x052400 0 [] (sense 0x5 0x24 0x00) 0 0 threeHundred
     -- with 1 in the highest byte: READ 16777216 of 1 passes the disc, 52h of that address finds no fragment, RESERVE 16777232 does not fit
-    ∷ line (block (0x28 ∷ 0 ∷ 1 ∷ 0 ∷ 0 ∷ 0 ∷ 0 ∷ 0 ∷ 1 ∷ [])) 0 2048 0x052100 0 [] (sense 0x5 0x21 0x00) 0 0 threeHundred
-    ∷ line (block (0x52 ∷ 0 ∷ 1 ∷ 0 ∷ 0 ∷ 0 ∷ 0 ∷ 0 ∷ 36 ∷ [])) 0 36 0x052100 0 [] (sense 0x5 0x21 0x00) 0 0 threeHundred
-    ∷ line (block (0x53 ∷ 0 ∷ 0 ∷ 0 ∷ 0 ∷ 1 ∷ 0 ∷ 0 ∷ 0x10 ∷ [])) 0 0 0x056300 0 [] (sense 0x5 0x63 0x00) 0 0 threeHundred
+    ∷ line (cdb (0x28 ∷ 0 ∷ 1 ∷ 0 ∷ 0 ∷ 0 ∷ 0 ∷ 0 ∷ 1 ∷ [])) 0 2048 0x052100 0 [] (sense 0x5 0x21 0x00) 0 0 threeHundred
+    ∷ line (cdb (0x52 ∷ 0 ∷ 1 ∷ 0 ∷ 0 ∷ 0 ∷ 0 ∷ 0 ∷ 36 ∷ [])) 0 36 0x052100 0 [] (sense 0x5 0x21 0x00) 0 0 threeHundred
+    ∷ line (cdb (0x53 ∷ 0 ∷ 0 ∷ 0 ∷ 0 ∷ 1 ∷ 0 ∷ 0 ∷ 0x10 ∷ [])) 0 0 0x056300 0 [] (sense 0x5 0x63 0x00) 0 0 threeHundred
     -- WRITE 0 of 256: sixteen blocks; READ 0 of 256, and of 257, one sector too many
     ∷ line (0x2A ∷ 0xFF ∷ 0 ∷ 0 ∷ 0 ∷ 0 ∷ 0xFF ∷ 1 ∷ 0 ∷ 0xFF ∷ 0xFF ∷ 0xFF ∷ []) 524288 0 0 16 [] (sense 0 0 0) 256 0 sixteenBlocks
     ∷ line (0x28 ∷ 0xFF ∷ 0 ∷ 0 ∷ 0 ∷ 0 ∷ 0xFF ∷ 1 ∷ 0 ∷ 0xFF ∷ 0xFF ∷ 0xFF ∷ []) 0 524288 0 0 [] (sense 0 0 0) 256 0 sixteenBlocks
-    ∷ line (block (0x28 ∷ 0 ∷ 0 ∷ 0 ∷ 0 ∷ 0 ∷ 0 ∷ 1 ∷ 1 ∷ [])) 0 526336 0x080000 0 [] (sense 0x8 0x00 0x00) 256 0 sixteenBlocks
+    ∷ line (cdb (0x28 ∷ 0 ∷ 0 ∷ 0 ∷ 0 ∷ 0 ∷ 0 ∷ 1 ∷ 1 ∷ [])) 0 526336 0x080000 0 [] (sense 0x8 0x00 0x00) 256 0 sixteenBlocks
     -- WRITE 16777472 of 1: 256 in the three low bytes is not the whole address
-    ∷ line (block (0x2A ∷ 0 ∷ 1 ∷ 0 ∷ 1 ∷ 0 ∷ 0 ∷ 0 ∷ 1 ∷ [])) 2048 0 0x052102 0 [] (sense 0x5 0x21 0x02) 256 0 sixteenBlocks
+    ∷ line (cdb (0x2A ∷ 0 ∷ 1 ∷ 0 ∷ 1 ∷ 0 ∷ 0 ∷ 0 ∷ 1 ∷ [])) 2048 0 0x052102 0 [] (sense 0x5 0x21 0x02) 256 0 sixteenBlocks
     -- WRITE 256 of 1, then 5Bh with F9h in byte 2, 001: the flush records block 16, F = 15; L = 17, a tail at 0 + 17 + 1
-    ∷ line (block (0x2A ∷ 0 ∷ 0 ∷ 0 ∷ 1 ∷ 0 ∷ 0 ∷ 0 ∷ 1 ∷ [])) 2048 0 0 0 [] (sense 0 0 0) 257 1 sixteenBlocks
+    ∷ line (cdb (0x2A ∷ 0 ∷ 0 ∷ 0 ∷ 1 ∷ 0 ∷ 0 ∷ 0 ∷ 1 ∷ [])) 2048 0 0 0 [] (sense 0 0 0) 257 1 sixteenBlocks
     ∷ line (0x5B ∷ 0xFF ∷ 0xF9 ∷ 0xFF ∷ 0 ∷ 1 ∷ 0xFF ∷ 0xFF ∷ 0xFF ∷ 0xFF ∷ 0xFF ∷ 0xFF ∷ []) 0 0 0 1 [] (sense 0 0 0) 288 0 closedAt17
     -- WRITE 288 of 1: one sector pending in the tail
-    ∷ line (block (0x2A ∷ 0 ∷ 0 ∷ 0 ∷ 1 ∷ 0x20 ∷ 0 ∷ 0 ∷ 1 ∷ [])) 2048 0 0 0 [] (sense 0 0 0) 289 1 closedAt17
+    ∷ line (cdb (0x2A ∷ 0 ∷ 0 ∷ 0 ∷ 1 ∷ 0x20 ∷ 0 ∷ 0 ∷ 1 ∷ [])) 2048 0 0 0 [] (sense 0 0 0) 289 1 closedAt17
     -- RESERVE 0 where the tail is not blank: its size comes first
     ∷ line (0x53 ∷ 0xFF ∷ 0xFF ∷ 0xFF ∷ 0xFF ∷ 0 ∷ 0 ∷ 0 ∷ 0 ∷ 0xFF ∷ 0xFF ∷ 0xFF ∷ []) 0 0 0x052400 0 [] (sense 0x5 0x24 0x00) 289 1 closedAt17
     -- 5B/001 number 2: with a sector pending it is not blank; the flush makes W = 1, F = 15; a tail at 18 + 1 + 1
-    ∷ line (block (0x5B ∷ 0 ∷ 1 ∷ 0 ∷ 0 ∷ 2 ∷ [])) 0 0 0 1 [] (sense 0 0 0) 320 0 closedTwice
+    ∷ line (cdb (0x5B ∷ 0 ∷ 1 ∷ 0 ∷ 0 ∷ 2 ∷ [])) 0 0 0 1 [] (sense 0 0 0) 320 0 closedTwice
     -- 5B/010: the blank tail goes, e = 19, session 2 at 19 + 128
-    ∷ line (block (0x5B ∷ 0 ∷ 2 ∷ [])) 0 0 0 0 [] (sense 0 0 0) 2352 0 (secondOf 0)
+    ∷ line (cdb (0x5B ∷ 0 ∷ 2 ∷ [])) 0 0 0 0 [] (sense 0 0 0) 2352 0 (secondOf 0)
     -- WRITE 2352 of 16, and 5B/010: e = 147 + 1, session 3 at 148 + 128
-    ∷ line (block (0x2A ∷ 0 ∷ 0 ∷ 0 ∷ 9 ∷ 0x30 ∷ 0 ∷ 0 ∷ 16 ∷ [])) 32768 0 0 1 [] (sense 0 0 0) 2368 0 (secondOf 1)
-    ∷ line (block (0x5B ∷ 0 ∷ 2 ∷ [])) 0 0 0 0 [] (sense 0 0 0) 4416 0 thirdOpen
+    ∷ line (cdb (0x2A ∷ 0 ∷ 0 ∷ 0 ∷ 9 ∷ 0x30 ∷ 0 ∷ 0 ∷ 16 ∷ [])) 32768 0 0 1 [] (sense 0 0 0) 2368 0 (secondOf 1)
+    ∷ line (cdb (0x5B ∷ 0 ∷ 2 ∷ [])) 0 0 0 0 [] (sense 0 0 0) 4416 0 thirdOpen
     -- 51h: session 3, its first and last fragment is number 4
-    ∷ line (block (0x51 ∷ 0 ∷ 0 ∷ 0 ∷ 0 ∷ 0 ∷ 0 ∷ 0 ∷ 34 ∷ [])) 0 34 0 0
+    ∷ line (cdb (0x51 ∷ 0 ∷ 0 ∷ 0 ∷ 0 ∷ 0 ∷ 0 ∷ 0 ∷ 34 ∷ [])) 0 34 0 0
     (0 ∷ 0x20 ∷ 1 ∷ 1 ∷ 3 ∷ 4 ∷ 4 ∷ replicate 27 0)
     (sense 0 0 0) 4416 0 thirdOpen
     ∷ []
@@ -339,28 +339,28 @@ fieldsRun =
 abbrev completedRun : List Line
 completedRun =
     -- 5B/110: as after the flush the reserved fragment is complete, F = 16 - 5; the blank tail goes
-    line (block (0x5B ∷ 0 ∷ 6 ∷ [])) 0 0 0 1 [] (sense 0 0 0) 0 0 elevenFilled
+    line (cdb (0x5B ∷ 0 ∷ 6 ∷ [])) 0 0 0 1 [] (sense 0 0 0) 0 0 elevenFilled
     ∷ []
 
 abbrev upTo298 : List Line
 upTo298 =
     -- 5B/001: a tail at 298 + 1, the last block; WRITE 4784 of 16 completes it, and then there is no tail
-    line (block (0x5B ∷ 0 ∷ 1 ∷ 0 ∷ 0 ∷ 1 ∷ [])) 0 0 0 0 [] (sense 0 0 0) 4784 0 (lastBlock 0)
-    ∷ line (block (0x2A ∷ 0 ∷ 0 ∷ 0 ∷ 0x12 ∷ 0xB0 ∷ 0 ∷ 0 ∷ 16 ∷ [])) 32768 0 0 1 [] (sense 0 0 0) 0 0 (lastBlock 1)
+    line (cdb (0x5B ∷ 0 ∷ 1 ∷ 0 ∷ 0 ∷ 1 ∷ [])) 0 0 0 0 [] (sense 0 0 0) 4784 0 (lastBlock 0)
+    ∷ line (cdb (0x2A ∷ 0 ∷ 0 ∷ 0 ∷ 0x12 ∷ 0xB0 ∷ 0 ∷ 0 ∷ 16 ∷ [])) 32768 0 0 1 [] (sense 0 0 0) 0 0 (lastBlock 1)
     ∷ []
 
 abbrev upTo299 : List Line
 upTo299 =
     -- 5B/001: 299 + 1 is not below 300, so no tail follows
-    line (block (0x5B ∷ 0 ∷ 1 ∷ 0 ∷ 0 ∷ 1 ∷ [])) 0 0 0 0 [] (sense 0 0 0) 0 0 ends299
+    line (cdb (0x5B ∷ 0 ∷ 1 ∷ 0 ∷ 0 ∷ 1 ∷ [])) 0 0 0 0 [] (sense 0 0 0) 0 0 ends299
     ∷ []
 
 abbrev emptySession : List Line
 emptySession =
     -- 5B/110 where the last session is only a blank tail: it vanishes
-    line (block (0x5B ∷ 0 ∷ 6 ∷ [])) 0 0 0 0 [] (sense 0 0 0) 0 0 oneSession
+    line (cdb (0x5B ∷ 0 ∷ 6 ∷ [])) 0 0 0 0 [] (sense 0 0 0) 0 0 oneSession
     -- 51h: session 1 is the last one, with fragments 1 and 2
-    ∷ line (block (0x51 ∷ 0 ∷ 0 ∷ 0 ∷ 0 ∷ 0 ∷ 0 ∷ 0 ∷ 34 ∷ [])) 0 34 0 0
+    ∷ line (cdb (0x51 ∷ 0 ∷ 0 ∷ 0 ∷ 0 ∷ 0 ∷ 0 ∷ 0 ∷ 34 ∷ [])) 0 34 0 0
     (0 ∷ 0x20 ∷ 0x0E ∷ 1 ∷ 1 ∷ 1 ∷ 2 ∷ replicate 27 0)
     (sense 0 0 0) 0 0 oneSession
     ∷ []
@@ -368,38 +368,38 @@ emptySession =
 abbrev onBlank : List Line
 onBlank =
     -- on the blank disc: 5B/110, 5B/001 number 1, and 5B/010, which does nothing
-    line (block (0x5B ∷ 0 ∷ 6 ∷ [])) 0 0 0x057204 0 [] (sense 0x5 0x72 0x04) 0 0 tailOnly
-    ∷ line (block (0x5B ∷ 0 ∷ 1 ∷ 0 ∷ 0 ∷ 1 ∷ [])) 0 0 0x057204 0 [] (sense 0x5 0x72 0x04) 0 0 tailOnly
-    ∷ line (block (0x5B ∷ 0 ∷ 2 ∷ [])) 0 0 0 0 [] (sense 0 0 0) 0 0 tailOnly
+    line (cdb (0x5B ∷ 0 ∷ 6 ∷ [])) 0 0 0x057204 0 [] (sense 0x5 0x72 0x04) 0 0 tailOnly
+    ∷ line (cdb (0x5B ∷ 0 ∷ 1 ∷ 0 ∷ 0 ∷ 1 ∷ [])) 0 0 0x057204 0 [] (sense 0x5 0x72 0x04) 0 0 tailOnly
+    ∷ line (cdb (0x5B ∷ 0 ∷ 2 ∷ [])) 0 0 0 0 [] (sense 0 0 0) 0 0 tailOnly
     -- RESERVE 0
-    ∷ line (block (0x53 ∷ [])) 0 0 0x052400 0 [] (sense 0x5 0x24 0x00) 0 0 tailOnly
+    ∷ line (cdb (0x53 ∷ [])) 0 0 0x052400 0 [] (sense 0x5 0x24 0x00) 0 0 tailOnly
     ∷ []
 
 abbrev upTo171 : List Line
 upTo171 =
     -- 5B/010, e = 171 as after the flush of 15 sectors: the tail has the last block
-    line (block (0x5B ∷ 0 ∷ 2 ∷ [])) 0 0 0 1 [] (sense 0 0 0) 4784 0 opened299
+    line (cdb (0x5B ∷ 0 ∷ 2 ∷ [])) 0 0 0 1 [] (sense 0 0 0) 4784 0 opened299
     ∷ []
 
 abbrev upTo172 : List Line
 upTo172 =
     -- 5B/010, e = 172 as after the flush of 1 sector: 172 + 129 is above 300, and nothing is flushed
-    line (block (0x5B ∷ 0 ∷ 2 ∷ [])) 0 0 0x056300 0 [] (sense 0x5 0x63 0x00) 2737 1 ends172
+    line (cdb (0x5B ∷ 0 ∷ 2 ∷ [])) 0 0 0x056300 0 [] (sense 0x5 0x63 0x00) 2737 1 ends172
     ∷ []
 
 abbrev largestRun : List Line
 largestRun =
     -- 52h number 1: 16 x 143,444 = 230540h sectors free
-    line (block (0x52 ∷ 1 ∷ 0 ∷ 0 ∷ 0 ∷ 1 ∷ 0 ∷ 0 ∷ 36 ∷ [])) 0 36 0 0
+    line (cdb (0x52 ∷ 1 ∷ 0 ∷ 0 ∷ 0 ∷ 1 ∷ 0 ∷ 0 ∷ 36 ∷ [])) 0 36 0 0
     (0 ∷ 0x22 ∷ 1 ∷ 1 ∷ 0 ∷ 4 ∷ 0x41 ∷ 1 ∷ 0 ∷ 0 ∷ 0 ∷ 0 ∷ 0 ∷ 0 ∷ 0 ∷ 0 ∷ 0 ∷ 0x23 ∷ 5 ∷ 0x40
     ∷ 0 ∷ 0 ∷ 0 ∷ 0x10 ∷ 0 ∷ 0x23 ∷ 5 ∷ 0x40 ∷ replicate 8 0)
     (sense 0 0 0) 0 0 largest
     -- READ of the last sector, and of two from there on
-    ∷ line (block (0x28 ∷ 0 ∷ 0 ∷ 0x23 ∷ 5 ∷ 0x3F ∷ 0 ∷ 0 ∷ 1 ∷ [])) 0 2048 0x080000 0 [] (sense 0x8 0x00 0x00) 0 0 largest
-    ∷ line (block (0x28 ∷ 0 ∷ 0 ∷ 0x23 ∷ 5 ∷ 0x3F ∷ 0 ∷ 0 ∷ 2 ∷ [])) 0 4096 0x052100 0 [] (sense 0x5 0x21 0x00) 0 0 largest
+    ∷ line (cdb (0x28 ∷ 0 ∷ 0 ∷ 0x23 ∷ 5 ∷ 0x3F ∷ 0 ∷ 0 ∷ 1 ∷ [])) 0 2048 0x080000 0 [] (sense 0x8 0x00 0x00) 0 0 largest
+    ∷ line (cdb (0x28 ∷ 0 ∷ 0 ∷ 0x23 ∷ 5 ∷ 0x3F ∷ 0 ∷ 0 ∷ 2 ∷ [])) 0 4096 0x052100 0 [] (sense 0x5 0x21 0x00) 0 0 largest
     -- RESERVE of 16 x 143,442 + 1 sectors leaves no tail a block, one sector fewer does
-    ∷ line (block (0x53 ∷ 0 ∷ 0 ∷ 0 ∷ 0 ∷ 0 ∷ 35 ∷ 5 ∷ 33 ∷ [])) 0 0 0x056300 0 [] (sense 0x5 0x63 0x00) 0 0 largest
-    ∷ line (block (0x53 ∷ 0 ∷ 0 ∷ 0 ∷ 0 ∷ 0 ∷ 35 ∷ 5 ∷ 32 ∷ [])) 0 0 0 0 [] (sense 0 0 0) 2295088 0 largestReserved
+    ∷ line (cdb (0x53 ∷ 0 ∷ 0 ∷ 0 ∷ 0 ∷ 0 ∷ 35 ∷ 5 ∷ 33 ∷ [])) 0 0 0x056300 0 [] (sense 0x5 0x63 0x00) 0 0 largest
+    ∷ line (cdb (0x53 ∷ 0 ∷ 0 ∷ 0 ∷ 0 ∷ 0 ∷ 35 ∷ 5 ∷ 32 ∷ [])) 0 0 0 0 [] (sense 0 0 0) 2295088 0 largestReserved
     ∷ []
 
 abbrev wrongAllRun : List Line
@@ -407,43 +407,43 @@ wrongAllRun =
     -- a block of 11 bytes, C = 255, a finalized disc that is not complete, data of one byte: L1
     line (replicate 11 0) 1 0 1 0 [] (sense 0 0 0) 0 0 smallList
     -- the same with 12 bytes: L2
-    ∷ line (block (0x00 ∷ [])) 1 0 2 0 [] (sense 0 0 0) 0 0 smallList
+    ∷ line (cdb (0x00 ∷ [])) 1 0 2 0 [] (sense 0 0 0) 0 0 smallList
     ∷ []
 
 abbrev wrongStateRun : List Line
 wrongStateRun =
     -- C = 300: L3, before the data is looked at
-    line (block (0x00 ∷ [])) 1 0 3 0 [] (sense 0 0 0) 0 0 threeHundred
+    line (cdb (0x00 ∷ [])) 1 0 3 0 [] (sense 0 0 0) 0 0 threeHundred
     ∷ []
 
 abbrev wrongSenseRun : List Line
 wrongSenseRun =
     -- a sense that no refusal gives: L3
-    line (block (0x00 ∷ [])) 1 0 3 0 [] (sense 0x5 0x21 0x01) 0 0 threeHundred
+    line (cdb (0x00 ∷ [])) 1 0 3 0 [] (sense 0x5 0x21 0x01) 0 0 threeHundred
     ∷ []
 
 abbrev lengthsRun : List Line
 lengthsRun =
     -- a sound state: L4, before the opcode is looked at
-    line (block (0xFF ∷ [])) 1 0 4 0 [] (sense 0 0 0) 0 0 threeHundred
+    line (cdb (0xFF ∷ [])) 1 0 4 0 [] (sense 0 0 0) 0 0 threeHundred
     -- WRITE 9 of 1 with 2,047 bytes and with 4,096: L4; with 2,048: 5/21/02
-    ∷ line (block (0x2A ∷ 0 ∷ 0 ∷ 0 ∷ 0 ∷ 9 ∷ 0 ∷ 0 ∷ 1 ∷ [])) 2047 0 4 0 [] (sense 0 0 0) 0 0 threeHundred
-    ∷ line (block (0x2A ∷ 0 ∷ 0 ∷ 0 ∷ 0 ∷ 9 ∷ 0 ∷ 0 ∷ 1 ∷ [])) 4096 0 4 0 [] (sense 0 0 0) 0 0 threeHundred
-    ∷ line (block (0x2A ∷ 0 ∷ 0 ∷ 0 ∷ 0 ∷ 9 ∷ 0 ∷ 0 ∷ 1 ∷ [])) 2048 0 0x052102 0 [] (sense 0x5 0x21 0x02) 0 0 threeHundred
+    ∷ line (cdb (0x2A ∷ 0 ∷ 0 ∷ 0 ∷ 0 ∷ 9 ∷ 0 ∷ 0 ∷ 1 ∷ [])) 2047 0 4 0 [] (sense 0 0 0) 0 0 threeHundred
+    ∷ line (cdb (0x2A ∷ 0 ∷ 0 ∷ 0 ∷ 0 ∷ 9 ∷ 0 ∷ 0 ∷ 1 ∷ [])) 4096 0 4 0 [] (sense 0 0 0) 0 0 threeHundred
+    ∷ line (cdb (0x2A ∷ 0 ∷ 0 ∷ 0 ∷ 0 ∷ 9 ∷ 0 ∷ 0 ∷ 1 ∷ [])) 2048 0 0x052102 0 [] (sense 0x5 0x21 0x02) 0 0 threeHundred
     -- READ 0 of 1, 25h, 03h cut to 14, 51h and 52h with a reply buffer one byte short; the sense stays
-    ∷ line (block (0x28 ∷ 0 ∷ 0 ∷ 0 ∷ 0 ∷ 0 ∷ 0 ∷ 0 ∷ 1 ∷ [])) 0 2047 4 0 [] (sense 0x5 0x21 0x02) 0 0 threeHundred
-    ∷ line (block (0x25 ∷ [])) 0 7 4 0 [] (sense 0x5 0x21 0x02) 0 0 threeHundred
-    ∷ line (block (0x03 ∷ 0 ∷ 0 ∷ 0x12 ∷ 0x0E ∷ [])) 0 13 4 0 [] (sense 0x5 0x21 0x02) 0 0 threeHundred
-    ∷ line (block (0x51 ∷ 0 ∷ 0 ∷ 0 ∷ 0 ∷ 0 ∷ 0 ∷ 0 ∷ 34 ∷ [])) 0 33 4 0 [] (sense 0x5 0x21 0x02) 0 0 threeHundred
-    ∷ line (block (0x52 ∷ 1 ∷ 0 ∷ 0 ∷ 0 ∷ 1 ∷ 0 ∷ 0 ∷ 36 ∷ [])) 0 35 4 0 [] (sense 0x5 0x21 0x02) 0 0 threeHundred
+    ∷ line (cdb (0x28 ∷ 0 ∷ 0 ∷ 0 ∷ 0 ∷ 0 ∷ 0 ∷ 0 ∷ 1 ∷ [])) 0 2047 4 0 [] (sense 0x5 0x21 0x02) 0 0 threeHundred
+    ∷ line (cdb (0x25 ∷ [])) 0 7 4 0 [] (sense 0x5 0x21 0x02) 0 0 threeHundred
+    ∷ line (cdb (0x03 ∷ 0 ∷ 0 ∷ 0x12 ∷ 0x0E ∷ [])) 0 13 4 0 [] (sense 0x5 0x21 0x02) 0 0 threeHundred
+    ∷ line (cdb (0x51 ∷ 0 ∷ 0 ∷ 0 ∷ 0 ∷ 0 ∷ 0 ∷ 0 ∷ 34 ∷ [])) 0 33 4 0 [] (sense 0x5 0x21 0x02) 0 0 threeHundred
+    ∷ line (cdb (0x52 ∷ 1 ∷ 0 ∷ 0 ∷ 0 ∷ 1 ∷ 0 ∷ 0 ∷ 36 ∷ [])) 0 35 4 0 [] (sense 0x5 0x21 0x02) 0 0 threeHundred
     -- 00h: accepted
-    ∷ line (block (0x00 ∷ [])) 0 0 0 0 [] (sense 0 0 0) 0 0 threeHundred
+    ∷ line (cdb (0x00 ∷ [])) 0 0 0 0 [] (sense 0 0 0) 0 0 threeHundred
     ∷ []
 
 abbrev tooLargeRun : List Line
 tooLargeRun =
     -- C = 143,445: L2
-    line (block (0x00 ∷ [])) 0 0 2 0 [] (sense 0 0 0) 0 0 tooLarge
+    line (cdb (0x00 ∷ [])) 0 0 2 0 [] (sense 0 0 0) 0 0 tooLarge
     ∷ []
 
 abbrev pub runs : List Run

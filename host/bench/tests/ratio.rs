@@ -4,7 +4,7 @@
 use bench::{cases, measure, Buffers, CAPACITY};
 
 /// Half as much again as was measured (docs/BENCHMARKS.md): more than noise explains, since both drives take turns.
-const LIMITS: [(&str, f64); 3] = [("TEST UNIT READY", 2.7), ("READ 1", 2.7), ("WRITE 1", 2.2)];
+const LIMITS: [(&str, f64); 3] = [("TEST UNIT READY", 2.7), ("READ 1", 2.9), ("WRITE 1", 2.3)];
 
 #[test]
 fn a_short_command_costs_little_more_than_the_ordinary_drives() {

@@ -192,8 +192,8 @@ impl Disc {
 
     /// Records zeros in the fragment's unrecorded blocks. Gives their number.
     fn fill_with_zeros(&mut self, index: usize, lent: &mut Lent) -> u64 {
-        let has_block_behind = self.fragments[index].end() < self.end();
-        let stray = u64::from(self.slips(Fault::CloseFillsDividingBlock) && has_block_behind);
+        let has_block_after = self.fragments[index].end() < self.end();
+        let stray = u64::from(self.slips(Fault::CloseFillsDividingBlock) && has_block_after);
         let fragment = &mut self.fragments[index];
         let blocks = fragment.length - fragment.recorded;
         lent.medium[block_stretch(fragment.first_unrecorded(), blocks + stray)].fill(0);

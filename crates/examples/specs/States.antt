@@ -4,13 +4,16 @@ use mathlib.Core.Path.{_≡_, refl}
 use mathlib.Core.Bool.{Bool, true, false}
 use mathlib.Core.List.{List, [], _∷_, _++_, map}
 use lib.ListN.{length, replicate, set}
+use native.Mathlib.Omega.{arith}
 use Rattle.examples.specs.Types.{Reserved, Appended, Fragment, Disc, Verdict}
 use Rattle.protocol.specs.Answer.{sense, noSense, number, isRefusalSense, allowedSense}
 use Rattle.fragments.specs.Fragment.{fragment, unusedRecord}
 use Rattle.fragments.specs.List.{limit, listed, some, every, sumRecorded, firstOfSession}
-use Rattle.disc.specs.Records.{records, used, lastRecord}
+use Rattle.disc.specs.Records.{records, used, isListed, numbered, lastRecord}
 use Rattle.disc.specs.Sound.{usedFirst, firstAtZero, followsFrom, inOrder, endsWithin, recordedWithin, zeroedWithin, incompleteLast, tailLast, tailOrFull, pendingNamed, finalizedComplete, sound, allowedState}
 use Rattle.disc.specs.Verdict.{accepted, accept, refuse}
+use Rattle.disc.proofs.Laws.Rules.{sound-rules}
+use Rattle.disc.proofs.Laws.Sound.{numbers-below}
 use Rattle.commands.specs.Flush.{flush, flushPlan, flushCount, synchronizeCache}
 use Rattle.commands.specs.Reserve.{splitTail, reserve}
 use Rattle.commands.specs.Close.{appendTail, closeIncomplete, closeFragment, closeTail, openSession, closeSession}
@@ -171,3 +174,12 @@ sound-full = refl
 pub highest-numbers : (used fullOfSessions ∷ lastRecord fullOfSessions .session ∷ []) ≡ (160 ∷ 160 ∷ [])
 unfolding sessions listed
 highest-numbers = refl
+
+-- so AAh, the lead-out in a table of contents, is no fragment's number and no session's, and FFh, the tail in 52h, is no fragment's: on every
+-- disc whose list is sound
+pub free-numbers :
+    (d : Disc) → sound d ≡ true → (n : ℕ) → isListed d n ≡ true
+    → (n ≡ 0xAA → ⊥) × (numbered d n .session ≡ 0xAA → ⊥) × (n ≡ 0xFF → ⊥)
+free-numbers d s n l =
+    let below = numbers-below d (sound-rules d s) n l in
+    (λ e. omega (arith, below .0), λ e. omega (arith, below .1), λ e. omega (arith, below .0))

@@ -1,16 +1,18 @@
 -- Runs on discs whose list is full, or has one record free: what takes the last record, and what is refused without a free one. What each line
 -- must show was worked out by hand from document 01, with the limit that request (v) of document 02 gives it. The commands are performed past
--- the link, whose check of such lists `sound-full` of States shows.
+-- the link, since its check of a full list is most of what there is to compute: `sound-starts` has it for each list that a run starts on, and
+-- what a command makes of a sound list is sound by a law of `outcomes`.
 use Prim.Native.Nat.{ℕ, _+_, _-_, _*_, _/_, _%_}
 use mathlib.Core.Path.{_≡_, refl}
-use mathlib.Core.Bool.{false}
+use mathlib.Core.Bool.{true, false}
 use mathlib.Core.List.{List, [], _∷_, _++_, map}
 use lib.ListN.{replicate}
-use Rattle.protocol.specs.Answer.{sense}
+use Rattle.protocol.specs.Answer.{sense, isRefusalSense, allowedSense}
 use Rattle.protocol.specs.Command.{decode}
 use Rattle.protocol.specs.Reports.{discBytes, trackBytes}
 use Rattle.fragments.specs.Fragment.{fragment}
-use Rattle.fragments.specs.List.{limit, listed, some, find, sumRecorded, firstOfSession}
+use Rattle.fragments.specs.List.{limit, listed, some, every, find, sumRecorded, firstOfSession}
+use Rattle.disc.specs.Sound.{usedFirst, firstAtZero, followsFrom, inOrder, endsWithin, recordedWithin, zeroedWithin, incompleteLast, tailLast, tailOrFull, pendingNamed, finalizedComplete, sound, allowedState}
 use Rattle.disc.specs.Verdict.{accepted, accept, refuse}
 use Rattle.reporting.specs.Reports.{sessionState, discStatus, readDiscInformation, nextWritableOrZero, freeSectors, trackVerdict, trackFound, trackNumbered, readTrackInformation}
 use Rattle.commands.specs.Flush.{flush, flushPlan, synchronizeCache}
@@ -20,7 +22,7 @@ use Rattle.commands.specs.Close.{appendTail, closeIncomplete, closeFragment, cl
 use Rattle.commands.specs.Judge.{perform}
 use Rattle.examples.specs.Types.{Reserved, Appended, Fragment, Disc}
 use Rattle.examples.specs.Shift.{Line, line, Shown, shown}
-use Rattle.examples.specs.States.{on, column, lastStart, crowded}
+use Rattle.examples.specs.States.{on, column, lastStart, crowded, fullOfTail}
 use Rattle.examples.specs.Tour.{cdb}
 
 -- a number in four bytes, of which the low two are enough
@@ -31,12 +33,9 @@ wide n = 0 ∷ 0 ∷ (n / 256) ∷ (n % 256) ∷ []
 abbrev writeAt : ℕ → ℕ → List ℕ
 writeAt a n = cdb (0x2A ∷ 0 ∷ (wide a ++ (0 ∷ 0 ∷ n ∷ [])))
 
--- a full list: the last record reserved, with w of its two blocks recorded; a blank tail; and session 2 in that tail's record
+-- a full list: the last record reserved, with w of its two blocks recorded; and session 2 in the record of a blank tail
 abbrev fullList : ℕ → List Fragment
 fullList w = column (limit - 1) 0 ++ (fragment 1 lastStart 2 w 0 Reserved ∷ [])
-
-abbrev droppedList : List Fragment
-droppedList = column (limit - 1) 0 ++ (fragment 1 lastStart 130 0 0 Appended ∷ [])
 
 abbrev openedList : List Fragment
 openedList = column (limit - 1) 0 ++ (fragment 2 (lastStart + 127) 3 0 0 Appended ∷ [])
@@ -97,18 +96,18 @@ fullRun =
 abbrev droppedRun : List Line
 droppedRun =
     -- with a full list RESERVE 2064, 129 blocks, for which there is no room either, and RESERVE 16
-    line (cdb (0x53 ∷ 0 ∷ 0 ∷ 0 ∷ 0 ∷ 0 ∷ 0 ∷ 8 ∷ 0x10 ∷ [])) 0x057205 0 [] (sense 0x5 0x72 0x05) (16 * lastStart) 0 droppedList
-    ∷ line (cdb (0x53 ∷ 0 ∷ 0 ∷ 0 ∷ 0 ∷ 0 ∷ 0 ∷ 0 ∷ 16 ∷ [])) 0x057205 0 [] (sense 0x5 0x72 0x05) (16 * lastStart) 0 droppedList
+    line (cdb (0x53 ∷ 0 ∷ 0 ∷ 0 ∷ 0 ∷ 0 ∷ 0 ∷ 8 ∷ 0x10 ∷ [])) 0x057205 0 [] (sense 0x5 0x72 0x05) (16 * lastStart) 0 fullOfTail
+    ∷ line (cdb (0x53 ∷ 0 ∷ 0 ∷ 0 ∷ 0 ∷ 0 ∷ 0 ∷ 0 ∷ 16 ∷ [])) 0x057205 0 [] (sense 0x5 0x72 0x05) (16 * lastStart) 0 fullOfTail
     -- 51h: the session's first and last fragment
     ∷ line (cdb (0x51 ∷ 0 ∷ 0 ∷ 0 ∷ 0 ∷ 0 ∷ 0 ∷ 0 ∷ 34 ∷ [])) 0 0
     (0 ∷ 0x20 ∷ 5 ∷ 1 ∷ 1 ∷ 1 ∷ limit ∷ replicate 27 0)
-    (sense 0 0 0) (16 * lastStart) 0 droppedList
+    (sense 0 0 0) (16 * lastStart) 0 fullOfTail
     -- 52h of the last number: a blank tail, 16 x 130 = 2,080 sectors free; the one after it is none
     ∷ line (cdb (0x52 ∷ 1 ∷ 0 ∷ 0 ∷ 0 ∷ limit ∷ 0 ∷ 0 ∷ 36 ∷ [])) 0 0
     (0 ∷ 0x22 ∷ limit ∷ 1 ∷ 0 ∷ 4 ∷ 0x41 ∷ 1
     ∷ (wide (16 * lastStart) ++ wide (16 * lastStart) ++ wide 2080 ++ wide 16 ++ wide 2080 ++ replicate 8 0))
-    (sense 0 0 0) (16 * lastStart) 0 droppedList
-    ∷ line (cdb (0x52 ∷ 1 ∷ 0 ∷ 0 ∷ 0 ∷ (limit + 1) ∷ 0 ∷ 0 ∷ 36 ∷ [])) 0x052400 0 [] (sense 0x5 0x24 0x00) (16 * lastStart) 0 droppedList
+    (sense 0 0 0) (16 * lastStart) 0 fullOfTail
+    ∷ line (cdb (0x52 ∷ 1 ∷ 0 ∷ 0 ∷ 0 ∷ (limit + 1) ∷ 0 ∷ 0 ∷ 36 ∷ [])) 0x052400 0 [] (sense 0x5 0x24 0x00) (16 * lastStart) 0 fullOfTail
     -- 5B/010, which drops the blank tail and so keeps one record fewer: session 2, 128 blocks after the last of those
     ∷ line (cdb (0x5B ∷ 0 ∷ 2 ∷ [])) 0 0 [] (sense 0 0 0) (16 * (lastStart + 127)) 0 openedList
     ∷ []
@@ -130,9 +129,19 @@ performed d (l ∷ ls) =
 abbrev pub runs : List Run
 runs =
     from (oneFree 1) lastFreeRun ∷ from (oneFree 0) lastReservedRun ∷ from (oneFree 1) lastSessionRun ∷ from (fullList 1) fullRun
-    ∷ from droppedList droppedRun ∷ []
+    ∷ from fullOfTail droppedRun ∷ []
 
-pub full : map (λ (r : Run). performed (on crowded 0 0 false (r .list)) (r .lines)) runs ≡ map (λ (r : Run). map (λ (l : Line). l .expected) (r .lines)) runs
+-- the disc that a run starts on
+abbrev pub start : Run → Disc
+start r = on crowded 0 0 false (r .list)
+
+pub sound-starts : map (λ (r : Run). allowedState (start r)) runs ≡ true ∷ true ∷ true ∷ true ∷ true ∷ []
+unfolding
+    allowedState sound column listed every usedFirst firstAtZero followsFrom inOrder endsWithin recordedWithin zeroedWithin
+    incompleteLast tailLast tailOrFull pendingNamed finalizedComplete allowedSense isRefusalSense
+sound-starts = refl
+
+pub full : map (λ (r : Run). performed (start r) (r .lines)) runs ≡ map (λ (r : Run). map (λ (l : Line). l .expected) (r .lines)) runs
 unfolding
     shown performed column perform decode accepted accept refuse listed some find sumRecorded firstOfSession
     flush flushPlan synchronizeCache flushOthers flushOthersPlan gather writeTo writeFound write

@@ -60,6 +60,10 @@ lastStart = 2 * (limit - 1)
 abbrev pub crowded : ℕ
 crowded = lastStart + 130
 
+-- a full list whose last record is a blank tail
+abbrev pub fullOfTail : List Fragment
+fullOfTail = column (limit - 1) 0 ++ (fragment 1 lastStart 130 0 0 Appended ∷ [])
+
 -- a state, and the rule that it breaks
 pub record Broken : Type 0 where
   pub disc : Disc
@@ -99,7 +103,7 @@ brokenStates =
     ∷ breaks 9 (state 16 1 false (tail ∷ []))
     ∷ breaks 9 (state 3 0 false (tail ∷ []))
     ∷ breaks 9 (state 3 2 false (tail ∷ []))
-    ∷ breaks 9 (on crowded 3 (limit + 1) false (column (limit - 1) 0 ++ (fragment 1 lastStart 130 0 0 Appended ∷ [])))
+    ∷ breaks 9 (on crowded 3 (limit + 1) false fullOfTail)
     ∷ breaks 9 (state 3 1 false (fragment 1 0 2 2 0 Appended ∷ fragment 1 3 297 0 0 Appended ∷ []))
     ∷ breaks 9 (state 0 1 false (tail ∷ []))
     -- a finalized disc with a tail
@@ -159,7 +163,7 @@ abbrev pub fullOfComplete : Disc
 fullOfComplete = on crowded 0 0 false (column limit 0)
 
 abbrev pub pendingInTheLast : Disc
-pendingInTheLast = on crowded 3 limit false (column (limit - 1) 0 ++ (fragment 1 lastStart 130 0 0 Appended ∷ []))
+pendingInTheLast = on crowded 3 limit false fullOfTail
 
 abbrev pub fullOfSessions : Disc
 fullOfSessions = on 143444 0 0 false (sessions limit 1 0)

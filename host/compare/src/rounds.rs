@@ -31,7 +31,7 @@ pub struct Effort {
 impl Effort {
     /// One round, as much as the gate compares.
     pub const ROUND: Effort = Effort {
-        sequences: 1_200,
+        sequences: 2_000,
         injected_blocks: 1_000,
         sound: 60_000,
         unsound: 1_000,

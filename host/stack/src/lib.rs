@@ -17,7 +17,7 @@ use std::sync::Mutex;
 /// As much as the measurement tries: some hundred thousand commands, from blank discs and on states
 /// of every kind, with every command answered in every way.
 pub const EFFORT: Effort =
-    Effort { sequences: 40, injected_blocks: 1_000, sound: 5_000, unsound: 50, junk: 2_000 };
+    Effort { sequences: 100, injected_blocks: 1_000, sound: 5_000, unsound: 50, junk: 2_000 };
 
 /// The numbers of L1 to L4.
 const LINK_REFUSALS: RangeInclusive<u32> = 1..=4;

@@ -1,9 +1,9 @@
 -- RESERVE TRACK (53h): the blank tail becomes a reserved fragment and a tail after it.
 use Prim.Native.Nat.{ℕ, _+_, _≤_, _<_}
-use mathlib.Core.Bool.{cond, not}
+use mathlib.Core.Bool.{Bool, cond, not, _||_}
 use lib.Dec.{eqb, leb}
 use Rattle.commands.specs.Types.{Disc, Verdict, WriteProtected, InvalidFieldInCommand, NoMoreReservations, EndOfUserArea}
-use Rattle.fragments.specs.Address.{blocksFor}
+use Rattle.fragments.specs.Address.{wholeBlocks, leftOver}
 use Rattle.fragments.specs.Fragment.{end, nextFragmentStart, tailFrom, reservedAt}
 use Rattle.fragments.specs.List.{limit}
 use Rattle.disc.specs.Records.{used, lastRecord, withRecord, hasBlankTail}
@@ -23,12 +23,16 @@ pub record Splitting (d : Disc) (b : ℕ) : Type 0 where
   pub free : used d < limit
   pub start : nextFragmentStart (end (reservedAt (lastRecord d) b)) .0 < d .capacity
 
+-- a size that is 0 or no multiple of 16 (request (vi) of document 02)
+abbrev pub invalidSize : ℕ → Bool
+invalidSize size = eqb size 0 || not (eqb (leftOver size) 0)
+
 -- RESERVE TRACK with its refusals in the table's order; nothing is flushed
 unfoldable pub reserve : Disc → ℕ → Verdict
 reserve d size =
     cond (d .finalized) (refuse d WriteProtected)
-    (cond (eqb size 0) (refuse d InvalidFieldInCommand)
+    (cond (invalidSize size) (refuse d InvalidFieldInCommand)
     (cond (not (hasBlankTail d)) (refuse d NoMoreReservations)
     (cond (eqb (used d) limit) (refuse d NoMoreReservations)
-    (cond (leb (d .capacity) (nextFragmentStart (end (reservedAt (lastRecord d) (blocksFor size))) .0)) (refuse d EndOfUserArea)
-    (accept d (splitTail d (blocksFor size)) noReply noPlan)))))
+    (cond (leb (d .capacity) (nextFragmentStart (end (reservedAt (lastRecord d) (wholeBlocks size))) .0)) (refuse d EndOfUserArea)
+    (accept d (splitTail d (wholeBlocks size)) noReply noPlan)))))

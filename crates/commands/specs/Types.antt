@@ -1,6 +1,7 @@
 -- The types of the crates below by their short names.
 pub use Rattle.fragments.specs.declared.address.Lba.{Lba}
 pub use Rattle.protocol.specs.declared.answer.LinkRefusal.the-variants.{CommandBlockLength, MediumSize, UnsoundState, TransferLength}
+pub use Rattle.protocol.specs.declared.answer.DriveRefusal.{DriveRefusal}
 pub use Rattle.protocol.specs.declared.answer.DriveRefusal.the-variants.{InvalidOperationCode, WriteProtected, InvalidFieldInCommand, AddressOutOfRange, BlankCheck, InvalidAddressForWrite, IncompleteTrackInSession, EmptyTrack, NoMoreReservations, EndOfUserArea}
 pub use Rattle.protocol.specs.declared.command.Command.{Command}
 pub use Rattle.protocol.specs.declared.command.Command.the-variants.{TestUnitReady, RequestSense, ReadCapacity, Read, Write, SynchronizeCache, ReserveTrack, CloseTrackSession, ReadDiscInformation, ReadTrackInformation, Unlisted}

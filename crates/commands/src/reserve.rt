@@ -33,7 +33,7 @@ pub(crate) fn reserve_track(disc: Disc, size: u32) -> Decision
     if disc.finalized {
         return Decision::refused(DriveRefusal::WriteProtected);
     }
-    if size == 0 {
+    if (size == 0) | (fragments::left_over(size as usize) != 0) {
         return Decision::refused(DriveRefusal::InvalidFieldInCommand);
     }
     let last = disc.last();
@@ -43,7 +43,7 @@ pub(crate) fn reserve_track(disc: Disc, size: u32) -> Decision
     if last.number == Disc::LIMIT {
         return Decision::refused(DriveRefusal::NoMoreReservations);
     }
-    let blocks = fragments::blocks_for(size);
+    let blocks = fragments::whole_blocks(size as usize) as u32;
     if disc.capacity as u64 <= last.fragment.reserved(blocks).next_start().0 {
         return Decision::refused(DriveRefusal::EndOfUserArea);
     }

@@ -95,8 +95,9 @@ fullRun =
 
 abbrev droppedRun : List Line
 droppedRun =
-    -- with a full list RESERVE 2064, 129 blocks, for which there is no room either, and RESERVE 16
-    line (cdb (0x53 ∷ 0 ∷ 0 ∷ 0 ∷ 0 ∷ 0 ∷ 0 ∷ 8 ∷ 0x10 ∷ [])) 0x057205 0 [] (sense 0x5 0x72 0x05) (16 * lastStart) 0 fullOfTail
+    -- with a full list RESERVE 2065, which is not of whole blocks, RESERVE 2064, 129 blocks, for which there is no room either, and RESERVE 16
+    line (cdb (0x53 ∷ 0 ∷ 0 ∷ 0 ∷ 0 ∷ 0 ∷ 0 ∷ 8 ∷ 0x11 ∷ [])) 0x052400 0 [] (sense 0x5 0x24 0x00) (16 * lastStart) 0 fullOfTail
+    ∷ line (cdb (0x53 ∷ 0 ∷ 0 ∷ 0 ∷ 0 ∷ 0 ∷ 0 ∷ 8 ∷ 0x10 ∷ [])) 0x057205 0 [] (sense 0x5 0x72 0x05) (16 * lastStart) 0 fullOfTail
     ∷ line (cdb (0x53 ∷ 0 ∷ 0 ∷ 0 ∷ 0 ∷ 0 ∷ 0 ∷ 0 ∷ 16 ∷ [])) 0x057205 0 [] (sense 0x5 0x72 0x05) (16 * lastStart) 0 fullOfTail
     -- 51h: the session's first and last fragment
     ∷ line (cdb (0x51 ∷ 0 ∷ 0 ∷ 0 ∷ 0 ∷ 0 ∷ 0 ∷ 0 ∷ 34 ∷ [])) 0 0

@@ -108,9 +108,10 @@ table =
     ∷ line (0x28 ∷ 0 ∷ 0 ∷ 0 ∷ 0 ∷ 32 ∷ 0 ∷ 0 ∷ 1 ∷ 0 ∷ 0 ∷ 0 ∷ []) 0x080000 0 [] (sense 0x8 0x00 0x00) 32 0 flushed
     ∷ line (0x28 ∷ 0 ∷ 0 ∷ 0 ∷ 0x12 ∷ 0xC0 ∷ 0 ∷ 0 ∷ 1 ∷ 0 ∷ 0 ∷ 0 ∷ []) 0x052100 0 [] (sense 0x5 0x21 0x00) 32 0 flushed
     ∷ line (0x28 ∷ 0 ∷ 0 ∷ 0 ∷ 0x12 ∷ 0xC0 ∷ 0 ∷ 0 ∷ 0 ∷ 0 ∷ 0 ∷ 0 ∷ []) 0 0 [] (sense 0 0 0) 32 0 flushed
-    -- 5B/001 number 1, RESERVE 33, 5B/010
+    -- 5B/001 number 1, RESERVE 33 and 48, 5B/010
     ∷ line (0x5B ∷ 0 ∷ 1 ∷ 0 ∷ 0 ∷ 1 ∷ 0 ∷ 0 ∷ 0 ∷ 0 ∷ 0 ∷ 0 ∷ []) 0 0 [] (sense 0 0 0) 48 0 closed
-    ∷ line (0x53 ∷ 0 ∷ 0 ∷ 0 ∷ 0 ∷ 0 ∷ 0 ∷ 0 ∷ 33 ∷ 0 ∷ 0 ∷ 0 ∷ []) 0 0 [] (sense 0 0 0) 112 0 reserved
+    ∷ line (0x53 ∷ 0 ∷ 0 ∷ 0 ∷ 0 ∷ 0 ∷ 0 ∷ 0 ∷ 33 ∷ 0 ∷ 0 ∷ 0 ∷ []) 0x052400 0 [] (sense 0x5 0x24 0x00) 48 0 closed
+    ∷ line (0x53 ∷ 0 ∷ 0 ∷ 0 ∷ 0 ∷ 0 ∷ 0 ∷ 0 ∷ 48 ∷ 0 ∷ 0 ∷ 0 ∷ []) 0 0 [] (sense 0 0 0) 112 0 reserved
     ∷ line (0x5B ∷ 0 ∷ 2 ∷ 0 ∷ 0 ∷ 0 ∷ 0 ∷ 0 ∷ 0 ∷ 0 ∷ 0 ∷ 0 ∷ []) 0x057203 0 [] (sense 0x5 0x72 0x03) 112 0 reserved
     -- WRITE 48 of 49 and of 48, 5B/010
     ∷ line (0x2A ∷ 0 ∷ 0 ∷ 0 ∷ 0 ∷ 48 ∷ 0 ∷ 0 ∷ 49 ∷ 0 ∷ 0 ∷ 0 ∷ []) 0x056300 0 [] (sense 0x5 0x63 0x00) 112 0 reserved

@@ -199,7 +199,8 @@ firstRun =
     ∷ line (cdb (0x5B ∷ 0 ∷ 1 ∷ 0 ∷ 0 ∷ 1 ∷ [])) 0 0 0 0 [] (sense 0 0 0) 48 0 closed
     -- 25h: 31 still, though nothing of the last fragment is recorded
     ∷ line (cdb (0x25 ∷ [])) 0 8 0 0 (0 ∷ 0 ∷ 0 ∷ 0x1F ∷ 0 ∷ 0 ∷ 8 ∷ 0 ∷ []) (sense 0 0 0) 48 0 closed
-    -- RESERVE 32: two blocks exactly, and a tail at 3 + 2 + 1
+    -- RESERVE 31 is not of whole blocks; RESERVE 32: two blocks, and a tail at 3 + 2 + 1
+    ∷ line (cdb (0x53 ∷ 0 ∷ 0 ∷ 0 ∷ 0 ∷ 0 ∷ 0 ∷ 0 ∷ 31 ∷ [])) 0 0 0x052400 0 [] (sense 0x5 0x24 0x00) 48 0 closed
     ∷ line (cdb (0x53 ∷ 0 ∷ 0 ∷ 0 ∷ 0 ∷ 0 ∷ 0 ∷ 0 ∷ 32 ∷ [])) 0 0 0 0 [] (sense 0 0 0) 96 0 reserved
     -- 52h number 2: reserved and blank, 01h + 80h + 40h; next 48, free 32 of 32
     ∷ line (cdb (0x52 ∷ 1 ∷ 0 ∷ 0 ∷ 0 ∷ 2 ∷ 0 ∷ 0 ∷ 36 ∷ [])) 0 36 0 0
@@ -239,7 +240,8 @@ firstRun =
     ∷ line (cdb (0x51 ∷ 0 ∷ 0 ∷ 0 ∷ 0 ∷ 0 ∷ 0 ∷ 0 ∷ 34 ∷ [])) 0 34 0 0
     (0 ∷ 0x20 ∷ 5 ∷ 1 ∷ 2 ∷ 3 ∷ 3 ∷ replicate 27 0)
     (sense 0 0 0) 2129 1 nextSession
-    -- RESERVE 16: the tail is not blank
+    -- RESERVE 17 and 16: the tail is not blank, but the size comes first
+    ∷ line (cdb (0x53 ∷ 0 ∷ 0 ∷ 0 ∷ 0 ∷ 0 ∷ 0 ∷ 0 ∷ 17 ∷ [])) 0 0 0x052400 0 [] (sense 0x5 0x24 0x00) 2129 1 nextSession
     ∷ line (cdb (0x53 ∷ 0 ∷ 0 ∷ 0 ∷ 0 ∷ 0 ∷ 0 ∷ 0 ∷ 16 ∷ [])) 0 0 0x057205 0 [] (sense 0x5 0x72 0x05) 2129 1 nextSession
     -- 5B/111: no such function; 5B/001 number 4: unlisted
     ∷ line (cdb (0x5B ∷ 0 ∷ 7 ∷ [])) 0 0 0x052400 0 [] (sense 0x5 0x24 0x00) 2129 1 nextSession
@@ -255,10 +257,11 @@ firstRun =
     -- 5B/110 and 5B/010 again: nothing is done
     ∷ line (cdb (0x5B ∷ 0 ∷ 6 ∷ [])) 0 0 0 0 [] (sense 0 0 0) 0 0 twoSessions
     ∷ line (cdb (0x5B ∷ 0 ∷ 2 ∷ [])) 0 0 0 0 [] (sense 0 0 0) 0 0 twoSessions
-    -- WRITE of 0 on the finalized disc is accepted, of 1 refused; so is RESERVE 0, before its size is looked at
+    -- WRITE of 0 on the finalized disc is accepted, of 1 refused; so are RESERVE 0 and 33, before the size is looked at
     ∷ line (cdb (0x2A ∷ 0 ∷ 0 ∷ 0 ∷ 8 ∷ 0x60 ∷ [])) 0 0 0 0 [] (sense 0 0 0) 0 0 twoSessions
     ∷ line (cdb (0x2A ∷ 0 ∷ 0 ∷ 0 ∷ 8 ∷ 0x60 ∷ 0 ∷ 0 ∷ 1 ∷ [])) 2048 0 0x072700 0 [] (sense 0x7 0x27 0x00) 0 0 twoSessions
     ∷ line (cdb (0x53 ∷ [])) 0 0 0x072700 0 [] (sense 0x7 0x27 0x00) 0 0 twoSessions
+    ∷ line (cdb (0x53 ∷ 0 ∷ 0 ∷ 0 ∷ 0 ∷ 0 ∷ 0 ∷ 0 ∷ 33 ∷ [])) 0 0 0x072700 0 [] (sense 0x7 0x27 0x00) 0 0 twoSessions
     -- 52h FFh: there is no tail
     ∷ line (cdb (0x52 ∷ 1 ∷ 0 ∷ 0 ∷ 0 ∷ 0xFF ∷ 0 ∷ 0 ∷ 36 ∷ [])) 0 36 0x052400 0 [] (sense 0x5 0x24 0x00) 0 0 twoSessions
     -- 52h number 3, complete: no next address, none free, last recorded 16 x 134 - 1 = 2,143; and 25h
@@ -306,10 +309,12 @@ fieldsRun =
     -- 52h number 257 and 5B/001 number 257: unlisted, though byte 5 is 1
     ∷ line (cdb (0x52 ∷ 1 ∷ 0 ∷ 0 ∷ 1 ∷ 1 ∷ 0 ∷ 0 ∷ 36 ∷ [])) 0 36 0x052400 0 [] (sense 0x5 0x24 0x00) 0 0 threeHundred
     ∷ line (cdb (0x5B ∷ 0 ∷ 1 ∷ 0 ∷ 1 ∷ 1 ∷ [])) 0 0 0x052400 0 [] (sense 0x5 0x24 0x00) 0 0 threeHundred
-    -- with 1 in the highest byte: READ 16777216 of 1 passes the disc, 52h of that address finds no fragment, RESERVE 16777232 does not fit
+    -- with 1 in the highest byte: READ 16777216 of 1 passes the disc, 52h of that address finds no fragment, RESERVE 16777232 does not fit;
+    -- 16777217 is not of whole blocks, before that
     ∷ line (cdb (0x28 ∷ 0 ∷ 1 ∷ 0 ∷ 0 ∷ 0 ∷ 0 ∷ 0 ∷ 1 ∷ [])) 0 2048 0x052100 0 [] (sense 0x5 0x21 0x00) 0 0 threeHundred
     ∷ line (cdb (0x52 ∷ 0 ∷ 1 ∷ 0 ∷ 0 ∷ 0 ∷ 0 ∷ 0 ∷ 36 ∷ [])) 0 36 0x052100 0 [] (sense 0x5 0x21 0x00) 0 0 threeHundred
     ∷ line (cdb (0x53 ∷ 0 ∷ 0 ∷ 0 ∷ 0 ∷ 1 ∷ 0 ∷ 0 ∷ 0x10 ∷ [])) 0 0 0x056300 0 [] (sense 0x5 0x63 0x00) 0 0 threeHundred
+    ∷ line (cdb (0x53 ∷ 0 ∷ 0 ∷ 0 ∷ 0 ∷ 1 ∷ 0 ∷ 0 ∷ 1 ∷ [])) 0 0 0x052400 0 [] (sense 0x5 0x24 0x00) 0 0 threeHundred
     -- WRITE 0 of 256: sixteen blocks; READ 0 of 256, and of 257, one sector too many
     ∷ line (0x2A ∷ 0xFF ∷ 0 ∷ 0 ∷ 0 ∷ 0 ∷ 0xFF ∷ 1 ∷ 0 ∷ 0xFF ∷ 0xFF ∷ 0xFF ∷ []) 524288 0 0 16 [] (sense 0 0 0) 256 0 sixteenBlocks
     ∷ line (0x28 ∷ 0xFF ∷ 0 ∷ 0 ∷ 0 ∷ 0 ∷ 0xFF ∷ 1 ∷ 0 ∷ 0xFF ∷ 0xFF ∷ 0xFF ∷ []) 0 524288 0 0 [] (sense 0 0 0) 256 0 sixteenBlocks
@@ -371,8 +376,11 @@ onBlank =
     line (cdb (0x5B ∷ 0 ∷ 6 ∷ [])) 0 0 0x057204 0 [] (sense 0x5 0x72 0x04) 0 0 tailOnly
     ∷ line (cdb (0x5B ∷ 0 ∷ 1 ∷ 0 ∷ 0 ∷ 1 ∷ [])) 0 0 0x057204 0 [] (sense 0x5 0x72 0x04) 0 0 tailOnly
     ∷ line (cdb (0x5B ∷ 0 ∷ 2 ∷ [])) 0 0 0 0 [] (sense 0 0 0) 0 0 tailOnly
-    -- RESERVE 0
+    -- RESERVE 0, and of a sector, half a block, a block but for a sector
     ∷ line (cdb (0x53 ∷ [])) 0 0 0x052400 0 [] (sense 0x5 0x24 0x00) 0 0 tailOnly
+    ∷ line (cdb (0x53 ∷ 0 ∷ 0 ∷ 0 ∷ 0 ∷ 0 ∷ 0 ∷ 0 ∷ 1 ∷ [])) 0 0 0x052400 0 [] (sense 0x5 0x24 0x00) 0 0 tailOnly
+    ∷ line (cdb (0x53 ∷ 0 ∷ 0 ∷ 0 ∷ 0 ∷ 0 ∷ 0 ∷ 0 ∷ 8 ∷ [])) 0 0 0x052400 0 [] (sense 0x5 0x24 0x00) 0 0 tailOnly
+    ∷ line (cdb (0x53 ∷ 0 ∷ 0 ∷ 0 ∷ 0 ∷ 0 ∷ 0 ∷ 0 ∷ 15 ∷ [])) 0 0 0x052400 0 [] (sense 0x5 0x24 0x00) 0 0 tailOnly
     ∷ []
 
 abbrev upTo171 : List Line
@@ -397,8 +405,9 @@ largestRun =
     -- READ of the last sector, and of two from there on
     ∷ line (cdb (0x28 ∷ 0 ∷ 0 ∷ 0x23 ∷ 5 ∷ 0x3F ∷ 0 ∷ 0 ∷ 1 ∷ [])) 0 2048 0x080000 0 [] (sense 0x8 0x00 0x00) 0 0 largest
     ∷ line (cdb (0x28 ∷ 0 ∷ 0 ∷ 0x23 ∷ 5 ∷ 0x3F ∷ 0 ∷ 0 ∷ 2 ∷ [])) 0 4096 0x052100 0 [] (sense 0x5 0x21 0x00) 0 0 largest
-    -- RESERVE of 16 x 143,442 + 1 sectors leaves no tail a block, one sector fewer does
-    ∷ line (cdb (0x53 ∷ 0 ∷ 0 ∷ 0 ∷ 0 ∷ 0 ∷ 35 ∷ 5 ∷ 33 ∷ [])) 0 0 0x056300 0 [] (sense 0x5 0x63 0x00) 0 0 largest
+    -- RESERVE of 16 x 143,443 sectors leaves no tail a block, one block fewer does; 16 x 143,442 + 1 is not of whole blocks
+    ∷ line (cdb (0x53 ∷ 0 ∷ 0 ∷ 0 ∷ 0 ∷ 0 ∷ 35 ∷ 5 ∷ 48 ∷ [])) 0 0 0x056300 0 [] (sense 0x5 0x63 0x00) 0 0 largest
+    ∷ line (cdb (0x53 ∷ 0 ∷ 0 ∷ 0 ∷ 0 ∷ 0 ∷ 35 ∷ 5 ∷ 33 ∷ [])) 0 0 0x052400 0 [] (sense 0x5 0x24 0x00) 0 0 largest
     ∷ line (cdb (0x53 ∷ 0 ∷ 0 ∷ 0 ∷ 0 ∷ 0 ∷ 35 ∷ 5 ∷ 32 ∷ [])) 0 0 0 0 [] (sense 0 0 0) 2295088 0 largestReserved
     ∷ []
 

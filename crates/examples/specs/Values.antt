@@ -6,7 +6,7 @@ use mathlib.Core.Bool.{Bool, true, false}
 use mathlib.Core.List.{List, [], _∷_, _++_, map}
 use lib.ListN.{length, take, replicate}
 use Rattle.examples.specs.Types.{Sense, Fragment, Reserved, Appended, Disc, Found, Number, Nowhere, Accepted, Link, Drive, CommandBlockLength, MediumSize, UnsoundState, TransferLength, BlankCheck, Read, Write, RequestSense, ReadCapacity, SynchronizeCache, ReadDiscInformation, ReadTrackInformation, Keep, Settle, Reserve, Close, Grow, Effect, Skip, Record, Nothing, Send, Gather, Fill, Entry, Decision}
-use Rattle.fragments.specs.Address.{sectorsIn, blocksFor, wholeBlocks, leftOver, missing, block, lba, firstSector, passes}
+use Rattle.fragments.specs.Address.{sectorsIn, wholeBlocks, leftOver, missing, block, lba, firstSector, passes}
 use Rattle.fragments.specs.Fragment.{fragment, unusedRecord, isReserved, complete, isTail, isIncompleteReserved, end, nextFragmentStart, nextSessionStart, nextAfter, lastRecorded, holdsRun, reservedAt, shortenedRecord}
 use Rattle.fragments.specs.List.{limit, listed, recordNumbered, lastOf, holderOf, takerOf, pendingOf, firstOfSession, lastReadable, some, find}
 use Rattle.protocol.specs.Answer.{sense, noSense, senseNumber, refusalSense, driveRefusals, allowedSense, isRefusalSense, number}
@@ -23,8 +23,8 @@ use Rattle.disc.specs.Apply.{withEntry, affected, changed}
 
 -- sixteen sectors a block: 2 blocks and 1 sector are 33 sectors; a block of 4 lacks 12, one of 17 nothing
 pub conversions :
-    (sectorsIn 2 ∷ blocksFor 32 ∷ blocksFor 33 ∷ wholeBlocks 33 ∷ leftOver 33 ∷ missing 4 ∷ missing 17 ∷ firstSector (block 3) .0 ∷ [])
-    ≡ (32 ∷ 2 ∷ 3 ∷ 2 ∷ 1 ∷ 12 ∷ 0 ∷ 48 ∷ [])
+    (sectorsIn 2 ∷ wholeBlocks 32 ∷ wholeBlocks 33 ∷ leftOver 32 ∷ leftOver 33 ∷ missing 4 ∷ missing 17 ∷ firstSector (block 3) .0 ∷ [])
+    ≡ (32 ∷ 2 ∷ 2 ∷ 0 ∷ 1 ∷ 12 ∷ 0 ∷ 48 ∷ [])
 conversions = refl
 
 -- a run of 2 from 30 ends at 32, one of 3 passes it

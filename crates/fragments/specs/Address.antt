@@ -8,10 +8,6 @@ use Rattle.fragments.specs.Types.{Block, WideBlock, Lba}
 abbrev pub sectorsIn : ℕ → ℕ
 sectorsIn blocks = 16 * blocks
 
--- the blocks that hold so many sectors, the last one perhaps in part
-abbrev pub blocksFor : ℕ → ℕ
-blocksFor sectors = (sectors + 15) / 16
-
 -- the blocks that so many sectors fill, and the sectors left over
 abbrev pub wholeBlocks : ℕ → ℕ
 wholeBlocks sectors = sectors / 16

@@ -2,7 +2,7 @@
 ghost use mathlib.Core.Path.{_≡_};
 ghost use Prim.Native.Nat.{_+_};
 ghost use lib.Dec.{eqb};
-ghost use Rattle.fragments.specs.Address.{sectorsIn, blocksFor, wholeBlocks, leftOver, missing, block, lba, firstSector, passes};
+ghost use Rattle.fragments.specs.Address.{sectorsIn, wholeBlocks, leftOver, missing, block, lba, firstSector, passes};
 
 // The number of an ECC block, from 0. A disc's block numbers fit 32 bits.
 pub struct Block(pub u32);
@@ -21,13 +21,6 @@ pub fn sectors_in(blocks: u32) -> u64
     ensures { λ r. ⌜ r ≡ sectorsIn blocks ⌝ }
 {
     SECTORS_PER_BLOCK as u64 * (blocks as u64)
-}
-
-// How many blocks hold that many sectors, the last one perhaps in part.
-pub fn blocks_for(sectors: u32) -> u32
-    ensures { λ r. ⌜ r ≡ blocksFor sectors ⌝ }
-{
-    ((sectors as u64 + (SECTORS_PER_BLOCK - 1) as u64) / SECTORS_PER_BLOCK as u64) as u32
 }
 
 // How many blocks that many sectors fill.

@@ -9,7 +9,6 @@ mod list;
 pub use address::Block;
 pub use address::Lba;
 pub use address::WideBlock;
-pub use address::blocks_for;
 pub use address::left_over;
 pub use address::missing;
 pub use address::sectors_in;

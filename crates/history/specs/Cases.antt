@@ -125,9 +125,9 @@ abbrev pub BlockStays : List Turn → List Turn → Drive → Type 0
 BlockStays before ts s =
     (i : ℕ) → i < 32768 → (recordedByte (final ts s .disc) i ≡ true) × (getD (final ts s .medium) i 0 ≡ getD (final before s .medium) i 0)
 
--- after RESERVE 33, so in a fragment of 48 sectors: WRITE 0 of 49 does not fit, WRITE 0 of 48 does; each in two parts
+-- after RESERVE 48: WRITE 0 of 49 does not fit, WRITE 0 of 48 does; each in two parts
 abbrev pub reserving : Request
-reserving = request (0x53 ∷ 0 ∷ 0 ∷ 0 ∷ 0 ∷ 0 ∷ 0 ∷ 0 ∷ 33 ∷ 0 ∷ 0 ∷ 0 ∷ []) [] []
+reserving = request (0x53 ∷ 0 ∷ 0 ∷ 0 ∷ 0 ∷ 0 ∷ 0 ∷ 0 ∷ 48 ∷ 0 ∷ 0 ∷ 0 ∷ []) [] []
 
 abbrev pub inTwo : List ℕ → List ℕ → ℕ → (ℕ → Change) → List Given
 inTwo x y n j = after (j 0) reserving ∷ after (j 1) (writing 0 40 x) ∷ after (j 2) (writing 40 n y) ∷ []

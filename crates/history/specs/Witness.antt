@@ -44,12 +44,12 @@ judged (h ∷ hs) d =
     let v = judge d (h .cdb) (h .payload) (h .room) in
     number (v .answer) ∷ judged hs (v .disc)
 
--- a command block of three bytes (L1), a WRITE without its data (L4), an opcode that is not listed, RESERVE 33, WRITE 0 of 5 to the reserved
+-- a command block of three bytes (L1), a WRITE without its data (L4), an opcode that is not listed, RESERVE 48, WRITE 0 of 5 to the reserved
 -- fragment, WRITE 64 of 20 to the tail while those five are pending, READ 0 of 16
 abbrev pub before : List Shape
 before =
     shape (0x2A ∷ 0 ∷ 0 ∷ []) 0 0 ∷ shape (writeCdb 0 1) 0 0 ∷ shape (0xFF ∷ replicate 11 0) 0 0
-    ∷ shape (0x53 ∷ 0 ∷ 0 ∷ 0 ∷ 0 ∷ 0 ∷ 0 ∷ 0 ∷ 33 ∷ 0 ∷ 0 ∷ 0 ∷ []) 0 0 ∷ shape (writeCdb 0 5) 10240 0 ∷ shape (writeCdb 64 20) 40960 0
+    ∷ shape (0x53 ∷ 0 ∷ 0 ∷ 0 ∷ 0 ∷ 0 ∷ 0 ∷ 0 ∷ 48 ∷ 0 ∷ 0 ∷ 0 ∷ []) 0 0 ∷ shape (writeCdb 0 5) 10240 0 ∷ shape (writeCdb 64 20) 40960 0
     ∷ shape (0x28 ∷ 0 ∷ 0 ∷ 0 ∷ 0 ∷ 0 ∷ 0 ∷ 0 ∷ 16 ∷ 0 ∷ 0 ∷ 0 ∷ []) 0 32768 ∷ []
 
 -- WRITE 84 of 2, which is cut into WRITE 84 of 1 and WRITE 85 of 1

@@ -85,3 +85,6 @@ cond-cases P false x y there else = else refl
 pub or-false-left : (a b : Bool) → (a || b) ≡ false → a ≡ false
 or-false-left true b h = h
 or-false-left false b h = refl
+
+pub or-false-right : (a b : Bool) → (a || b) ≡ false → b ≡ false
+or-false-right a b h = by-cases b (λ t. absurd (contradiction (or-right a t) h)) (λ f. f)

@@ -164,7 +164,7 @@ early-shapes s l x j =
     shape (writeCdb 0 5) (five-length l i) 0 ∷ shape (asking 0 .cdb) 0 (length-replicate {A = ℕ} 36 x i)
     ∷ shape (writeCdb 5 13) (thirteen-length l i) 0 ∷ []
 
--- a READ after them, and a WRITE after RESERVE 33
+-- a READ after them, and a WRITE after RESERVE 48
 abbrev lateShapes : ℕ → List Shape
 lateShapes a = newerShapes ++ (shape (reading a 0 .cdb) 0 32768 ∷ [])
 

@@ -7,9 +7,9 @@ use native.Mathlib.Omega.{arith}
 use borrow.Author.Tests.{eq-eqb, ne-eqb, eqb-true, eqb-false, leb-true, leb-false, ltb-false, not-false}
 use lib.Dec.{eqb, leb, ltb}
 use lib.ListN.{length}
-use Rattle.fragments.specs.Address.{lba, firstSector, sectorsIn, blocksFor}
+use Rattle.fragments.specs.Address.{lba, firstSector, sectorsIn}
 use Rattle.protocol.specs.Answer.{noSense}
-use Rattle.fragments.specs.Fragment.{end, firstUnrecorded, complete, isReserved, nextFragmentStart, nextSessionStart, reservedAt, shortenedRecord}
+use Rattle.fragments.specs.Fragment.{end, firstUnrecorded, complete, isReserved, nextSessionStart, shortenedRecord}
 use Rattle.disc.specs.Records.{isBlank, pendingIn, used, isListed, numbered, lastRecord, withRecord, withSense, hasTail, hasBlankTail, writableAt, blankTailOnly, atAddress}
 use Rattle.fragments.specs.List.{limit}
 use Rattle.outcomes.specs.Recorded.{among}
@@ -26,13 +26,14 @@ use Rattle.commands.specs.Close.{appendTail, closeIncomplete, closeFragment, ha
 use Rattle.reporting.specs.Reports.{requestSense, readCapacity, readDiscInformation, readTrackInformation, trackVerdict, trackFound, trackNumbered}
 use Rattle.commands.specs.Judge.{testUnitReady, perform}
 use Rattle.fragments.proofs.Laws.Bool.{and-both, and-left, and-right, or-cases, contradiction, by-cases, cond-yes, cond-no, cond-cases}
-use Rattle.fragments.proofs.Laws.Numbers.{equal-cases, below-limit}
+use Rattle.fragments.proofs.Laws.Numbers.{equal-cases}
 use Rattle.disc.proofs.Laws.Records.{listed-number}
 use Rattle.outcomes.proofs.Laws.Recorded.{among-from, among-below, among-between}
 use Rattle.disc.proofs.Laws.Rules.{sound-rules}
 use Rattle.disc.proofs.Laws.Sound.{none-pending, disjoint, incomplete-room, pending-in-few}
-use Rattle.commands.proofs.Laws.Flush.{used-limit, flush-grows, flush-pending, flush-sound, flush-used, flush-capacity}
+use Rattle.commands.proofs.Laws.Flush.{flush-grows, flush-pending, flush-sound, flush-used, flush-capacity}
 use Rattle.commands.proofs.Laws.Write.{writable-found, others-numbered, others-pending, others-sound}
+use Rattle.commands.proofs.Laws.Reserve.{reserve-cases}
 use Rattle.commands.proofs.Laws.Close.{appended-last}
 use Rattle.commands.proofs.Laws.Session.{kept, kept-few, kept-pending}
 use Rattle.outcomes.proofs.Laws.Keep.{write-room}
@@ -221,20 +222,7 @@ module _
         same-holds d (splitTail d b) m p n k (same .recorded (n - 1)) (same .zeroed (n - 1)) (split-start d s b n few) refl h)
 
     noted-reserve : (size : ℕ) → Noted k (reserve d size)
-    unfolding reserve
-    noted-reserve size =
-        let s = sound-rules d (r .sound) in
-        let b = blocksFor size in
-        cond-cases (Noted k) (d .finalized) _ _ (λ f. noted-refused k WriteProtected)
-        (λ f.
-        cond-cases (Noted k) (eqb size 0) _ _ (λ z. noted-refused k InvalidFieldInCommand)
-        (λ z.
-        cond-cases (Noted k) (not (hasBlankTail d)) _ _ (λ t. noted-refused k NoMoreReservations)
-        (λ t.
-        cond-cases (Noted k) (eqb (used d) limit) _ _ (λ u. noted-refused k NoMoreReservations)
-        (λ u.
-        cond-cases (Noted k) (leb (d .capacity) (nextFragmentStart (end (reservedAt (lastRecord d) b)) .0)) _ _ (λ q. noted-refused k EndOfUserArea)
-        (λ q. noted-split b (not-false _ t) (below-limit (used-limit d r) (eqb-false _ _ u)))))))
+    noted-reserve size = reserve-cases (Noted k) d size r (noted-refused k) (λ b some f t w. noted-split b t (w .free))
 
     -- CLOSE 001: with the function 001 the account is filled where the number is the fragment's and it is reserved
     abbrev closed : ℕ → ℕ → Account

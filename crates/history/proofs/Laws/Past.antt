@@ -5,11 +5,11 @@ use mathlib.Core.Bool.{Bool, true, false, cond, not, _&&_, _||_}
 use mathlib.Core.Logic.{⊎-elim}
 use native.Mathlib.Omega.{arith}
 use borrow.Author.Tests.{eq-eqb, ne-eqb, eqb-true, eqb-false, ltb-true, ltb-false, not-false}
-use lib.Dec.{eqb, leb, ltb}
+use lib.Dec.{eqb, ltb}
 use lib.ListN.{length}
-use Rattle.fragments.specs.Address.{lba, firstSector, sectorsIn, blocksFor}
-use Rattle.fragments.specs.Fragment.{end, firstUnrecorded, complete, isReserved, nextFragmentStart, nextSessionStart, reservedAt, shortenedRecord}
-use Rattle.disc.specs.Records.{isBlank, pendingIn, used, isListed, numbered, lastRecord, withRecord, hasTail, hasBlankTail, writableAt, blankTailOnly, atAddress, readable}
+use Rattle.fragments.specs.Address.{lba, firstSector, sectorsIn}
+use Rattle.fragments.specs.Fragment.{end, firstUnrecorded, complete, isReserved, nextSessionStart, shortenedRecord}
+use Rattle.disc.specs.Records.{isBlank, pendingIn, used, isListed, numbered, lastRecord, withRecord, hasTail, writableAt, blankTailOnly, atAddress, readable}
 use Rattle.fragments.specs.List.{limit}
 use Rattle.outcomes.specs.Recorded.{among, flushes, transfers, recordsBlock, flushedCount, transferredCount, pendingBlock, transferredBlock}
 use Rattle.disc.specs.Ready.{Ready}
@@ -32,6 +32,7 @@ use Rattle.disc.proofs.Laws.Rules.{sound-rules}
 use Rattle.disc.proofs.Laws.Sound.{none-pending, other-pending, own-pending, writable-once, pending-in-few}
 use Rattle.commands.proofs.Laws.Flush.{owner, flush-grows, flush-sound, flush-used}
 use Rattle.commands.proofs.Laws.Write.{writable-found}
+use Rattle.commands.proofs.Laws.Reserve.{reserve-cases}
 use Rattle.outcomes.proofs.Laws.Counts.{blank-only-none}
 use Rattle.history.specs.Types.{Lba, Fragment, Kind, Reserved, Appended, Disc, Found, Number, Nowhere, Accepted, DriveRefusal, WriteProtected, InvalidFieldInCommand, AddressOutOfRange, BlankCheck, InvalidOperationCode, InvalidAddressForWrite, IncompleteTrackInSession, EmptyTrack, NoMoreReservations, EndOfUserArea, Reply, Flush, Plan, Verdict, Skip, Record, Nothing, Send, Gather, Fill, Command, TestUnitReady, RequestSense, ReadCapacity, Read, Write, SynchronizeCache, ReserveTrack, CloseTrackSession, ReadDiscInformation, ReadTrackInformation, Unlisted}
 use Rattle.history.specs.Account.{extentOf}
@@ -528,18 +529,9 @@ module _ (d : Disc) (h : Past) (r : Ready d) (w : Recalls d h) where
 
   -- the commands that record nothing
   recalled-reserve : (size : ℕ) → Recalled h (reserve d size)
-  unfolding reserve
   recalled-reserve size =
-      cond-cases (Recalled h) (d .finalized) _ _ (λ f. recalled-refused h WriteProtected)
-      (λ f.
-      cond-cases (Recalled h) (eqb size 0) _ _ (λ z. recalled-refused h InvalidFieldInCommand)
-      (λ z.
-      cond-cases (Recalled h) (not (hasBlankTail d)) _ _ (λ t. recalled-refused h NoMoreReservations)
-      (λ t.
-      cond-cases (Recalled h) (eqb (used d) limit) _ _ (λ u. recalled-refused h NoMoreReservations)
-      (λ u.
-      cond-cases (Recalled h) (leb (d .capacity) (nextFragmentStart (end (reservedAt (lastRecord d) (blocksFor size))) .0)) _ _ (λ q. recalled-refused h EndOfUserArea)
-      (λ q. recalled-accepted h (splitTail d (blocksFor size)) noReply noPlan tells-none)))))
+      reserve-cases (Recalled h) d size r (recalled-refused h)
+      (λ b some f t w. recalled-accepted h (splitTail d b) noReply noPlan tells-none)
 
   recalled-read : (a : Lba) (n : ℕ) → Recalled h (read d a n)
   unfolding read

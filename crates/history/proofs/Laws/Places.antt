@@ -5,8 +5,8 @@ use mathlib.Core.Bool.{true, false, not, _&&_, _||_}
 use native.Mathlib.Omega.{arith}
 use borrow.Author.Tests.{eqb-true, eqb-false, leb-true, leb-false, ltb-false, not-false}
 use lib.Dec.{eqb, leb, ltb}
-use Rattle.fragments.specs.Address.{lba, firstSector, sectorsIn, blocksFor}
-use Rattle.fragments.specs.Fragment.{end, complete, nextFragmentStart, nextSessionStart, reservedAt, shortenedRecord}
+use Rattle.fragments.specs.Address.{lba, firstSector, sectorsIn}
+use Rattle.fragments.specs.Fragment.{end, complete, nextSessionStart, shortenedRecord}
 use Rattle.disc.specs.Records.{isBlank, pendingIn, used, isListed, numbered, lastRecord, withRecord, hasTail, hasBlankTail, writableAt, blankTailOnly, atAddress}
 use Rattle.fragments.specs.List.{limit}
 use Rattle.disc.specs.Rules.{at, Sound}
@@ -22,13 +22,14 @@ use Rattle.commands.specs.Close.{filledRecord, appendTail, closeIncomplete, clo
 use Rattle.reporting.specs.Reports.{requestSense, readCapacity, readDiscInformation, readTrackInformation, trackVerdict, trackFound, trackNumbered}
 use Rattle.commands.specs.Judge.{testUnitReady, perform}
 use Rattle.fragments.proofs.Laws.Bool.{by-cases, cond-yes, cond-no, cond-cases}
-use Rattle.fragments.proofs.Laws.Numbers.{equal-cases, below-limit}
+use Rattle.fragments.proofs.Laws.Numbers.{equal-cases}
 use Rattle.disc.proofs.Laws.Records.{listed-number}
 use Rattle.disc.proofs.Laws.Rules.{sound-rules}
 use Rattle.disc.proofs.Laws.Sound.{none-pending, incomplete-room, pending-in-few}
 use Rattle.disc.proofs.Laws.Grow.{Grown}
-use Rattle.commands.proofs.Laws.Flush.{used-limit, flush-grows, flush-pending, flush-sound, flush-used}
+use Rattle.commands.proofs.Laws.Flush.{flush-grows, flush-pending, flush-sound, flush-used}
 use Rattle.commands.proofs.Laws.Write.{writable-found, others-sound}
+use Rattle.commands.proofs.Laws.Reserve.{reserve-cases}
 use Rattle.commands.proofs.Laws.Close.{appended-last}
 use Rattle.commands.proofs.Laws.Session.{kept, kept-few, kept-pending}
 use Rattle.outcomes.proofs.Laws.Keep.{write-room, gather-grows, gather-sound, fill-grows, fill-sound}
@@ -161,18 +162,7 @@ module _ (d : Disc) (n : ℕ) (r : Ready d) (one : 1 ≤ n) where
       })
 
   moved-reserve : (size : ℕ) → Moved (reserve d size)
-  unfolding reserve
-  moved-reserve size =
-      cond-cases Moved (d .finalized) _ _ (λ f. moved-refused WriteProtected)
-      (λ f.
-      cond-cases Moved (eqb size 0) _ _ (λ z. moved-refused InvalidFieldInCommand)
-      (λ z.
-      cond-cases Moved (not (hasBlankTail d)) _ _ (λ t. moved-refused NoMoreReservations)
-      (λ t.
-      cond-cases Moved (eqb (used d) limit) _ _ (λ u. moved-refused NoMoreReservations)
-      (λ u.
-      cond-cases Moved (leb (d .capacity) (nextFragmentStart (end (reservedAt (lastRecord d) (blocksFor size))) .0)) _ _ (λ q. moved-refused EndOfUserArea)
-      (λ q. moved-split (blocksFor size) (not-false _ t) (below-limit (used-limit d r) (eqb-false _ _ u)))))))
+  moved-reserve size = reserve-cases Moved d size r moved-refused (λ b some f t w. moved-split b t (w .free))
 
   -- CLOSE
   moved-incomplete :

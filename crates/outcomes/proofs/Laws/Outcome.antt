@@ -3,13 +3,13 @@ use Prim.Native.Nat.{ℕ, _+_, _-_, _≤_, _<_, _/_}
 use mathlib.Core.Path.{_≡_, refl, sym, _∙_, ap}
 use mathlib.Core.Bool.{true, false, not, _&&_, _||_}
 use native.Mathlib.Omega.{arith}
-use borrow.Author.Tests.{eq-eqb, eqb-false, leb-false, ltb-false, not-false}
-use lib.Dec.{eqb, leb, ltb}
+use borrow.Author.Tests.{eq-eqb, eqb-false, ltb-false, not-false}
+use lib.Dec.{eqb, ltb}
 use lib.ListN.{length, set}
 use Rattle.outcomes.specs.Types.{Sense, Accepted, Drive, Lba, Kind, Reserved, Appended, Disc, Found, Number, Nowhere, Reply, Plan, Verdict, DriveRefusal, LinkRefusal, Link, Nothing, Command, Write, WriteProtected, InvalidFieldInCommand, InvalidAddressForWrite, IncompleteTrackInSession, EmptyTrack, NoMoreReservations, EndOfUserArea, Skip, Send, Read, Gather, Fill}
-use Rattle.fragments.specs.Address.{firstSector, blocksFor, sectorsIn}
+use Rattle.fragments.specs.Address.{firstSector, sectorsIn}
 use Rattle.protocol.specs.Answer.{noSense, refusalSense}
-use Rattle.fragments.specs.Fragment.{end, complete, nextFragmentStart, nextSessionStart, firstUnrecorded, reservedAt, shortenedRecord}
+use Rattle.fragments.specs.Fragment.{end, complete, nextFragmentStart, nextSessionStart, firstUnrecorded, shortenedRecord}
 use Rattle.disc.specs.Records.{isBlank, pendingIn, used, isListed, numbered, lastRecord, withRecord, hasBlankTail, writableAt, blankTailOnly, withSense}
 use Rattle.fragments.specs.List.{limit}
 use Rattle.disc.specs.Rules.{Sound}
@@ -27,11 +27,12 @@ use Rattle.outcomes.specs.Recorded.{transfers}
 use Rattle.outcomes.proofs.Laws.Pending.{Pending, pending-same, pending-sent, pending-none, pending-filled, pending-gathered, pending-split}
 use Rattle.outcomes.proofs.Laws.Recorded.{Records, set-onward, flush-onward, others-onward, flush-records, both-record, nothing-records, sent-records}
 use Rattle.fragments.proofs.Laws.Bool.{and-both, by-cases, cond-cases, or-right, or-false-left, contradiction}
-use Rattle.fragments.proofs.Laws.Numbers.{equal-cases, below-limit}
+use Rattle.fragments.proofs.Laws.Numbers.{equal-cases}
 use Rattle.disc.proofs.Laws.Records.{listed-number}
 use Rattle.disc.proofs.Laws.Rules.{sound-rules, rules-sound}
 use Rattle.commands.proofs.Laws.Flush.{used-limit, flush-sound, flush-capacity, flush-finalized, flush-pending, flush-used, flush-written}
 use Rattle.commands.proofs.Laws.Write.{writable-found, others-sound, others-numbered, others-pending}
+use Rattle.commands.proofs.Laws.Reserve.{reserve-cases}
 use Rattle.commands.proofs.Laws.Close.{appended-last}
 use Rattle.commands.proofs.Laws.Session.{kept-few, kept-capacity, kept-finalized, kept-pending}
 use Rattle.disc.proofs.Laws.Onward.{Onward, same-onward, onward-on, NoBlock, onward-as, onward-before, onward-after, list-onward}
@@ -134,30 +135,14 @@ split-capacity : (d : Disc) (b : ℕ) → splitTail d b .capacity ≡ d .capacit
 unfolding splitTail
 split-capacity d b = refl
 
-blocks-some : (size : ℕ) → (size ≡ 0 → ⊥) → 1 ≤ blocksFor size
-blocks-some size z = omega arith
-
 pub reserve-outcome : (d : Disc) (c : Command) (size : ℕ) → Ready d → Outcome d c (reserve d size)
-unfolding reserve
 reserve-outcome d c size r =
     let s = sound-rules d (r .sound) in
-    let b = blocksFor size in
-    cond-cases (Outcome d c) (d .finalized) _ _ (λ f. refused WriteProtected)
-    (λ f.
-    cond-cases (Outcome d c) (eqb size 0) _ _ (λ z. refused InvalidFieldInCommand)
-    (λ z.
-    cond-cases (Outcome d c) (not (hasBlankTail d)) _ _ (λ t. refused NoMoreReservations)
-    (λ t.
-    cond-cases (Outcome d c) (eqb (used d) limit) _ _ (λ u. refused NoMoreReservations)
-    (λ u.
-    cond-cases (Outcome d c) (leb (d .capacity) (nextFragmentStart (end (reservedAt (lastRecord d) b)) .0)) _ _ (λ h. refused EndOfUserArea)
-    (λ h.
-    done (splitTail d b) _ _
-    (split-sound d b s (not-false _ t) (below-limit (used-limit d r) (eqb-false _ _ u)) (blocks-some size (eqb-false _ _ z)) (leb-false _ _ h) f)
-    (split-capacity d b)
-    (nothing-records d (splitTail d b)
-    (split-onward d b s (not-false _ t) (below-limit (used-limit d r) (eqb-false _ _ u)) (blocks-some size (eqb-false _ _ z)) (leb-false _ _ h)))
-    (placed-none d c) (pending-split d b r (not-false _ t)) (no-room c))))))
+    reserve-cases (Outcome d c) d size r refused
+    (λ b some f t w.
+    done (splitTail d b) _ _ (split-sound d b s t (w .free) some (w .start) f) (split-capacity d b)
+    (nothing-records d (splitTail d b) (split-onward d b s t (w .free) some (w .start)))
+    (placed-none d c) (pending-split d b r t) (no-room c))
 
 -- CLOSE 001
 append-capacity : (d : Disc) (n : ℕ) → appendTail d n .capacity ≡ d .capacity

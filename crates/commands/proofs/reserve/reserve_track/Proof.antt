@@ -1,4 +1,4 @@
-use borrow.Author.Tests.{eq-eqb, ne-eqb, not-true, not-false}
+use borrow.Author.Tests.{not-true, not-false}
 use Rattle.fragments.proofs.Laws.Address.{wide-number}
 use Rattle.fragments.proofs.Laws.Numbers.{below-limit}
 use Rattle.commands.specs.Reserve.{reserve}
@@ -20,12 +20,15 @@ returns : tie.Need-returns
 unfolding reserve
 returns c = simp (c .refused .ensures, refused-verdict, c .before .if1 .taken)
 
+left-over-requires : tie.Need-left-over-requires
+left-over-requires c κs = search needs
+
 refused-requires-2 : tie.Need-refused-requires-2
 refused-requires-2 c κs = search needs
 
 returns-2 : tie.Need-returns-2
 unfolding reserve
-returns-2 c = simp (c .refused2 .ensures, refused-verdict, eq-eqb _ _ (c .before .if2 .taken), c .before .before .if1 .left)
+returns-2 c = simp (c .refused2 .ensures, refused-verdict, rw (c .before .before .left-over .ensures) at (c .before .if2 .taken), c .before .before .before .if1 .left)
 
 last-requires : tie.Need-last-requires
 last-requires c κs = search needs
@@ -39,23 +42,27 @@ refused-requires-3 c κs = search needs
 returns-3 : tie.Need-returns-3
 unfolding reserve
 returns-3 c =
+    let z = rw (c .before .before .before .before .before .left-over .ensures) at (c .before .before .before .before .if2 .left) in
     let b = rw (c .before .before .before .last .ensures) at (sym (c .before .before .is-blank-tail .ensures) ∙ not-true _ (c .before .if3 .taken)) in
-    rw (c .refused3 .ensures, refused-verdict, c .before .before .before .before .before .if1 .left, ne-eqb _ _ (c .before .before .before .before .if2 .left), b)
+    rw (c .refused3 .ensures, refused-verdict, c .before .before .before .before .before .before .if1 .left, z, b)
 
 refused-requires-4 : tie.Need-refused-requires-4
 refused-requires-4 c κs = search needs
 
 returns-4 : tie.Need-returns-4
 returns-4 c =
-    let d = c .before .before .before .before .before .before .before .before .args .disc in
-    let f = c .before .before .before .before .before .before .before .if1 .left in
-    let z = c .before .before .before .before .before .before .if2 .left in
+    let d = c .before .before .before .before .before .before .before .before .before .args .disc in
+    let f = c .before .before .before .before .before .before .before .before .if1 .left in
+    let z = rw (c .before .before .before .before .before .before .before .left-over .ensures) at (c .before .before .before .before .before .before .if2 .left) in
     let b = rw (c .before .before .before .before .before .last .ensures) at (sym (c .before .before .before .before .is-blank-tail .ensures) ∙ not-false _ (c .before .before .before .if3 .left)) in
     let n = ap (λ l. l .number) (c .before .before .before .before .before .last .ensures) in
-    rw (c .refused4 .ensures, refused-verdict) (sym (reserve-full d (c .before .before .before .before .before .before .before .before .args .size) f z b (sym n ∙ c .before .if4 .taken)))
+    rw (c .refused4 .ensures, refused-verdict) (sym (reserve-full d (c .before .before .before .before .before .before .before .before .before .args .size) f z b (sym n ∙ c .before .if4 .taken)))
 
-blocks-for-requires : tie.Need-blocks-for-requires
-blocks-for-requires c κs = search needs
+whole-blocks-requires : tie.Need-whole-blocks-requires
+whole-blocks-requires c κs = search needs
+
+cast-blocks : tie.Need-cast-blocks
+cast-blocks c = search needs
 
 cast-if5 : tie.Need-cast-if5
 cast-if5 c = search needs
@@ -71,27 +78,27 @@ refused-requires-5 c κs = search needs
 
 returns-5 : tie.Need-returns-5
 returns-5 c =
-    let d = c .before .before .before .before .before .before .before .before .before .before .before .before .before .before .args .disc in
-    let f = c .before .before .before .before .before .before .before .before .before .before .before .before .before .if1 .left in
-    let z = c .before .before .before .before .before .before .before .before .before .before .before .before .if2 .left in
+    let d = c .before .before .before .before .before .before .before .before .before .before .before .before .before .before .before .args .disc in
+    let f = c .before .before .before .before .before .before .before .before .before .before .before .before .before .before .if1 .left in
+    let z = rw (c .before .before .before .before .before .before .before .before .before .before .before .before .before .left-over .ensures) at (c .before .before .before .before .before .before .before .before .before .before .before .before .if2 .left) in
     let b = rw (c .before .before .before .before .before .before .before .before .before .before .before .last .ensures) at (sym (c .before .before .before .before .before .before .before .before .before .before .is-blank-tail .ensures) ∙ not-false _ (c .before .before .before .before .before .before .before .before .before .if3 .left)) in
     let n = ap (λ l. l .number) (c .before .before .before .before .before .before .before .before .before .before .before .last .ensures) in
     let u : used d ≡ limit → ⊥ = λ e. c .before .before .before .before .before .before .before .if4 .left (n ∙ e) in
-    let k = wide-number (rw (c .before .before .before .before .reserved .ensures, c .before .before .before .before .before .before .before .before .before .before .before .last .ensures, c .before .before .before .before .before .before .blocks-for .ensures) at (c .before .before .before .next-start .ensures)) in
-    rw (c .refused5 .ensures, refused-verdict) (sym (reserve-past d (c .before .before .before .before .before .before .before .before .before .before .before .before .before .before .args .size) f z b u (rw k at (c .before .if5 .taken))))
+    let k = wide-number (rw (c .before .before .before .before .reserved .ensures, c .before .before .before .before .before .before .before .before .before .before .before .last .ensures, c .before .before .before .before .before .before .whole-blocks .ensures) at (c .before .before .before .next-start .ensures)) in
+    rw (c .refused5 .ensures, refused-verdict) (sym (reserve-past d (c .before .before .before .before .before .before .before .before .before .before .before .before .before .before .before .args .size) f z b u (rw k at (c .before .if5 .taken))))
 
 split-tail-requires : tie.Need-split-tail-requires
 split-tail-requires c κs =
-    let d = c .before .before .before .before .before .before .before .before .before .before .before .before .before .args .disc in
-    let f = c .before .before .before .before .before .before .before .before .before .before .before .before .if1 .left in
-    let z = c .before .before .before .before .before .before .before .before .before .before .before .if2 .left in
+    let d = c .before .before .before .before .before .before .before .before .before .before .before .before .before .before .args .disc in
+    let f = c .before .before .before .before .before .before .before .before .before .before .before .before .before .if1 .left in
+    let z = rw (c .before .before .before .before .before .before .before .before .before .before .before .before .left-over .ensures) at (c .before .before .before .before .before .before .before .before .before .before .before .if2 .left) in
     let b = rw (c .before .before .before .before .before .before .before .before .before .before .last .ensures) at (sym (c .before .before .before .before .before .before .before .before .before .is-blank-tail .ensures) ∙ not-false _ (c .before .before .before .before .before .before .before .before .if3 .left)) in
     let n = ap (λ l. l .number) (c .before .before .before .before .before .before .before .before .before .before .last .ensures) in
     let u : used d ≡ limit → ⊥ = λ e. c .before .before .before .before .before .before .if4 .left (n ∙ e) in
     let k = wide-number (rw (c .before .before .before .reserved .ensures, c .before .before .before .before .before .before .before .before .before .before .last .ensures) at (c .before .before .next-start .ensures)) in (
       record {
-        from = sound-rules d (c .before .before .before .before .before .before .before .before .before .before .before .before .before .pre .sound) .some;
-        free = below-limit (used-limit d (c .before .before .before .before .before .before .before .before .before .before .before .before .before .pre)) u;
+        from = sound-rules d (c .before .before .before .before .before .before .before .before .before .before .before .before .before .before .pre .sound) .some;
+        free = below-limit (used-limit d (c .before .before .before .before .before .before .before .before .before .before .before .before .before .before .pre)) u;
         start = rw k at (c .if5 .left);
       },
       c .before .before .before .before .before .before .before .before .before .before .last .ensures,
@@ -108,15 +115,15 @@ accepted-requires c κs = search needs
 
 returns-6 : tie.Need-returns-6
 returns-6 c =
-    let d = c .before .before .before .before .before .before .before .before .before .before .before .before .before .before .before .before .before .args .disc in
-    let f = c .before .before .before .before .before .before .before .before .before .before .before .before .before .before .before .before .if1 .left in
-    let z = c .before .before .before .before .before .before .before .before .before .before .before .before .before .before .before .if2 .left in
+    let d = c .before .before .before .before .before .before .before .before .before .before .before .before .before .before .before .before .before .before .args .disc in
+    let f = c .before .before .before .before .before .before .before .before .before .before .before .before .before .before .before .before .before .if1 .left in
+    let z = rw (c .before .before .before .before .before .before .before .before .before .before .before .before .before .before .before .before .left-over .ensures) at (c .before .before .before .before .before .before .before .before .before .before .before .before .before .before .before .if2 .left) in
     let b = rw (c .before .before .before .before .before .before .before .before .before .before .before .before .before .before .last .ensures) at (sym (c .before .before .before .before .before .before .before .before .before .before .before .before .before .is-blank-tail .ensures) ∙ not-false _ (c .before .before .before .before .before .before .before .before .before .before .before .before .if3 .left)) in
     let n = ap (λ l. l .number) (c .before .before .before .before .before .before .before .before .before .before .before .before .before .before .last .ensures) in
     let u : used d ≡ limit → ⊥ = λ e. c .before .before .before .before .before .before .before .before .before .before .if4 .left (n ∙ e) in
-    let k = wide-number (rw (c .before .before .before .before .before .before .before .reserved .ensures, c .before .before .before .before .before .before .before .before .before .before .before .before .before .before .last .ensures, c .before .before .before .before .before .before .before .before .before .blocks-for .ensures) at (c .before .before .before .before .before .before .next-start .ensures)) in
-    rw (c .accepted .ensures, accepted-verdict, c .before .before .none .ensures, c .before .none2 .ensures, c .before .before .before .split-tail .ensures, c .before .before .before .before .before .before .before .before .before .blocks-for .ensures)
-    (sym (reserve-done d (c .before .before .before .before .before .before .before .before .before .before .before .before .before .before .before .before .before .args .size) f z b u (sound-rules d (c .before .before .before .before .before .before .before .before .before .before .before .before .before .before .before .before .before .pre .sound)) (rw k at (c .before .before .before .before .if5 .left))))
+    let k = wide-number (rw (c .before .before .before .before .before .before .before .reserved .ensures, c .before .before .before .before .before .before .before .before .before .before .before .before .before .before .last .ensures, c .before .before .before .before .before .before .before .before .before .whole-blocks .ensures) at (c .before .before .before .before .before .before .next-start .ensures)) in
+    rw (c .accepted .ensures, accepted-verdict, c .before .before .none .ensures, c .before .none2 .ensures, c .before .before .before .split-tail .ensures, c .before .before .before .before .before .before .before .before .before .whole-blocks .ensures)
+    (sym (reserve-done d (c .before .before .before .before .before .before .before .before .before .before .before .before .before .before .before .before .before .before .args .size) f z b u (sound-rules d (c .before .before .before .before .before .before .before .before .before .before .before .before .before .before .before .before .before .before .pre .sound)) (rw k at (c .before .before .before .before .if5 .left))))
 
 pub reserve-track-spec : {M : Type 1} → statement M
 reserve-track-spec =
@@ -124,6 +131,7 @@ reserve-track-spec =
     (tie.spec
     refused-requires
     returns
+    left-over-requires
     refused-requires-2
     returns-2
     last-requires
@@ -132,7 +140,8 @@ reserve-track-spec =
     returns-3
     refused-requires-4
     returns-4
-    blocks-for-requires
+    whole-blocks-requires
+    cast-blocks
     cast-if5
     reserved-requires
     next-start-requires

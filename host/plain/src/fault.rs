@@ -28,8 +28,24 @@ pub enum Fault {
     CloseRefusalsSwapped,
     /// 53h takes a T + b + 1 equal to C.
     ReserveLimitTooHigh,
-    /// 53h rounds its size down.
+    /// 53h takes size 0.
+    ReserveTakesSizeZero,
+    /// 53h takes a size that is no multiple of 16, rounded up.
+    ReserveRoundsUp,
+    /// 53h takes a size that is no multiple of 16, rounded down.
     ReserveRoundsDown,
+    /// 53h takes a multiple of 2 for one of 16.
+    ReserveTakesEvenSizes,
+    /// 53h takes a multiple of 8 for one of 16.
+    ReserveTakesHalfBlocks,
+    /// 53h refuses a size of whole blocks if their number is odd.
+    ReserveRefusesOddBlocks,
+    /// 53h: 5/72/05 for want of a blank tail comes before 5/24/00.
+    ReserveTailTestedFirst,
+    /// 53h: 5/72/05 for a full list comes before 5/24/00.
+    ReserveListTestedFirst,
+    /// 53h: 5/63/00 comes before 5/24/00.
+    ReserveRoomTestedFirst,
     /// 51h: the first fragment of the disc instead of that of the last session.
     FirstFragmentOfDiscReported,
     /// A block flushed by a WRITE to another fragment is not counted.
@@ -100,7 +116,7 @@ impl Fault {
     }
 
     /// The mistakes that commands on sound states can show.
-    pub const OF_COMMANDS: [Fault; 39] = [
+    pub const OF_COMMANDS: [Fault; 47] = [
         Fault::FlushOnRefusal,
         Fault::FlushFillsFragment,
         Fault::WriteInPart,
@@ -111,7 +127,15 @@ impl Fault {
         Fault::ReserveRefusalsSwapped,
         Fault::CloseRefusalsSwapped,
         Fault::ReserveLimitTooHigh,
+        Fault::ReserveTakesSizeZero,
+        Fault::ReserveRoundsUp,
         Fault::ReserveRoundsDown,
+        Fault::ReserveTakesEvenSizes,
+        Fault::ReserveTakesHalfBlocks,
+        Fault::ReserveRefusesOddBlocks,
+        Fault::ReserveTailTestedFirst,
+        Fault::ReserveListTestedFirst,
+        Fault::ReserveRoomTestedFirst,
         Fault::FirstFragmentOfDiscReported,
         Fault::FlushedBlockUncounted,
         Fault::SenseKept,

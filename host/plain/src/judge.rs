@@ -5,7 +5,7 @@ use crate::command::Command;
 use crate::disc::Disc;
 use crate::fault::FORMER_LIMIT;
 use crate::reply::{self, Report};
-use crate::{Address, Block, Fault, Kind, Sense, BLOCK_SECTORS};
+use crate::{Address, Block, Fault, Kind, Sense, BLOCK_SECTORS, FRAGMENT_LIMIT};
 
 /// Closure and Intro between two sessions, 64 blocks each.
 pub(crate) const SESSION_GAP: u64 = 128;
@@ -106,15 +106,15 @@ impl Disc {
         Ok(Step::Write { index, sectors })
     }
 
-    /// 53h: 7/27/00 on a finalized disc; 5/24/00 for size 0; 5/72/05 without a blank tail or with
-    /// a full list; 5/63/00 where the new tail would start at the end of the disc or later.
+    /// 53h: 7/27/00 on a finalized disc; 5/24/00 for size 0 and for a size that is no multiple of 16,
+    /// whatever the tail is like; 5/72/05 without a blank tail or with a full list; 5/63/00 where the
+    /// new tail would start at the end of the disc or later.
     fn judge_reserve(&self, sectors: u64) -> Result<Step, Sense> {
-        if self.finalized && !(sectors == 0 && self.slips(Fault::ReserveRefusalsSwapped)) {
+        let size = self.whole_blocks(sectors);
+        if self.finalized && (size.is_some() || !self.slips(Fault::ReserveRefusalsSwapped)) {
             return Err(Sense::WRITE_PROTECTED);
         }
-        if sectors == 0 {
-            return Err(Sense::INVALID_FIELD);
-        }
+        let blocks = size.ok_or_else(|| self.size_refusal(sectors))?;
         let limit = match self.slips(Fault::RecordLimitOfBefore) {
             true => FORMER_LIMIT,
             false => self.limit(Fault::RecordLimitTooLow, Fault::RecordLimitTooHigh),
@@ -123,16 +123,44 @@ impl Disc {
             .blank_tail()
             .filter(|_| self.fragments.len() < limit)
             .ok_or(Sense::NO_MORE_FRAGMENTS)?;
-        let mut blocks = sectors.div_ceil(BLOCK_SECTORS);
-        if self.slips(Fault::ReserveRoundsDown) {
-            blocks = sectors / BLOCK_SECTORS;
-        }
         let new_tail = self.fragments[index].start + blocks + 1;
         let slack = u64::from(self.slips(Fault::ReserveLimitTooHigh));
         if new_tail >= self.end() + slack {
             return Err(Sense::END_OF_USER_AREA);
         }
         Ok(Step::Reserve { index, blocks })
+    }
+
+    /// The blocks of a size that 53h takes: a multiple of 16, and not 0.
+    fn whole_blocks(&self, sectors: u64) -> Option<u64> {
+        let blocks = sectors / BLOCK_SECTORS;
+        match (self.fault, sectors % BLOCK_SECTORS) {
+            (Some(Fault::ReserveTakesSizeZero), 0) => Some(blocks),
+            (Some(Fault::ReserveRefusesOddBlocks), 0) if blocks % 2 == 1 => None,
+            (_, 0) => (blocks > 0).then_some(blocks),
+            (Some(Fault::ReserveRoundsUp), _) => Some(blocks + 1),
+            (Some(Fault::ReserveRoundsDown), _) => Some(blocks),
+            (Some(Fault::ReserveTakesEvenSizes), rest) if rest % 2 == 0 => Some(blocks),
+            (Some(Fault::ReserveTakesHalfBlocks), rest) if rest % 8 == 0 => Some(blocks),
+            _ => None,
+        }
+    }
+
+    /// What any other size is refused by: 5/24/00, unless a mistake brings a later test forward.
+    fn size_refusal(&self, sectors: u64) -> Sense {
+        let tail = self.blank_tail();
+        let blocks = sectors.div_ceil(BLOCK_SECTORS);
+        let lacks_room = |tail: usize| self.fragments[tail].start + blocks + 1 >= self.end();
+        match self.fault {
+            Some(Fault::ReserveTailTestedFirst) if tail.is_none() => Sense::NO_MORE_FRAGMENTS,
+            Some(Fault::ReserveListTestedFirst) if self.fragments.len() >= FRAGMENT_LIMIT => {
+                Sense::NO_MORE_FRAGMENTS
+            }
+            Some(Fault::ReserveRoomTestedFirst) if tail.is_some_and(lacks_room) => {
+                Sense::END_OF_USER_AREA
+            }
+            _ => Sense::INVALID_FIELD,
+        }
     }
 
     fn judge_close(&self, function: u8, number: u64) -> Result<Step, Sense> {

@@ -135,11 +135,47 @@ impl Event<'_> {
         is_tail(&self.last_before()) && !self.tail_is_written()
     }
 
-    /// A RESERVE leaves at least one block for the new tail.
+    /// The last fragment before the command is no tail.
+    pub fn has_no_tail(&self) -> bool {
+        !is_tail(&self.last_before())
+    }
+
+    /// The size of a RESERVE, in sectors.
+    pub fn size(&self) -> u64 {
+        let size = [self.cdb[5], self.cdb[6], self.cdb[7], self.cdb[8]];
+        u32::from_be_bytes(size).into()
+    }
+
+    /// A RESERVE of size 0, answered so.
+    pub fn reserve_of_zero(&self, number: u32) -> bool {
+        self.refused(cdb::RESERVE, number) && self.size() == 0
+    }
+
+    /// A RESERVE of a size that is neither 0 nor a multiple of 16, answered so.
+    pub fn reserve_of_part(&self, number: u32) -> bool {
+        self.refused(cdb::RESERVE, number) && self.size() % 16 != 0
+    }
+
+    /// The same where a multiple of 16 would be taken: the tail is blank, a record is free, and the
+    /// blocks that hold the size have room.
+    pub fn part_refused_alone(&self) -> bool {
+        self.reserve_of_part(0x052400) && self.tail_can_be_split() && self.reservation_fits()
+    }
+
+    /// The tail is blank and a record is free.
+    pub fn tail_can_be_split(&self) -> bool {
+        self.tail_is_blank() && !is_full(self.before)
+    }
+
+    /// The most sectors that a blank tail has room for: one dividing block and one for the new tail
+    /// are left.
+    pub fn most_reservable(&self) -> u64 {
+        16 * u64::from(self.last_before().length.saturating_sub(2))
+    }
+
+    /// The blocks that hold a RESERVE's size leave at least one for the new tail.
     pub fn reservation_fits(&self) -> bool {
-        let size = u32::from_be_bytes([self.cdb[5], self.cdb[6], self.cdb[7], self.cdb[8]]);
-        let new_tail = u64::from(self.last_before().start) + u64::from(size.div_ceil(16)) + 1;
-        new_tail < self.before.capacity().into()
+        self.size() <= self.most_reservable()
     }
 
     /// After the last fragment, a written tail cut, there is room for another session.

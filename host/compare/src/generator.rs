@@ -8,6 +8,9 @@ use crate::pool::OFFSETS;
 use crate::{Random, Request};
 use gladhamre::State;
 
+/// The most whole blocks whose sectors a RESERVE can say.
+const MOST_BLOCKS: u64 = u32::MAX as u64 / 16;
+
 /// Draws requests.
 pub struct Generator {
     pub random: Random,
@@ -235,21 +238,40 @@ impl Generator {
 
     fn set_reserve(&mut self, outline: &Outline, cdb: &mut Cdb) {
         cdb[0] = cdb::RESERVE;
-        let room = outline.places.last().map_or(0, |place| place.room);
-        let most = room.saturating_sub(32);
-        let crowds = self.crowds && outline.next_of_crowd(Mood::Reserving).is_some();
-        let size = match self.random.below(if self.mood == Mood::Reserving { 120 } else { 16 }) {
-            _ if crowds => self.random.between(1, 16),
-            0 => 0,
-            1 if self.random.once_in(4) => most,
-            2 => most + 1,
-            3 if self.random.once_in(4) => most.saturating_sub(self.random.below(64)),
-            4 => u64::from(u32::MAX) - self.random.below(20),
-            5 => self.random.draw() >> 32,
-            6 => self.random.between(1, most.max(1)),
-            _ => self.random.between(1, 48),
-        };
+        let size = self.reserve_size(outline);
         cdb::set_size(cdb, size as u32);
+    }
+
+    /// Mostly a few whole blocks, else none, any number, or about as many as the tail has room for;
+    /// often a part of a block more or less.
+    fn reserve_size(&mut self, outline: &Outline) -> u64 {
+        let room = outline.places.last().map_or(0, |place| place.room / 16);
+        let most = room.saturating_sub(2);
+        let crowds = self.crowds && outline.next_of_crowd(Mood::Reserving).is_some();
+        let reserves = self.mood == Mood::Reserving;
+        let one_is_left = most == 1 || !outline.limit_tries().is_empty();
+        let in_part = !crowds
+            && self.random.once_in(match one_is_left {
+                true => 2,
+                false if reserves => 8,
+                false => 4,
+            });
+        let blocks = match self.random.below(if reserves && !in_part { 120 } else { 16 }) {
+            _ if crowds => 1,
+            0 => 0,
+            1 if in_part || self.random.once_in(4) => most,
+            2 => most + 1,
+            3 if in_part || self.random.once_in(4) => most.saturating_sub(self.random.below(4)),
+            4 => MOST_BLOCKS - self.random.below(2),
+            5 => self.random.between(0, MOST_BLOCKS),
+            6 => self.random.between(1, most.max(1)),
+            _ => self.random.between(1, 3),
+        };
+        let part = match in_part {
+            true => self.random.pick(&[-15, -8, -2, -1, -1, 1, 1, 2, 8, 15]),
+            false => 0,
+        };
+        (16 * blocks).saturating_add_signed(part)
     }
 
     /// The last fragment more often than others.

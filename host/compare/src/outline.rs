@@ -6,6 +6,10 @@ use gladhamre::{Record, State, RECORD_LIMIT};
 /// Sectors between two sessions.
 const SESSION_GAP: u64 = 16 * 128;
 
+/// Sectors of the shortest tail from which a block can be reserved: it, the dividing one and one for
+/// the new tail.
+const ROOM_FOR_ONE: u64 = 16 * 3;
+
 /// A fragment's boundaries.
 #[derive(Clone, Copy, Debug)]
 pub struct Place {
@@ -122,6 +126,9 @@ impl Outline {
         let disc_nearly_full = last.end_after_flush() + 16 >= last.end;
         if last.is_tail() && !last.is_blank() && (list_full || disc_nearly_full) {
             return Some(Kind::CloseFragment);
+        }
+        if last.is_tail() && last.is_blank() && last.room == ROOM_FOR_ONE {
+            return Some(Kind::Reserve);
         }
         if others.iter().any(|place| place.end_after_flush() < place.end) {
             return None;

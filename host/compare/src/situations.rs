@@ -9,7 +9,7 @@ use gladhamre::RECORD_LIMIT;
 type Situation = (&'static str, fn(&Event) -> bool);
 
 /// The situations.
-pub const SITUATIONS: [Situation; 37] = [
+pub const SITUATIONS: [Situation; 63] = [
     ("WRITE flushes another fragment", |event| event.accepted(cdb::WRITE) && event.flushed()),
     ("WRITE fills its fragment exactly", |event| event.accepted(cdb::WRITE) && event.completed()),
     ("WRITE of length 0 while sectors are pending", |event| {
@@ -66,6 +66,80 @@ pub const SITUATIONS: [Situation; 37] = [
             && is_full(event.before)
             && event.tail_is_blank()
             && !event.reservation_fits()
+    }),
+    ("RESERVE of no whole blocks, refused by its size alone", |event| event.part_refused_alone()),
+    ("RESERVE of no whole blocks, but of half ones, refused by its size alone", |event| {
+        event.part_refused_alone() && event.size() % 8 == 0
+    }),
+    ("RESERVE of less than a block, refused by its size alone", |event| {
+        event.part_refused_alone() && event.size() < 16
+    }),
+    ("RESERVE of a sector less than whole blocks that fit", |event| {
+        event.part_refused_alone() && event.size() % 16 == 15
+    }),
+    ("RESERVE of a sector more than whole blocks that fit", |event| {
+        event.part_refused_alone() && event.size() % 16 == 1 && event.size() > 16
+    }),
+    ("RESERVE of a sector less than the most that fits", |event| {
+        event.part_refused_alone() && event.size() + 1 == event.most_reservable()
+    }),
+    ("RESERVE of a sector more than the most that fits", |event| {
+        event.reserve_of_part(0x052400)
+            && event.tail_can_be_split()
+            && event.size() == event.most_reservable() + 1
+    }),
+    ("RESERVE of a block more than the most that fits", |event| {
+        event.refused(cdb::RESERVE, 0x056300) && event.size() == event.most_reservable() + 16
+    }),
+    ("RESERVE of no whole blocks where the disc has no room either", |event| {
+        event.reserve_of_part(0x052400) && event.tail_can_be_split() && !event.reservation_fits()
+    }),
+    ("RESERVE of no whole blocks where the tail has room for one", |event| {
+        event.part_refused_alone() && event.most_reservable() == 16
+    }),
+    ("RESERVE of no whole blocks where the tail has room for none", |event| {
+        event.reserve_of_part(0x052400) && event.tail_can_be_split() && event.most_reservable() == 0
+    }),
+    ("RESERVE of no whole blocks while sectors are pending elsewhere", |event| {
+        event.part_refused_alone() && event.before.pending_count() > 0
+    }),
+    ("RESERVE of no whole blocks where one record is free", |event| {
+        event.part_refused_alone() && lacks_one(event.before)
+    }),
+    ("RESERVE of no whole blocks where the tail is recorded in part", |event| {
+        event.reserve_of_part(0x052400) && event.tail_is_written() && !event.tail_has_pending_only()
+    }),
+    ("RESERVE of no whole blocks where the tail has pending sectors only", |event| {
+        event.reserve_of_part(0x052400) && event.tail_has_pending_only()
+    }),
+    ("RESERVE of no whole blocks where there is no tail", |event| {
+        event.reserve_of_part(0x052400) && event.has_no_tail()
+    }),
+    ("RESERVE of no whole blocks on a full list with a blank tail", |event| {
+        event.reserve_of_part(0x052400) && is_full(event.before) && event.tail_is_blank()
+    }),
+    ("RESERVE of no whole blocks on a full list without a blank tail", |event| {
+        event.reserve_of_part(0x052400) && is_full(event.before) && !event.tail_is_blank()
+    }),
+    ("RESERVE of no whole blocks on a finalized disc", |event| event.reserve_of_part(0x072700)),
+    ("RESERVE of size 0, refused by its size alone", |event| {
+        event.reserve_of_zero(0x052400) && event.tail_can_be_split() && event.most_reservable() > 0
+    }),
+    ("RESERVE of size 0 where the tail has room for none", |event| {
+        event.reserve_of_zero(0x052400) && event.tail_can_be_split() && event.most_reservable() == 0
+    }),
+    ("RESERVE of size 0 where the tail is written", |event| {
+        event.reserve_of_zero(0x052400) && event.tail_is_written()
+    }),
+    ("RESERVE of size 0 where there is no tail", |event| {
+        event.reserve_of_zero(0x052400) && event.has_no_tail()
+    }),
+    ("RESERVE of size 0 on a full list", |event| {
+        event.reserve_of_zero(0x052400) && is_full(event.before)
+    }),
+    ("RESERVE of size 0 on a finalized disc", |event| event.reserve_of_zero(0x072700)),
+    ("RESERVE of whole blocks on a finalized disc", |event| {
+        event.refused(cdb::RESERVE, 0x072700) && event.size() > 0 && event.size() % 16 == 0
     }),
     ("001 makes a tail in the last record", |event| {
         event.closed(cdb::FRAGMENT) && lacks_one(event.before) && is_full(event.after)

@@ -136,7 +136,12 @@ fn close_and_reserve(host: &mut Host) {
     assert_eq!(host.number(cdb::close(cdb::FRAGMENT, 1)), ACCEPTED);
     assert_eq!(host.report(2, 8), 48);
     assert_eq!(host.report(0xFF, 8), 48);
-    assert_eq!(host.number(cdb::reserve(33)), ACCEPTED);
+    let closed: Vec<Record> = host.state.records().collect();
+    assert_eq!(host.number(cdb::reserve(33)), 0x052400);
+    assert_eq!(host.state.sense(), [0x5, 0x24, 0x00]);
+    assert!(host.state.records().eq(closed));
+    assert_eq!(host.next_writable(0xFF), 48);
+    assert_eq!(host.number(cdb::reserve(48)), ACCEPTED);
     assert_eq!((host.report(2, 8), host.report(2, 24)), (48, 48));
     assert_eq!(host.report(0xFF, 8), 112);
     assert_eq!(host.number(cdb::close(cdb::SESSION, 0)), 0x057203);
@@ -165,7 +170,7 @@ fn last_line() {
             let tail = if number == ACCEPTED { 4_784 } else { 0 };
             assert_eq!(host.report(0xFF, 8), tail);
         }
-        for (size, number) in [(4_768, ACCEPTED), (4_769, 0x056300)] {
+        for (size, number) in [(4_768, ACCEPTED), (4_769, 0x052400), (4_784, 0x056300)] {
             let host = &mut Host::blank(drive);
             assert_eq!(host.number(cdb::reserve(size)), number);
         }

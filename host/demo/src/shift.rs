@@ -12,6 +12,7 @@ const CAPACITY: u32 = 300;
 const INVALID_ADDRESS_FOR_WRITE: u32 = 0x052102;
 const BLANK_CHECK: u32 = 0x080000;
 const ADDRESS_OUT_OF_RANGE: u32 = 0x052100;
+const INVALID_FIELD_IN_COMMAND: u32 = 0x052400;
 const INCOMPLETE_TRACK_IN_SESSION: u32 = 0x057203;
 const END_OF_USER_AREA: u32 = 0x056300;
 
@@ -29,6 +30,7 @@ pub fn runs() -> Vec<Run> {
         ("Another blank disc: CLOSE SESSION with e = 172", session_after(172)),
         ("Another blank disc: RESERVE TRACK of 4,768", reserve(4_768)),
         ("Another blank disc: RESERVE TRACK of 4,769", reserve(4_769)),
+        ("Another blank disc: RESERVE TRACK of 4,784", reserve(4_784)),
     ];
     for (title, lines) in last_line {
         runs.push(Run { title: title.into(), capacity: CAPACITY, lines, mapped: false });
@@ -102,7 +104,8 @@ fn first_run() -> Vec<Line> {
         accepted(cdb::read(4_800, 1), 32, &flushed).refused(ADDRESS_OUT_OF_RANGE),
         accepted(cdb::read(4_800, 0), 32, &flushed),
         accepted(cdb::close(cdb::FRAGMENT, 1), 48, &closed),
-        accepted(cdb::reserve(33), 112, &open),
+        accepted(cdb::reserve(33), 48, &closed).refused(INVALID_FIELD_IN_COMMAND),
+        accepted(cdb::reserve(48), 112, &open),
         accepted(close_session, 112, &open).refused(INCOMPLETE_TRACK_IN_SESSION),
         accepted(cdb::write(48, 49), 112, &open).refused(END_OF_USER_AREA),
         accepted(cdb::write(48, 48), 112, &complete).recording(3),
@@ -146,10 +149,13 @@ fn session_after(end: u32) -> Vec<Line> {
     vec![write.recording(end.into()), closed]
 }
 
+/// 298 blocks leave one for the tail; a sector more is no whole block, a block more leaves none.
 fn reserve(sectors: u32) -> Vec<Line> {
     let cdb = cdb::reserve(sectors);
+    let blank = [appended(1, 0, 300, 0, 0)];
     vec![match sectors {
         4_768 => accepted(cdb, 4_784, &[reserved(0, 298, 0), appended(1, 299, 1, 0, 0)]),
-        _ => accepted(cdb, 0, &[appended(1, 0, 300, 0, 0)]).refused(END_OF_USER_AREA),
+        4_769 => accepted(cdb, 0, &blank).refused(INVALID_FIELD_IN_COMMAND),
+        _ => accepted(cdb, 0, &blank).refused(END_OF_USER_AREA),
     }]
 }

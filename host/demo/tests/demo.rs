@@ -46,7 +46,7 @@ fn assert_line(text: &str, line: &str) {
 #[test]
 fn shift_is_as_documented() {
     let answers: Vec<usize> = shift::runs().iter().map(|run| run.lines.len()).collect();
-    assert_eq!(answers, [15, 2, 2, 1, 1]);
+    assert_eq!(answers, [16, 2, 2, 1, 1, 1]);
     for run in shift::runs() {
         let (_, wrong, text) = played(&run);
         assert_eq!(wrong, 0, "{text}");
@@ -81,6 +81,8 @@ fn table_of_the_shift() {
     for line in [
         "  4  WRITE 1 sector at 16                   refused   5/21/02 invalid address for write        20      0  ok",
         "     35 00 00 00 00 00 00 00 00 00 00 00    1 tail, session 1, blocks 0-299, 2 of 300 recorded, 12 zero-filled",
+        " 11  RESERVE TRACK of 33 sectors            refused   5/24/00 invalid field in command         48      0  ok",
+        " 12  RESERVE TRACK of 48 sectors            accepted  0/00/00 no sense                        112      0  ok",
         "                                            3 tail, session 2, blocks 134-299, 0 of 166 recorded",
         "     00 20 00 01 01 01 01 and 27 zeros",
     ] {
@@ -312,6 +314,43 @@ fn four_rooms_fill_the_list() {
     assert!(table.lines().count() < 4 * 332, "{} lines", table.lines().count());
 }
 
+/// A controller that asks for 33 sectors is refused and gets 48. The answers to other sizes are those
+/// that the script's comments say.
+#[test]
+fn whole_blocks_are_reserved() {
+    let mut parts =
+        script::parse(&script("whole-blocks.txt"), Path::new(SCRIPTS)).expect("a script");
+    let (disc, _, table) = played(&Run::of_part(parts.remove(0)));
+    let lengths: Vec<u32> = disc.state.records().map(|record| record.length).collect();
+    assert_eq!((lengths, disc.state.finalized()), (vec![3, 1, 1], 1));
+    for line in [
+        "  1  RESERVE TRACK of 33 sectors            refused   5/24/00 invalid field in command          0      0",
+        "     53 00 00 00 00 00 00 00 21 00 00 00    1 tail, session 1, blocks 0-255, 0 of 256 recorded",
+        "     reply of 18 bytes: 5/24/00 invalid field in command",
+        "     reply of 36 bytes: fragment 1, session 1, blank, first sector 0, next 0, free 4096, length 4096",
+        "  4  RESERVE TRACK of 48 sectors            accepted  0/00/00 no sense                         64      0",
+        "     53 00 00 00 00 00 00 00 30 00 00 00    1 reserved, session 1, blocks 0-2, 0 of 3 recorded, next 0",
+        "     2A 00 00 00 00 00 00 00 21 00 00 00    1 reserved, session 1, blocks 0-2, 2 of 3 recorded, 1 pending, next 33",
+        "     5B 00 01 00 00 01 00 00 00 00 00 00    1 reserved, session 1, blocks 0-2, 3 of 3 recorded, 15 zero-filled",
+        "     reply of 98304 bytes: begins A1 A1 A1 A1 A1 A1 A1 A1, 15 sectors all zero",
+        "     reply of 4096 bytes: begins A1 A1 A1 A1 A1 A1 A1 A1, 1 sector all zero",
+        "  9  RESERVE TRACK of 0 sectors             refused   5/24/00 invalid field in command         64      0",
+        " 10  RESERVE TRACK of 1 sector              refused   5/24/00 invalid field in command         64      0",
+        " 11  RESERVE TRACK of 15 sectors            refused   5/24/00 invalid field in command         64      0",
+        " 12  RESERVE TRACK of 17 sectors            refused   5/24/00 invalid field in command         64      0",
+        " 13  RESERVE TRACK of 16 sectors            accepted  0/00/00 no sense                         96      0",
+        " 15  RESERVE TRACK of 3969 sectors          refused   5/24/00 invalid field in command         96      0",
+        " 16  RESERVE TRACK of 3984 sectors          refused   5/63/00 end of user area                 96      0",
+        " 18  RESERVE TRACK of 33 sectors            refused   5/24/00 invalid field in command         97      0",
+        " 19  RESERVE TRACK of 48 sectors            refused   5/72/05 no more reservations             97      0",
+        " 21  RESERVE TRACK of 33 sectors            refused   7/27/00 write protected                   -      0",
+        " 22  RESERVE TRACK of 0 sectors             refused   7/27/00 write protected                   -      0",
+        " 23  RESERVE TRACK of 48 sectors            refused   7/27/00 write protected                   -      0",
+    ] {
+        assert_line(&table, line);
+    }
+}
+
 #[test]
 fn pending_sectors_are_shown() {
     let map = mapped("2A 00 00 00 00 00 00 00 13 00 00 00");
@@ -395,9 +434,9 @@ fn program_ends_as_it_should() {
     let path = |name: &str| folder.join(name).display().to_string();
     let good = demo(&["--image", &path("shift.svg")]);
     assert!(good.status.success());
-    assert!(String::from_utf8_lossy(&good.stdout).contains("All 21 answers are as document 01"));
+    assert!(String::from_utf8_lossy(&good.stdout).contains("All 23 answers are as document 01"));
     assert!(folder.join("shift.svg").is_file());
-    for name in ["cold-store.txt", "four-rooms.txt"] {
+    for name in ["cold-store.txt", "four-rooms.txt", "whole-blocks.txt"] {
         let example = format!("{SCRIPTS}/{name}");
         assert!(demo(&[&example, "--image", &path("script.svg")]).status.success());
     }

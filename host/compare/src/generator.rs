@@ -248,15 +248,9 @@ impl Generator {
         let room = outline.places.last().map_or(0, |place| place.room / 16);
         let most = room.saturating_sub(2);
         let crowds = self.crowds && outline.next_of_crowd(Mood::Reserving).is_some();
-        let reserves = self.mood == Mood::Reserving;
-        let one_is_left = most == 1 || !outline.limit_tries().is_empty();
-        let in_part = !crowds
-            && self.random.once_in(match one_is_left {
-                true => 2,
-                false if reserves => 8,
-                false => 4,
-            });
-        let blocks = match self.random.below(if reserves && !in_part { 120 } else { 16 }) {
+        let in_part = !crowds && self.is_in_part(outline, most);
+        let many = self.mood == Mood::Reserving && !in_part;
+        let blocks = match self.random.below(if many { 120 } else { 16 }) {
             _ if crowds => 1,
             0 => 0,
             1 if in_part || self.random.once_in(4) => most,
@@ -272,6 +266,17 @@ impl Generator {
             false => 0,
         };
         (16 * blocks).saturating_add_signed(part)
+    }
+
+    /// Whether a RESERVE is of no whole blocks: often where the last block or record could be
+    /// reserved, seldom where many fragments are wanted.
+    fn is_in_part(&mut self, outline: &Outline, most: u64) -> bool {
+        let once_in = match self.mood {
+            _ if most == 1 || !outline.limit_tries().is_empty() => 2,
+            Mood::Reserving => 8,
+            _ => 4,
+        };
+        self.random.once_in(once_in)
     }
 
     /// The last fragment more often than others.

@@ -1,4 +1,4 @@
--- Document 01's shift on a 300-block disc: its starred lines as one table, in order, one run from the blank disc.
+-- Document 01's shift on a 300-block disc, as document 02 amends it: its starred lines as one table, in order, one run from the blank disc.
 -- A line is read as its reply, its sense and the fragment list after it; `shift` says that the definitions give the table.
 use Prim.Native.Nat.{ℕ}
 use mathlib.Core.Path.{_≡_, refl}

@@ -1,8 +1,8 @@
 //! The drive of document 01 in ordinary Rust.
 //!
 //! It gives the same service over the same lent buffers as the linked library, but shares nothing
-//! with it: own types, own algorithms, written from document 01 alone. Comparison tests hold the
-//! two against each other, and speed is measured against it.
+//! with it: own types, own algorithms, written from documents 01 and 02 alone. Comparison tests hold
+//! the two against each other, and speed is measured against it.
 //!
 //! A [`Disc`] is always sound; [`command`] serves a state that comes as an image of 32-bit words,
 //! junk included. [`Fault`] switches on one mistake at a time, to show that a comparison finds it.

@@ -65,6 +65,7 @@ pub fn write(address: u32, sectors: u16) -> Cdb {
     cdb
 }
 
+/// The drive takes whole blocks alone: a multiple of 16, from 16 on.
 pub fn reserve(sectors: u32) -> Cdb {
     let mut cdb = opcode_only(RESERVE);
     set_size(&mut cdb, sectors);

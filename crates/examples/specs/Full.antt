@@ -1,5 +1,5 @@
 -- Runs on discs whose list is full, or has one record free: what takes the last record, and what is refused without a free one. What each line
--- must show was worked out by hand from document 01, with the limit that request (v) of document 02 gives it. The commands are performed past
+-- must show was worked out by hand from document 01 as document 02 amends it. The commands are performed past
 -- the link, since its check of a full list is most of what there is to compute: `sound-starts` has it for each list that a run starts on, and
 -- what a command makes of a sound list is sound by a law of `outcomes`.
 use Prim.Native.Nat.{ℕ, _+_, _-_, _*_, _/_, _%_}

@@ -1,6 +1,6 @@
 -- What the shift never shows, as one table of runs: the reports after refusals, in later sessions and of every kind of fragment, the finalized
 -- disc, the largest C, and the link refusals in order; full lists are in Full. Each line has its own lengths of data and reply buffer, and what
--- it must show was worked out by hand from document 01; `tour` says that the definitions give it.
+-- it must show was worked out by hand from document 01 as document 02 amends it; `tour` says that the definitions give it.
 use Prim.Native.Nat.{ℕ, _-_}
 use mathlib.Core.Path.{_≡_, refl}
 use mathlib.Core.Bool.{Bool, true, false}
@@ -310,7 +310,7 @@ fieldsRun =
     ∷ line (cdb (0x52 ∷ 1 ∷ 0 ∷ 0 ∷ 1 ∷ 1 ∷ 0 ∷ 0 ∷ 36 ∷ [])) 0 36 0x052400 0 [] (sense 0x5 0x24 0x00) 0 0 threeHundred
     ∷ line (cdb (0x5B ∷ 0 ∷ 1 ∷ 0 ∷ 1 ∷ 1 ∷ [])) 0 0 0x052400 0 [] (sense 0x5 0x24 0x00) 0 0 threeHundred
     -- with 1 in the highest byte: READ 16777216 of 1 passes the disc, 52h of that address finds no fragment, RESERVE 16777232 does not fit;
-    -- 16777217 is not of whole blocks, before that
+    -- RESERVE 16777217 is refused for its size before that
     ∷ line (cdb (0x28 ∷ 0 ∷ 1 ∷ 0 ∷ 0 ∷ 0 ∷ 0 ∷ 0 ∷ 1 ∷ [])) 0 2048 0x052100 0 [] (sense 0x5 0x21 0x00) 0 0 threeHundred
     ∷ line (cdb (0x52 ∷ 0 ∷ 1 ∷ 0 ∷ 0 ∷ 0 ∷ 0 ∷ 0 ∷ 36 ∷ [])) 0 36 0x052100 0 [] (sense 0x5 0x21 0x00) 0 0 threeHundred
     ∷ line (cdb (0x53 ∷ 0 ∷ 0 ∷ 0 ∷ 0 ∷ 1 ∷ 0 ∷ 0 ∷ 0x10 ∷ [])) 0 0 0x056300 0 [] (sense 0x5 0x63 0x00) 0 0 threeHundred
@@ -376,7 +376,7 @@ onBlank =
     line (cdb (0x5B ∷ 0 ∷ 6 ∷ [])) 0 0 0x057204 0 [] (sense 0x5 0x72 0x04) 0 0 tailOnly
     ∷ line (cdb (0x5B ∷ 0 ∷ 1 ∷ 0 ∷ 0 ∷ 1 ∷ [])) 0 0 0x057204 0 [] (sense 0x5 0x72 0x04) 0 0 tailOnly
     ∷ line (cdb (0x5B ∷ 0 ∷ 2 ∷ [])) 0 0 0 0 [] (sense 0 0 0) 0 0 tailOnly
-    -- RESERVE 0, and of a sector, half a block, a block but for a sector
+    -- RESERVE 0, 1, 8 and 15
     ∷ line (cdb (0x53 ∷ [])) 0 0 0x052400 0 [] (sense 0x5 0x24 0x00) 0 0 tailOnly
     ∷ line (cdb (0x53 ∷ 0 ∷ 0 ∷ 0 ∷ 0 ∷ 0 ∷ 0 ∷ 0 ∷ 1 ∷ [])) 0 0 0x052400 0 [] (sense 0x5 0x24 0x00) 0 0 tailOnly
     ∷ line (cdb (0x53 ∷ 0 ∷ 0 ∷ 0 ∷ 0 ∷ 0 ∷ 0 ∷ 0 ∷ 8 ∷ [])) 0 0 0x052400 0 [] (sense 0x5 0x24 0x00) 0 0 tailOnly
@@ -405,7 +405,7 @@ largestRun =
     -- READ of the last sector, and of two from there on
     ∷ line (cdb (0x28 ∷ 0 ∷ 0 ∷ 0x23 ∷ 5 ∷ 0x3F ∷ 0 ∷ 0 ∷ 1 ∷ [])) 0 2048 0x080000 0 [] (sense 0x8 0x00 0x00) 0 0 largest
     ∷ line (cdb (0x28 ∷ 0 ∷ 0 ∷ 0x23 ∷ 5 ∷ 0x3F ∷ 0 ∷ 0 ∷ 2 ∷ [])) 0 4096 0x052100 0 [] (sense 0x5 0x21 0x00) 0 0 largest
-    -- RESERVE of 16 x 143,443 sectors leaves no tail a block, one block fewer does; 16 x 143,442 + 1 is not of whole blocks
+    -- RESERVE of 16 x 143,443 sectors leaves no tail a block; 16 x 143,442 + 1 is not of whole blocks; 16 x 143,442 leaves one
     ∷ line (cdb (0x53 ∷ 0 ∷ 0 ∷ 0 ∷ 0 ∷ 0 ∷ 35 ∷ 5 ∷ 48 ∷ [])) 0 0 0x056300 0 [] (sense 0x5 0x63 0x00) 0 0 largest
     ∷ line (cdb (0x53 ∷ 0 ∷ 0 ∷ 0 ∷ 0 ∷ 0 ∷ 35 ∷ 5 ∷ 33 ∷ [])) 0 0 0x052400 0 [] (sense 0x5 0x24 0x00) 0 0 largest
     ∷ line (cdb (0x53 ∷ 0 ∷ 0 ∷ 0 ∷ 0 ∷ 0 ∷ 35 ∷ 5 ∷ 32 ∷ [])) 0 0 0 0 [] (sense 0 0 0) 2295088 0 largestReserved

@@ -151,14 +151,14 @@ impl Event<'_> {
         self.refused(cdb::RESERVE, number) && self.size() == 0
     }
 
-    /// A RESERVE of a size that is neither 0 nor a multiple of 16, answered so.
+    /// A RESERVE of a size that is no multiple of 16, answered so.
     pub fn reserve_of_part(&self, number: u32) -> bool {
         self.refused(cdb::RESERVE, number) && self.size() % 16 != 0
     }
 
-    /// The same where a multiple of 16 would be taken: the tail is blank, a record is free, and the
-    /// blocks that hold the size have room.
-    pub fn part_refused_alone(&self) -> bool {
+    /// The same by 5/24/00, where the next multiple of 16 would be taken: the tail is blank, a record
+    /// is free, and the blocks that hold the size have room.
+    pub fn refused_by_size_alone(&self) -> bool {
         self.reserve_of_part(0x052400) && self.tail_can_be_split() && self.reservation_fits()
     }
 

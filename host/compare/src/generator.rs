@@ -8,7 +8,7 @@ use crate::pool::OFFSETS;
 use crate::{Random, Request};
 use gladhamre::State;
 
-/// The most whole blocks whose sectors a RESERVE can say.
+/// The most whole blocks that the size of a RESERVE can name.
 const MOST_BLOCKS: u64 = u32::MAX as u64 / 16;
 
 /// Draws requests.
@@ -249,8 +249,8 @@ impl Generator {
         let most = room.saturating_sub(2);
         let crowds = self.crowds && outline.next_of_crowd(Mood::Reserving).is_some();
         let in_part = !crowds && self.is_in_part(outline, most);
-        let many = self.mood == Mood::Reserving && !in_part;
-        let blocks = match self.random.below(if many { 120 } else { 16 }) {
+        let wants_many = self.mood == Mood::Reserving && !in_part;
+        let blocks = match self.random.below(if wants_many { 120 } else { 16 }) {
             _ if crowds => 1,
             0 => 0,
             1 if in_part || self.random.once_in(4) => most,
@@ -268,8 +268,8 @@ impl Generator {
         (16 * blocks).saturating_add_signed(part)
     }
 
-    /// Whether a RESERVE is of no whole blocks: often where the last block or record could be
-    /// reserved, seldom where many fragments are wanted.
+    /// Whether a RESERVE's size is a part of a block more or less than whole blocks: often where the
+    /// last block or record could be reserved, seldom where many fragments are wanted.
     fn is_in_part(&mut self, outline: &Outline, most: u64) -> bool {
         let once_in = match self.mood {
             _ if most == 1 || !outline.limit_tries().is_empty() => 2,

@@ -67,21 +67,24 @@ pub const SITUATIONS: [Situation; 63] = [
             && event.tail_is_blank()
             && !event.reservation_fits()
     }),
-    ("RESERVE of no whole blocks, refused by its size alone", |event| event.part_refused_alone()),
-    ("RESERVE of no whole blocks, but of half ones, refused by its size alone", |event| {
-        event.part_refused_alone() && event.size() % 8 == 0
+    ("RESERVE not of whole blocks, refused by its size alone", |event| {
+        event.refused_by_size_alone()
     }),
+    (
+        "RESERVE of a multiple of 8 that is not of whole blocks, refused by its size alone",
+        |event| event.refused_by_size_alone() && event.size() % 8 == 0,
+    ),
     ("RESERVE of less than a block, refused by its size alone", |event| {
-        event.part_refused_alone() && event.size() < 16
+        event.refused_by_size_alone() && event.size() < 16
     }),
     ("RESERVE of a sector less than whole blocks that fit", |event| {
-        event.part_refused_alone() && event.size() % 16 == 15
+        event.refused_by_size_alone() && event.size() % 16 == 15
     }),
     ("RESERVE of a sector more than whole blocks that fit", |event| {
-        event.part_refused_alone() && event.size() % 16 == 1 && event.size() > 16
+        event.refused_by_size_alone() && event.size() % 16 == 1 && event.size() > 16
     }),
     ("RESERVE of a sector less than the most that fits", |event| {
-        event.part_refused_alone() && event.size() + 1 == event.most_reservable()
+        event.refused_by_size_alone() && event.size() + 1 == event.most_reservable()
     }),
     ("RESERVE of a sector more than the most that fits", |event| {
         event.reserve_of_part(0x052400)
@@ -91,37 +94,37 @@ pub const SITUATIONS: [Situation; 63] = [
     ("RESERVE of a block more than the most that fits", |event| {
         event.refused(cdb::RESERVE, 0x056300) && event.size() == event.most_reservable() + 16
     }),
-    ("RESERVE of no whole blocks where the disc has no room either", |event| {
+    ("RESERVE not of whole blocks where the disc has no room either", |event| {
         event.reserve_of_part(0x052400) && event.tail_can_be_split() && !event.reservation_fits()
     }),
-    ("RESERVE of no whole blocks where the tail has room for one", |event| {
-        event.part_refused_alone() && event.most_reservable() == 16
+    ("RESERVE not of whole blocks where the tail has room for one", |event| {
+        event.refused_by_size_alone() && event.most_reservable() == 16
     }),
-    ("RESERVE of no whole blocks where the tail has room for none", |event| {
+    ("RESERVE not of whole blocks where the tail has room for none", |event| {
         event.reserve_of_part(0x052400) && event.tail_can_be_split() && event.most_reservable() == 0
     }),
-    ("RESERVE of no whole blocks while sectors are pending elsewhere", |event| {
-        event.part_refused_alone() && event.before.pending_count() > 0
+    ("RESERVE not of whole blocks while sectors are pending elsewhere", |event| {
+        event.refused_by_size_alone() && event.before.pending_count() > 0
     }),
-    ("RESERVE of no whole blocks where one record is free", |event| {
-        event.part_refused_alone() && lacks_one(event.before)
+    ("RESERVE not of whole blocks where one record is free", |event| {
+        event.refused_by_size_alone() && lacks_one(event.before)
     }),
-    ("RESERVE of no whole blocks where the tail is recorded in part", |event| {
+    ("RESERVE not of whole blocks where the tail is recorded in part", |event| {
         event.reserve_of_part(0x052400) && event.tail_is_written() && !event.tail_has_pending_only()
     }),
-    ("RESERVE of no whole blocks where the tail has pending sectors only", |event| {
+    ("RESERVE not of whole blocks where the tail has pending sectors only", |event| {
         event.reserve_of_part(0x052400) && event.tail_has_pending_only()
     }),
-    ("RESERVE of no whole blocks where there is no tail", |event| {
+    ("RESERVE not of whole blocks where there is no tail", |event| {
         event.reserve_of_part(0x052400) && event.has_no_tail()
     }),
-    ("RESERVE of no whole blocks on a full list with a blank tail", |event| {
+    ("RESERVE not of whole blocks on a full list with a blank tail", |event| {
         event.reserve_of_part(0x052400) && is_full(event.before) && event.tail_is_blank()
     }),
-    ("RESERVE of no whole blocks on a full list without a blank tail", |event| {
+    ("RESERVE not of whole blocks on a full list without a blank tail", |event| {
         event.reserve_of_part(0x052400) && is_full(event.before) && !event.tail_is_blank()
     }),
-    ("RESERVE of no whole blocks on a finalized disc", |event| event.reserve_of_part(0x072700)),
+    ("RESERVE not of whole blocks on a finalized disc", |event| event.reserve_of_part(0x072700)),
     ("RESERVE of size 0, refused by its size alone", |event| {
         event.reserve_of_zero(0x052400) && event.tail_can_be_split() && event.most_reservable() > 0
     }),

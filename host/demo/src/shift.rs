@@ -149,7 +149,8 @@ fn session_after(end: u32) -> Vec<Line> {
     vec![write.recording(end.into()), closed]
 }
 
-/// 298 blocks leave one for the tail; a sector more is no whole block, a block more leaves none.
+/// 298 blocks leave one for the tail; a sector more is not of whole blocks, a block more leaves
+/// none.
 fn reserve(sectors: u32) -> Vec<Line> {
     let cdb = cdb::reserve(sectors);
     let blank = [appended(1, 0, 300, 0, 0)];

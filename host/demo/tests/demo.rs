@@ -314,7 +314,7 @@ fn four_rooms_fill_the_list() {
     assert!(table.lines().count() < 4 * 332, "{} lines", table.lines().count());
 }
 
-/// A controller that asks for 33 sectors is refused and gets 48. The answers to other sizes are those
+/// A controller that asks for 33 sectors is refused, asks for 48 and gets them. The answers to other sizes are those
 /// that the script's comments say.
 #[test]
 fn whole_blocks_are_reserved() {

@@ -110,11 +110,11 @@ impl Disc {
     /// whatever the tail is like; 5/72/05 without a blank tail or with a full list; 5/63/00 where the
     /// new tail would start at the end of the disc or later.
     fn judge_reserve(&self, sectors: u64) -> Result<Step, Sense> {
-        let size = self.whole_blocks(sectors);
-        if self.finalized && (size.is_some() || !self.slips(Fault::ReserveRefusalsSwapped)) {
+        let blocks = self.whole_blocks(sectors);
+        if self.finalized && (blocks.is_some() || !self.slips(Fault::ReserveRefusalsSwapped)) {
             return Err(Sense::WRITE_PROTECTED);
         }
-        let blocks = size.ok_or_else(|| self.size_refusal(sectors))?;
+        let blocks = blocks.ok_or_else(|| self.size_refusal(sectors))?;
         let limit = match self.slips(Fault::RecordLimitOfBefore) {
             true => FORMER_LIMIT,
             false => self.limit(Fault::RecordLimitTooLow, Fault::RecordLimitTooHigh),

@@ -90,9 +90,6 @@ returns-5 c =
 split-tail-requires : tie.Need-split-tail-requires
 split-tail-requires c κs =
     let d = c .before .before .before .before .before .before .before .before .before .before .before .before .before .before .args .disc in
-    let f = c .before .before .before .before .before .before .before .before .before .before .before .before .before .if1 .left in
-    let z = rw (c .before .before .before .before .before .before .before .before .before .before .before .before .left-over .ensures) at (c .before .before .before .before .before .before .before .before .before .before .before .if2 .left) in
-    let b = rw (c .before .before .before .before .before .before .before .before .before .before .last .ensures) at (sym (c .before .before .before .before .before .before .before .before .before .is-blank-tail .ensures) ∙ not-false _ (c .before .before .before .before .before .before .before .before .if3 .left)) in
     let n = ap (λ l. l .number) (c .before .before .before .before .before .before .before .before .before .before .last .ensures) in
     let u : used d ≡ limit → ⊥ = λ e. c .before .before .before .before .before .before .if4 .left (n ∙ e) in
     let k = wide-number (rw (c .before .before .before .reserved .ensures, c .before .before .before .before .before .before .before .before .before .before .last .ensures) at (c .before .before .next-start .ensures)) in (

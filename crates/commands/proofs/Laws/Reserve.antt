@@ -84,6 +84,11 @@ blocks-some size z =
     let whole : leftOver size ≡ 0 = eqb-true _ _ (not-false _ (or-false-right (eqb size 0) (not (eqb (leftOver size) 0)) z)) in
     omega arith
 
+-- what the code that splits asks is there after RESERVE's tests
+pub splitting :
+    (d : Disc) (b : ℕ) → Ready d → (used d ≡ limit → ⊥) → nextFragmentStart (end (reservedAt (lastRecord d) b)) .0 < d .capacity → Splitting d b
+splitting d b r u h = record { from = sound-rules d (r .sound) .some; free = below-limit (used-limit d r) u; start = h }
+
 -- what holds of every refusal, and of the tail split where it can be, holds of RESERVE
 pub reserve-cases {ℓ} :
     (P : Verdict → Type ℓ) (d : Disc) (size : ℕ) → Ready d → ((x : DriveRefusal) → P (refuse d x))
@@ -102,9 +107,4 @@ reserve-cases P d size r refused split =
     (λ u.
     cond-cases P (leb (d .capacity) (nextFragmentStart (end (reservedAt (lastRecord d) b)) .0)) _ _ (λ h. refused EndOfUserArea)
     (λ h.
-    split b (blocks-some size z) f (not-false _ t)
-    (record {
-      from = sound-rules d (r .sound) .some;
-      free = below-limit (used-limit d r) (eqb-false _ _ u);
-      start = leb-false _ _ h;
-    }))))))
+    split b (blocks-some size z) f (not-false _ t) (splitting d b r (eqb-false _ _ u) (leb-false _ _ h)))))))

@@ -1,12 +1,10 @@
 use borrow.Author.Tests.{not-true, not-false}
 use Rattle.fragments.proofs.Laws.Address.{wide-number}
-use Rattle.fragments.proofs.Laws.Numbers.{below-limit}
 use Rattle.commands.specs.Reserve.{reserve}
 use Rattle.fragments.specs.List.{limit}
 use Rattle.disc.specs.Records.{used}
 use Rattle.disc.proofs.Laws.Rules.{sound-rules}
-use Rattle.commands.proofs.Laws.Flush.{used-limit}
-use Rattle.commands.proofs.Laws.Reserve.{reserve-full, reserve-past, reserve-done}
+use Rattle.commands.proofs.Laws.Reserve.{reserve-full, reserve-past, reserve-done, splitting}
 use Rattle.disc.proofs.Laws.Apply.{refused-verdict, accepted-verdict}
 use mathlib.Core.Path.{_≡_, sym, _∙_, ap}
 use borrow.Author.Needs.{needs}
@@ -93,11 +91,7 @@ split-tail-requires c κs =
     let n = ap (λ l. l .number) (c .before .before .before .before .before .before .before .before .before .before .last .ensures) in
     let u : used d ≡ limit → ⊥ = λ e. c .before .before .before .before .before .before .if4 .left (n ∙ e) in
     let k = wide-number (rw (c .before .before .before .reserved .ensures, c .before .before .before .before .before .before .before .before .before .before .last .ensures) at (c .before .before .next-start .ensures)) in (
-      record {
-        from = sound-rules d (c .before .before .before .before .before .before .before .before .before .before .before .before .before .before .pre .sound) .some;
-        free = below-limit (used-limit d (c .before .before .before .before .before .before .before .before .before .before .before .before .before .before .pre)) u;
-        start = rw k at (c .if5 .left);
-      },
+      splitting d _ (c .before .before .before .before .before .before .before .before .before .before .before .before .before .before .pre) u (rw k at (c .if5 .left)),
       c .before .before .before .before .before .before .before .before .before .before .last .ensures,
     )
 

@@ -13,10 +13,12 @@ pub enum Flush {
 // What moves after the flush.
 pub enum Transfer {
     Nothing,
-    // Recorded sectors go from the medium to the reply.
+    // Readable sectors go to the reply: recorded ones from the medium, then pending ones from a place in the pending buffer on.
     Send {
         address: Lba,
         sectors: u32,
+        place: u32,
+        pending: u32,
     },
     // The data's sectors gather after those already pending in a block, and each sixteen of them are recorded.
     Gather {

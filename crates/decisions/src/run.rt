@@ -1,42 +1,63 @@
-// The run of sectors that a decided READ sends: a part of the lent medium, whose bytes are not looked at.
+// The sectors that a decided READ sends: a part of the lent medium, then a part of the pending buffer, whose bytes are not looked at.
 use crate::plan::Transfer;
-use fragments::Lba;
 ghost use mathlib.Core.Path.{_≡_};
 ghost use Prim.Native.Nat.{_+_, _*_, _≤_};
 ghost use lib.ListN.{length};
-ghost use Rattle.decisions.specs.Types.{Send};
-ghost use Rattle.decisions.specs.Run.{stretch, sentWithin};
+ghost use Rattle.decisions.specs.Run.{stretch, stretchWithin, sentWithin, pendingWithin};
 
-// The sectors of a run.
-fn stretch<'a>(address: Lba, sectors: u32, medium: &'a [u8]) -> &'a [u8]
-    requires { ⌜ 2048 * (address .0 + sectors) ≤ length (now medium) ⌝ }
-    ensures { λ r. ⌜ now r ≡ stretch address sectors (now (medium .entry)) ⌝ }
+// So many sectors of a buffer, from a sector of it on.
+fn stretch<'a>(first: u64, sectors: u32, bytes: &'a [u8]) -> &'a [u8]
+    requires { ⌜ 2048 * (first + sectors) ≤ length (now bytes) ⌝ }
+    ensures { λ r. ⌜ now r ≡ stretch first sectors (now (bytes .entry)) ⌝ }
 {
-    let from = protocol::SECTOR_LENGTH * (address.0 as usize);
+    let from = protocol::SECTOR_LENGTH * (first as usize);
     let to = from + protocol::SECTOR_LENGTH * (sectors as usize);
-    &medium[from..to]
+    &bytes[from..to]
 }
 
-// The same where the medium has them; else no sectors.
-fn stretch_within<'a>(address: Lba, sectors: u32, medium: &'a [u8]) -> &'a [u8]
-    ensures { λ r. ⌜ now r ≡ sentWithin (Send address sectors) (now (medium .entry)) ⌝ }
+// The same where the buffer has them; else no sectors.
+fn stretch_within<'a>(first: u64, sectors: u32, bytes: &'a [u8]) -> &'a [u8]
+    ensures { λ r. ⌜ now r ≡ stretchWithin first sectors (now (bytes .entry)) ⌝ }
 {
-    let end = medium.len() / protocol::SECTOR_LENGTH;
-    if address.passes(sectors, Lba(end as u64)) {
-        return &medium[0..0];
+    let end = (bytes.len() / protocol::SECTOR_LENGTH) as u64;
+    if first > end {
+        return &bytes[0..0];
     }
-    stretch(address, sectors, medium)
+    if end - first < sectors as u64 {
+        return &bytes[0..0];
+    }
+    stretch(first, sectors, bytes)
 }
 
 impl Transfer {
-    // The run of sectors that a decided READ sends, in place: a part of the medium lent. An empty part for every other transfer, and where
+    // The recorded sectors that a decided READ sends, in place: a part of the medium lent. An empty part for every other transfer, and where
     // the medium does not have them.
     pub fn run<'a>(self, medium: &'a [u8]) -> &'a [u8]
         ensures { λ r. ⌜ now r ≡ sentWithin self (now (medium .entry)) ⌝ }
     {
         match self {
-            Transfer::Send { address, sectors } => stretch_within(address, sectors, medium),
+            Transfer::Send {
+                address,
+                sectors,
+                place: _,
+                pending: _,
+            } => stretch_within(address.0, sectors, medium),
             _ => &medium[0..0],
+        }
+    }
+
+    // The pending sectors that it sends after them, in place: a part of the pending buffer, empty as above.
+    pub fn pending_run<'a>(self, buffer: &'a [u8]) -> &'a [u8]
+        ensures { λ r. ⌜ now r ≡ pendingWithin self (now (buffer .entry)) ⌝ }
+    {
+        match self {
+            Transfer::Send {
+                address: _,
+                sectors: _,
+                place,
+                pending,
+            } => stretch_within(place as u64, pending, buffer),
+            _ => &buffer[0..0],
         }
     }
 }

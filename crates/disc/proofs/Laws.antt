@@ -6,6 +6,7 @@ pub mod Sound
 pub mod Grow
 pub mod Order
 pub mod Onward
+pub mod Readable
 pub mod Blank
 pub mod Verdict
 pub mod Apply

@@ -1,12 +1,12 @@
 -- The fragment list of a disc.
 use Prim.Native.Nat.{ℕ, _-_}
-use mathlib.Core.Bool.{Bool, not, cond, _&&_}
+use mathlib.Core.Bool.{Bool, not, cond, _&&_, _||_}
 use mathlib.Core.List.{List}
 use lib.ListN.{length, set}
 use lib.Dec.{eqb, leb}
 use Rattle.disc.specs.Types.{Lba, Sense, Fragment, Disc, Found, Last, TailNext, Address, NoTail}
-use Rattle.fragments.specs.Fragment.{isTail, nextAfter, holdsRecorded}
-use Rattle.fragments.specs.List.{listed, recordNumbered, lastOf, some, pendingOf, holderOf, takerOf, firstOfSession}
+use Rattle.fragments.specs.Fragment.{isTail, nextAfter, holdsRecorded, holdsPending}
+use Rattle.fragments.specs.List.{listed, recordNumbered, lastOf, some, pendingOf, holderOf, takerOf, highestReadable, firstOfSession}
 
 -- the records in use
 abbrev pub records : Disc → List Fragment
@@ -83,9 +83,21 @@ atAddress d a = holderOf (d .fragments) a
 abbrev pub writableAt : Disc → Lba → Found
 writableAt d a = takerOf (d .fragments) (d .pending) (d .owner) a
 
--- a "readable" sector lies in a recorded block of some fragment
-abbrev pub readable : Disc → Lba → Bool
-readable d a = some (holdsRecorded a) (records d)
+-- a recorded sector lies in a recorded block of some fragment: it is on the medium and never changes
+abbrev pub isRecorded : Disc → Lba → Bool
+isRecorded d a = some (holdsRecorded a) (records d)
+
+-- a pending sector is in the pending buffer, and its block is not recorded yet
+abbrev pub isPending : Disc → Lba → Bool
+isPending d a = holdsPending a (d .pending) (numbered d (d .owner))
+
+-- a "readable" sector is recorded or pending
+abbrev pub isReadable : Disc → Lba → Bool
+isReadable d a = isRecorded d a || isPending d a
+
+-- the highest readable address, or 0
+abbrev pub lastReadable : Disc → Lba
+lastReadable d = highestReadable (d .fragments) (d .pending) (d .owner)
 
 -- its session has one record, and that is a blank tail
 abbrev pub isOnlyTail : Disc → Last → Bool

@@ -10,6 +10,7 @@ pub use Rattle.fragments.specs.declared.fragment.Kind.the-variants.{Reserved, A
 pub use Rattle.fragments.specs.declared.fragment.Fragment.{Fragment}
 pub use Rattle.disc.specs.declared.state.Disc.{Disc}
 pub use Rattle.fragments.specs.declared.list.Found.{Found}
+pub use Rattle.fragments.specs.declared.list.Found.the-variants.{Number, Nowhere}
 pub use Rattle.fragments.specs.declared.list.Last.{Last}
 pub use Rattle.disc.specs.declared.state.TailNext.{TailNext}
 pub use Rattle.disc.specs.declared.state.TailNext.the-variants.{Address, NoTail}

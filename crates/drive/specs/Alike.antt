@@ -5,13 +5,13 @@ use mathlib.Core.Path.{_≡_}
 use mathlib.Core.List.{List}
 use lib.ListN.{length, getD, take}
 use Rattle.fragments.specs.Address.{lba}
-use Rattle.disc.specs.Records.{readable}
+use Rattle.disc.specs.Records.{isRecorded}
 use Rattle.drive.specs.Types.{Disc}
 use Rattle.drive.specs.Step.{Drive}
 
 -- byte i of the medium lies in a recorded sector
 abbrev pub recordedByte : Disc → ℕ → Bool
-recordedByte d i = readable d (lba (i / 2048))
+recordedByte d i = isRecorded d (lba (i / 2048))
 
 -- the bytes of the pending sectors
 abbrev pub pendingSectors : Drive → List ℕ

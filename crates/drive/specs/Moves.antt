@@ -30,13 +30,13 @@ flushedPending (Record b n) pending = padded []
 -- then the transfer, on medium and pending buffer as the flush leaves them
 unfoldable pub transferredMedium : Transfer → List ℕ → List ℕ → List ℕ → List ℕ
 transferredMedium Nothing medium pending payload = medium
-transferredMedium (Send a n) medium pending payload = medium
+transferredMedium (Send a n i k) medium pending payload = medium
 transferredMedium (Gather b held n) medium pending payload = gatheredMedium (b .0) held n medium pending payload
 transferredMedium (Fill b n) medium pending payload = splice medium (32768 * b .0) (zeros (32768 * n))
 
 unfoldable pub transferredPending : Transfer → List ℕ → List ℕ → List ℕ
 transferredPending Nothing pending payload = pending
-transferredPending (Send a n) pending payload = pending
+transferredPending (Send a n i k) pending payload = pending
 transferredPending (Gather b held n) pending payload = gatheredPending held n pending payload
 transferredPending (Fill b n) pending payload = pending
 

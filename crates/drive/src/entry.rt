@@ -71,7 +71,7 @@ fn carry_out(
     let plan = decision.plan;
     let sent = plan.transfer;
     let report = decision.reply;
-    let length = reply::send(sent, report, medium, reply);
+    let length = reply::send(sent, report, medium, pending, reply);
     transfer::carry_out(plan, data, medium, pending);
     let answer = decision.answer;
     let change = decision.change;

@@ -3,9 +3,10 @@ use crate::bytes;
 use decisions::Transfer;
 use protocol::Reply;
 ghost use mathlib.Core.Path.{_≡_};
+ghost use mathlib.Core.List.{_++_};
 ghost use Prim.Native.Nat.{_≤_};
 ghost use lib.ListN.{length, take};
-ghost use Rattle.decisions.specs.Run.{sentWithin};
+ghost use Rattle.decisions.specs.Run.{sentWithin, pendingWithin};
 ghost use Rattle.drive.specs.Bytes.{splice};
 ghost use Rattle.drive.specs.Reply.{sentBytes, Sendable};
 
@@ -21,28 +22,41 @@ fn send_report(report: Reply, reply: &mut [u8]) -> usize
     length
 }
 
-// The run of sectors that a READ sends, as the lower layer hands it out.
-fn send_run(transfer: Transfer, medium: &[u8], reply: &mut [u8]) -> usize
-    requires { ⌜ length (sentWithin transfer (now medium)) ≤ length (now reply) ⌝ }
-    ensures { λ r. ⌜ r ≡ length (sentWithin transfer (now (medium .entry))) ⌝ }
-    ensures reply { λ _. ⌜ now (reply .exit) ≡ splice (now (reply .entry)) 0 (sentWithin transfer (now (medium .entry))) ⌝ }
+// The sectors that a READ sends, as the lower layer hands them out: those of the medium, then those of the pending buffer.
+fn send_run(transfer: Transfer, medium: &[u8], pending: &[u8], reply: &mut [u8]) -> usize
+    requires { ⌜ length (sentWithin transfer (now medium) ++ pendingWithin transfer (now pending)) ≤ length (now reply) ⌝ }
+    ensures { λ r. ⌜ r ≡ length (sentWithin transfer (now (medium .entry)) ++ pendingWithin transfer (now (pending .entry))) ⌝ }
+    ensures reply { λ _.
+        ⌜ now (reply .exit)
+        ≡ splice (now (reply .entry)) 0 (sentWithin transfer (now (medium .entry)) ++ pendingWithin transfer (now (pending .entry))) ⌝ }
 {
-    let run = transfer.run(medium);
-    bytes::put(reply, 0, run);
-    run.len()
+    let recorded = transfer.run(medium);
+    bytes::put(reply, 0, recorded);
+    let held = transfer.pending_run(pending);
+    bytes::put(reply, recorded.len(), held);
+    recorded.len() + held.len()
 }
 
 // The one or the other; how many bytes it is.
-pub(crate) fn send(transfer: Transfer, report: Reply, medium: &[u8], reply: &mut [u8]) -> usize
-    requires { ⌜ Sendable (now medium) transfer report (length (now reply)) ⌝ }
-    ensures { λ r. ⌜ r ≡ length (sentBytes transfer report (now (medium .entry))) ⌝ }
-    ensures reply { λ _. ⌜ now (reply .exit) ≡ splice (now (reply .entry)) 0 (sentBytes transfer report (now (medium .entry))) ⌝ }
+pub(crate) fn send(
+    transfer: Transfer,
+    report: Reply,
+    medium: &[u8],
+    pending: &[u8],
+    reply: &mut [u8],
+) -> usize
+    requires { ⌜ Sendable (now medium) (now pending) transfer report (length (now reply)) ⌝ }
+    ensures { λ r. ⌜ r ≡ length (sentBytes transfer report (now (medium .entry)) (now (pending .entry))) ⌝ }
+    ensures reply { λ _.
+        ⌜ now (reply .exit) ≡ splice (now (reply .entry)) 0 (sentBytes transfer report (now (medium .entry)) (now (pending .entry))) ⌝ }
 {
     match transfer {
         Transfer::Send {
             address: _,
             sectors: _,
-        } => send_run(transfer, medium, reply),
+            place: _,
+            pending: _,
+        } => send_run(transfer, medium, pending, reply),
         _ => send_report(report, reply),
     }
 }

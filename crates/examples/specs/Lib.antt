@@ -6,3 +6,4 @@ pub mod Tour
 pub mod Full
 pub mod Values
 pub mod Discs
+pub mod Reads

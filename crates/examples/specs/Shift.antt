@@ -10,13 +10,13 @@ use Rattle.protocol.specs.Answer.{sense, number, isRefusalSense, allowedSense}
 use Rattle.protocol.specs.Command.{decode}
 use Rattle.fragments.specs.Fragment.{fragment}
 use Rattle.disc.specs.Records.{nextWritable, records, used, lastRecord, hasTail}
-use Rattle.fragments.specs.List.{listed, some, every, find, sumRecorded, lastReadable, firstOfSession}
+use Rattle.fragments.specs.List.{listed, some, every, find, sumRecorded, highestRecorded, firstOfSession}
 use Rattle.disc.specs.Sound.{usedFirst, firstAtZero, followsFrom, inOrder, endsWithin, recordedWithin, zeroedWithin, incompleteLast, tailLast, tailOrFull, pendingNamed, finalizedComplete, sound, allowedState}
 use Rattle.disc.specs.Blank.{blank}
 use Rattle.protocol.specs.Lengths.{dataLength, replyRoom, lengthsFit}
 use Rattle.disc.specs.Verdict.{accepted, accept, refuse, refuseLink}
 use Rattle.commands.specs.Flush.{flush, flushPlan, synchronizeCache}
-use Rattle.commands.specs.Read.{allReadable, read}
+use Rattle.commands.specs.Read.{allReadable, mediumShare, sending, read}
 use Rattle.commands.specs.Write.{flushOthers, flushOthersPlan, gather, writeTo, writeFound, write}
 use Rattle.commands.specs.Reserve.{splitTail, reserve}
 use Rattle.commands.specs.Close.{appendTail, closeIncomplete, closeFragment, closeTail, openSession, closeSession, finalize, close}
@@ -122,10 +122,10 @@ table =
 pub shift : run (blank 300) (map (λ l. l .command) table) ≡ map (λ l. l .expected) table
 unfolding
     shown run blank judge judgeCommand perform decode dataLength replyRoom lengthsFit accepted accept refuse refuseLink
-    isRefusalSense allowedSense listed some every find sumRecorded lastReadable firstOfSession
+    isRefusalSense allowedSense listed some every find sumRecorded highestRecorded firstOfSession
     usedFirst firstAtZero followsFrom inOrder endsWithin recordedWithin zeroedWithin incompleteLast tailLast tailOrFull pendingNamed
     finalizedComplete sound allowedState
-    flush flushPlan synchronizeCache allReadable read flushOthers flushOthersPlan gather writeTo writeFound write
+    flush flushPlan synchronizeCache allReadable mediumShare sending read flushOthers flushOthersPlan gather writeTo writeFound write
     splitTail reserve appendTail closeIncomplete closeFragment closeTail openSession closeSession finalize close
     senseBytes requestSense readCapacity sessionState discStatus discBytes readDiscInformation nextWritableOrZero freeSectors
     trackBytes trackVerdict trackFound trackNumbered readTrackInformation testUnitReady

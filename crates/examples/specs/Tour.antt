@@ -10,12 +10,12 @@ use Rattle.protocol.specs.Answer.{sense, isRefusalSense, allowedSense}
 use Rattle.disc.specs.Blank.{blank}
 use Rattle.protocol.specs.Command.{decode}
 use Rattle.fragments.specs.Fragment.{fragment, unusedRecord}
-use Rattle.fragments.specs.List.{limit, listed, some, every, find, sumRecorded, lastReadable, firstOfSession}
+use Rattle.fragments.specs.List.{limit, listed, some, every, find, sumRecorded, highestRecorded, firstOfSession}
 use Rattle.disc.specs.Sound.{usedFirst, firstAtZero, followsFrom, inOrder, endsWithin, recordedWithin, zeroedWithin, incompleteLast, tailLast, tailOrFull, pendingNamed, finalizedComplete, sound, allowedState}
 use Rattle.protocol.specs.Lengths.{dataLength, replyRoom, lengthsFit}
 use Rattle.disc.specs.Verdict.{accepted, accept, refuse, refuseLink}
 use Rattle.commands.specs.Flush.{flush, flushPlan, synchronizeCache}
-use Rattle.commands.specs.Read.{allReadable, read}
+use Rattle.commands.specs.Read.{allReadable, mediumShare, sending, read}
 use Rattle.commands.specs.Write.{flushOthers, flushOthersPlan, gather, writeTo, writeFound, write}
 use Rattle.commands.specs.Reserve.{splitTail, reserve}
 use Rattle.commands.specs.Close.{appendTail, closeIncomplete, closeFragment, closeTail, openSession, closeSession, finalize, close}
@@ -172,10 +172,11 @@ firstRun =
     (0 ∷ 0x22 ∷ 1 ∷ 1 ∷ 0 ∷ 4 ∷ 1 ∷ 1 ∷ 0 ∷ 0 ∷ 0 ∷ 0 ∷ 0 ∷ 0 ∷ 0 ∷ 5 ∷ 0 ∷ 0 ∷ 0x25 ∷ 0x7B
     ∷ 0 ∷ 0 ∷ 0 ∷ 0x10 ∷ 0 ∷ 0 ∷ 0x25 ∷ 0x80 ∷ replicate 8 0)
     (sense 0 0 0) 5 5 tailOnly
-    -- 25h: nothing can be read
-    ∷ line (cdb (0x25 ∷ [])) 0 8 0 0 (0 ∷ 0 ∷ 0 ∷ 0 ∷ 0 ∷ 0 ∷ 8 ∷ 0 ∷ []) (sense 0 0 0) 5 5 tailOnly
-    -- READ 0 of 1: a pending sector is unrecorded to a reader
-    ∷ line (cdb (0x28 ∷ 0 ∷ 0 ∷ 0 ∷ 0 ∷ 0 ∷ 0 ∷ 0 ∷ 1 ∷ [])) 0 2048 0x080000 0 [] (sense 0x8 0x00 0x00) 5 5 tailOnly
+    -- 25h: the last pending sector, though nothing is recorded
+    ∷ line (cdb (0x25 ∷ [])) 0 8 0 0 (0 ∷ 0 ∷ 0 ∷ 4 ∷ 0 ∷ 0 ∷ 8 ∷ 0 ∷ []) (sense 0 0 0) 5 5 tailOnly
+    -- READ 0 of 5: the five pending sectors; of 6: one too many
+    ∷ line (cdb (0x28 ∷ 0 ∷ 0 ∷ 0 ∷ 0 ∷ 0 ∷ 0 ∷ 0 ∷ 5 ∷ [])) 0 10240 0 0 [] (sense 0 0 0) 5 5 tailOnly
+    ∷ line (cdb (0x28 ∷ 0 ∷ 0 ∷ 0 ∷ 0 ∷ 0 ∷ 0 ∷ 0 ∷ 6 ∷ [])) 0 12288 0x080000 0 [] (sense 0x8 0x00 0x00) 5 5 tailOnly
     -- 03h of 18: key 8
     ∷ line (cdb (0x03 ∷ 0 ∷ 0 ∷ 0 ∷ 0x12 ∷ [])) 0 18 0 0 (0x70 ∷ 0 ∷ 8 ∷ 0 ∷ 0 ∷ 0 ∷ 0 ∷ 0x0A ∷ replicate 10 0) (sense 0 0 0) 5 5 tailOnly
     -- WRITE 9 of 1: not the next writable address
@@ -470,10 +471,10 @@ runs =
 pub tour : map (λ (r : Run). played (r .disc) (r .lines)) runs ≡ map (λ (r : Run). map (λ (l : Line). l .expected) (r .lines)) runs
 unfolding
     shown played blank judge judgeCommand perform decode dataLength replyRoom lengthsFit accepted accept refuse refuseLink
-    isRefusalSense allowedSense listed some every find sumRecorded lastReadable firstOfSession
+    isRefusalSense allowedSense listed some every find sumRecorded highestRecorded firstOfSession
     usedFirst firstAtZero followsFrom inOrder endsWithin recordedWithin zeroedWithin incompleteLast tailLast tailOrFull pendingNamed
     finalizedComplete sound allowedState
-    flush flushPlan synchronizeCache allReadable read flushOthers flushOthersPlan gather writeTo writeFound write
+    flush flushPlan synchronizeCache allReadable mediumShare sending read flushOthers flushOthersPlan gather writeTo writeFound write
     splitTail reserve appendTail closeIncomplete closeFragment closeTail openSession closeSession finalize close
     senseBytes requestSense readCapacity sessionState discStatus discBytes readDiscInformation nextWritableOrZero freeSectors
     trackBytes trackVerdict trackFound trackNumbered readTrackInformation testUnitReady

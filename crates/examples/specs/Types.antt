@@ -10,6 +10,7 @@ pub use Rattle.fragments.specs.declared.fragment.Kind.{Kind}
 pub use Rattle.fragments.specs.declared.fragment.Kind.the-variants.{Reserved, Appended}
 pub use Rattle.fragments.specs.declared.fragment.Fragment.{Fragment}
 pub use Rattle.decisions.specs.declared.plan.Flush.the-variants.{Skip, Record}
+pub use Rattle.decisions.specs.declared.plan.Transfer.{Transfer}
 pub use Rattle.decisions.specs.declared.plan.Transfer.the-variants.{Nothing, Send, Gather, Fill}
 pub use Rattle.decisions.specs.declared.change.Entry.{Entry}
 pub use Rattle.decisions.specs.declared.change.Effect.{Effect}

@@ -6,9 +6,9 @@ use mathlib.Core.Bool.{Bool, true, false}
 use mathlib.Core.List.{List, [], _∷_, _++_, map}
 use lib.ListN.{length, take, replicate}
 use Rattle.examples.specs.Types.{Sense, Fragment, Reserved, Appended, Disc, Found, Number, Nowhere, Accepted, Link, Drive, CommandBlockLength, MediumSize, UnsoundState, TransferLength, BlankCheck, Read, Write, RequestSense, ReadCapacity, SynchronizeCache, ReadDiscInformation, ReadTrackInformation, Keep, Settle, Reserve, Close, Grow, Effect, Skip, Record, Nothing, Send, Gather, Fill, Entry, Decision}
-use Rattle.fragments.specs.Address.{sectorsIn, wholeBlocks, leftOver, missing, block, lba, firstSector, passes}
-use Rattle.fragments.specs.Fragment.{fragment, unusedRecord, isReserved, complete, isTail, isIncompleteReserved, end, nextFragmentStart, nextSessionStart, nextAfter, lastRecorded, holdsRun, reservedAt, shortenedRecord}
-use Rattle.fragments.specs.List.{limit, listed, recordNumbered, lastOf, holderOf, takerOf, pendingOf, firstOfSession, lastReadable, some, find}
+use Rattle.fragments.specs.Address.{sectorsIn, wholeBlocks, leftOver, missing, block, lba, firstSector, passes, sectorsBefore}
+use Rattle.fragments.specs.Fragment.{fragment, unusedRecord, isReserved, complete, isTail, isIncompleteReserved, end, nextFragmentStart, nextSessionStart, nextAfter, firstUnrecorded, lastRecorded, lastPending, reservedAt, shortenedRecord}
+use Rattle.fragments.specs.List.{limit, listed, recordNumbered, lastOf, holderOf, takerOf, pendingOf, firstOfSession, highestRecorded, highestReadable, some, find}
 use Rattle.protocol.specs.Answer.{sense, noSense, senseNumber, refusalSense, driveRefusals, allowedSense, isRefusalSense, number}
 use Rattle.protocol.specs.Lengths.{dataLength, replyRoom, lengthsFit}
 use Rattle.protocol.specs.Reply.{report, noReply}
@@ -18,7 +18,7 @@ use Rattle.decisions.specs.Plan.{plan, noPlan}
 use Rattle.decisions.specs.Decision.{accepting, refusing, refusingLink}
 use Rattle.decisions.specs.Tail.{tailEntry, tailAfter, tailClosed}
 use Rattle.decisions.specs.Flushing.{noFlushing, closingLast}
-use Rattle.decisions.specs.Run.{sentWithin}
+use Rattle.decisions.specs.Run.{sentWithin, pendingWithin}
 use Rattle.disc.specs.Apply.{withEntry, affected, changed}
 
 -- sixteen sectors a block: 2 blocks and 1 sector are 33 sectors; a block of 4 lacks 12, one of 17 nothing
@@ -27,9 +27,11 @@ pub conversions :
     ≡ (32 ∷ 2 ∷ 2 ∷ 0 ∷ 1 ∷ 12 ∷ 0 ∷ 48 ∷ [])
 conversions = refl
 
--- a run of 2 from 30 ends at 32, one of 3 passes it
-pub runs : (passes (lba 30) 2 (lba 32) ∷ passes (lba 30) 3 (lba 32) ∷ passes (lba 33) 0 (lba 32) ∷ []) ≡ (false ∷ true ∷ true ∷ [])
-runs = refl
+-- a run of 2 from 30 ends at 32, one of 3 passes it; of 3 two lie before 32, of 2 both, of a run from 32 on or after it none
+pub runs :
+    ((passes (lba 30) 2 (lba 32) ∷ passes (lba 30) 3 (lba 32) ∷ passes (lba 33) 0 (lba 32) ∷ []) ≡ (false ∷ true ∷ true ∷ []))
+    × (map (λ a. sectorsBefore (lba a) 3 (lba 32)) (28 ∷ 29 ∷ 30 ∷ 31 ∷ 32 ∷ 40 ∷ []) ≡ (3 ∷ 3 ∷ 2 ∷ 1 ∷ 0 ∷ 0 ∷ []))
+runs = (refl, refl)
 
 -- three fragments of two sessions: a written tail that was closed, a reserved one with two of three blocks recorded, a tail
 abbrev first : Fragment
@@ -52,12 +54,14 @@ kinds = refl
 
 pub places :
     (nextFragmentStart (end first) .0 ∷ nextSessionStart (end first) .0 ∷ firstSector (end second) .0 ∷ nextAfter 5 second .0
-    ∷ lastRecorded second .0 ∷ lastRecorded third .0 ∷ unusedRecord .length ∷ [])
-    ≡ (3 ∷ 130 ∷ 2128 ∷ 2117 ∷ 2111 ∷ 0 ∷ 0 ∷ [])
+    ∷ firstSector (firstUnrecorded second) .0 ∷ lastRecorded second .0 ∷ lastRecorded third .0 ∷ lastPending 5 second .0 ∷ lastPending 0 second .0
+    ∷ unusedRecord .length ∷ [])
+    ≡ (3 ∷ 130 ∷ 2128 ∷ 2117 ∷ 2112 ∷ 2111 ∷ 0 ∷ 2116 ∷ 0 ∷ 0 ∷ [])
 places = refl
 
 -- of the list: three records, the third is last; sector 2127 lies in the second, 2128 in none; with 5 sectors pending in the second
--- its next writable address is 2117, without them 2112
+-- its next writable address is 2117, without them 2112. Readable is 2111 the highest, with those 2116, with 5 in the third 2148; 111 where
+-- recorded sectors lie above pending ones
 abbrev pub found : Found → ℕ
 found (Number n) = n
 found Nowhere = 0
@@ -67,9 +71,11 @@ pub walks :
     ∷ found (holderOf list (lba 2127)) ∷ found (holderOf list (lba 2128)) ∷ found (takerOf list 5 2 (lba 2117))
     ∷ found (takerOf list 5 2 (lba 2112)) ∷ found (takerOf list 5 2 (lba 2144)) ∷ found (takerOf list 5 2 (lba 32))
     ∷ pendingOf 5 2 2 ∷ pendingOf 5 2 3 ∷ firstOfSession 1 1 (listed list) ∷ firstOfSession 2 1 (listed list)
-    ∷ firstOfSession 3 1 (listed list) ∷ lastReadable (listed list) .0 ∷ [])
-    ≡ (3 ∷ 3 ∷ 134 ∷ 1 ∷ 0 ∷ 2 ∷ 0 ∷ 2 ∷ 0 ∷ 3 ∷ 0 ∷ 5 ∷ 0 ∷ 1 ∷ 2 ∷ 4 ∷ 2111 ∷ [])
-unfolding listed find firstOfSession lastReadable
+    ∷ firstOfSession 3 1 (listed list) ∷ highestReadable list 0 0 .0 ∷ highestReadable list 5 2 .0 ∷ highestReadable list 5 3 .0
+    ∷ highestReadable (fragment 1 0 4 1 0 Reserved ∷ fragment 1 5 4 2 0 Appended ∷ []) 5 1 .0 ∷ highestReadable (third ∷ []) 0 0 .0
+    ∷ highestReadable (third ∷ []) 3 1 .0 ∷ [])
+    ≡ (3 ∷ 3 ∷ 134 ∷ 1 ∷ 0 ∷ 2 ∷ 0 ∷ 2 ∷ 0 ∷ 3 ∷ 0 ∷ 5 ∷ 0 ∷ 1 ∷ 2 ∷ 4 ∷ 2111 ∷ 2116 ∷ 2148 ∷ 111 ∷ 0 ∷ 2146 ∷ [])
+unfolding listed find firstOfSession highestRecorded
 walks = refl
 
 -- by number: from 1, unused ones after those in use and past the end; under 0 stands the first
@@ -83,12 +89,8 @@ pub made-records :
     × (map shortenedRecord (fragment 1 0 300 2 12 Appended ∷ second ∷ []) ≡ (first ∷ fragment 2 130 2 2 0 Reserved ∷ []))
 made-records = (refl, refl)
 
--- a run lies in the first fragment, in the dividing block too, in both fragments; in the second, past what is recorded of it
-pub tests :
-    (some isIncompleteReserved (listed list) ∷ some isIncompleteReserved (first ∷ third ∷ []) ∷ some (holdsRun (lba 30) 2) (listed list)
-    ∷ some (holdsRun (lba 30) 3) (listed list) ∷ some (holdsRun (lba 30) 2051) (listed list) ∷ some (holdsRun (lba 2080) 32) (listed list)
-    ∷ some (holdsRun (lba 2080) 33) (listed list) ∷ [])
-    ≡ (true ∷ false ∷ true ∷ false ∷ false ∷ true ∷ false ∷ [])
+-- a test of some record: one of the list is reserved and incomplete, none of the first and the third
+pub tests : (some isIncompleteReserved (listed list) ∷ some isIncompleteReserved (first ∷ third ∷ []) ∷ []) ≡ (true ∷ false ∷ [])
 unfolding listed some
 tests = refl
 
@@ -226,13 +228,22 @@ abbrev twoSectors : List ℕ
 twoSectors = replicate 2048 7 ++ replicate 2048 8
 
 pub sent-runs :
-    (sentWithin (Send (lba 1) 1) twoSectors ≡ replicate 2048 8)
+    (sentWithin (Send (lba 1) 1 0 0) twoSectors ≡ replicate 2048 8)
     × (map (λ t. length (sentWithin t twoSectors))
-    (Send (lba 0) 2 ∷ Send (lba 0) 1 ∷ Send (lba 2) 0 ∷ Send (lba 1) 2 ∷ Send (lba 2) 1 ∷ Nothing ∷ Gather (block 0) 0 1 ∷ Fill (block 0) 1 ∷ [])
+    (Send (lba 0) 2 0 0 ∷ Send (lba 0) 1 0 1 ∷ Send (lba 2) 0 0 1 ∷ Send (lba 1) 2 0 0 ∷ Send (lba 2) 1 0 0 ∷ Nothing ∷ Gather (block 0) 0 1 ∷ Fill (block 0) 1 ∷ [])
     ≡ (4096 ∷ 2048 ∷ 0 ∷ 0 ∷ 0 ∷ 0 ∷ 0 ∷ 0 ∷ []))
-    × (length (sentWithin (Send (lba 1) 1) (take 4095 twoSectors)) ≡ 0)
+    × (length (sentWithin (Send (lba 1) 1 0 0) (take 4095 twoSectors)) ≡ 0)
 unfolding sentWithin
 sent-runs = (refl, refl, refl)
+
+-- and of a pending buffer of these two sectors, after those of the medium
+pub sent-pending :
+    (pendingWithin (Send (lba 9) 4 1 1) twoSectors ≡ replicate 2048 8)
+    × (map (λ t. length (pendingWithin t twoSectors))
+    (Send (lba 9) 4 0 2 ∷ Send (lba 9) 4 0 1 ∷ Send (lba 9) 4 2 0 ∷ Send (lba 9) 4 1 2 ∷ Send (lba 9) 4 2 1 ∷ Nothing ∷ Gather (block 0) 0 1 ∷ Fill (block 0) 1 ∷ [])
+    ≡ (4096 ∷ 2048 ∷ 0 ∷ 0 ∷ 0 ∷ 0 ∷ 0 ∷ 0 ∷ []))
+unfolding pendingWithin
+sent-pending = (refl, refl)
 
 -- of a change applied to a disc with 5 sectors pending in the second fragment: what each kind makes of the sense, the flag, the pending
 -- sectors and the records; a record under 0 or past the list is none

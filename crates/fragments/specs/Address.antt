@@ -1,5 +1,5 @@
 -- Block numbers and sector addresses, and the factor 16 between them.
-use Prim.Native.Nat.{ℕ, _+_, _-_, _*_, _/_, _%_, max}
+use Prim.Native.Nat.{ℕ, _+_, _-_, _*_, _/_, _%_, min, max}
 use mathlib.Core.Bool.{Bool}
 use lib.Dec.{ltb}
 use Rattle.fragments.specs.Types.{Block, WideBlock, Lba}
@@ -36,6 +36,10 @@ firstSector b = lba (sectorsIn (b .0))
 -- n sectors from an address on go past another address
 abbrev pub passes : Lba → ℕ → Lba → Bool
 passes a n end = ltb (end .0) (a .0 + n)
+
+-- of n sectors from an address on, how many lie before another address
+abbrev pub sectorsBefore : Lba → ℕ → Lba → ℕ
+sectorsBefore a n end = min n (end .0 - a .0)
 
 -- the address that lies further on
 abbrev pub later : Lba → Lba → Lba

@@ -3,7 +3,7 @@ use Prim.Native.Nat.{ℕ, _+_, _-_}
 use mathlib.Core.Bool.{Bool, true, false, not, cond, _&&_}
 use lib.Dec.{eqb, leb, ltb}
 use Rattle.fragments.specs.Types.{Block, Lba, Kind, Reserved, Appended, Fragment}
-use Rattle.fragments.specs.Address.{block, lba, firstSector, passes}
+use Rattle.fragments.specs.Address.{block, lba, firstSector}
 
 -- a record by session, start block, L, W, F and kind
 abbrev pub fragment : ℕ → ℕ → ℕ → ℕ → ℕ → Kind → Fragment
@@ -57,10 +57,9 @@ takes a pending f = not (complete f) && eqb (a .0) (nextAfter pending f .0)
 abbrev pub holdsRecorded : Lba → Fragment → Bool
 holdsRecorded a f = leb (firstSector (f .start) .0) (a .0) && ltb (a .0) (firstSector (firstUnrecorded f) .0)
 
--- n sectors from the address on lie there. The code decides a READ by this: on a sound list a run of recorded sectors lies in one
--- fragment
-abbrev pub holdsRun : Lba → ℕ → Fragment → Bool
-holdsRun a n f = leb (firstSector (f .start) .0) (a .0) && not (passes a n (firstSector (firstUnrecorded f)))
+-- the address is that of one of so many sectors pending in the fragment, which come after its recorded blocks
+abbrev pub holdsPending : Lba → ℕ → Fragment → Bool
+holdsPending a pending f = leb (firstSector (firstUnrecorded f) .0) (a .0) && ltb (a .0) (nextAfter pending f .0)
 
 -- the address lies in any of its blocks
 abbrev pub holds : Lba → Fragment → Bool
@@ -69,6 +68,10 @@ holds a f = leb (firstSector (f .start) .0) (a .0) && ltb (a .0) (firstSector (e
 -- the fragment's last recorded sector, or 0
 abbrev pub lastRecorded : Fragment → Lba
 lastRecorded f = cond (eqb (f .recorded) 0) (lba 0) (lba (firstSector (firstUnrecorded f) .0 - 1))
+
+-- the last of so many sectors pending in the fragment, or 0
+abbrev pub lastPending : ℕ → Fragment → Lba
+lastPending pending f = cond (eqb pending 0) (lba 0) (lba (nextAfter pending f .0 - 1))
 
 -- where the fragment after one that ends here starts: after the dividing block in the same session,
 -- after Closure and Intro, 64 blocks each, in the next one

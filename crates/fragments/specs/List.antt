@@ -6,7 +6,7 @@ use lib.ListN.{length, getD}
 use lib.Dec.{eqb}
 use Rattle.fragments.specs.Types.{Lba, Fragment, Found, Number, Nowhere, Last}
 use Rattle.fragments.specs.Address.{lba, later}
-use Rattle.fragments.specs.Fragment.{unusedRecord, unused, takes, holds, lastRecorded}
+use Rattle.fragments.specs.Fragment.{unusedRecord, unused, takes, holds, lastRecorded, lastPending}
 
 -- how many fragments a disc can have, the tail included
 abbrev pub limit : ℕ
@@ -56,10 +56,14 @@ pendingOf pending owner n = cond (eqb owner n) pending 0
 abbrev pub takerOf : List Fragment → ℕ → ℕ → Lba → Found
 takerOf fs pending owner a = find (λ n f. takes a (pendingOf pending owner n) f) 1 (listed fs)
 
--- the highest readable address of a list of records, or 0
-unfoldable pub lastReadable : List Fragment → Lba
-lastReadable [] = lba 0
-lastReadable (f ∷ fs) = later (lastRecorded f) (lastReadable fs)
+-- the highest recorded address of a list of records, or 0
+unfoldable pub highestRecorded : List Fragment → Lba
+highestRecorded [] = lba 0
+highestRecorded (f ∷ fs) = later (lastRecorded f) (highestRecorded fs)
+
+-- the highest one recorded or pending, or 0
+abbrev pub highestReadable : List Fragment → ℕ → ℕ → Lba
+highestReadable fs pending owner = later (highestRecorded (listed fs)) (lastPending pending (recordNumbered fs owner))
 
 -- the number of a session's first record; n is the number of the first in the list
 unfoldable pub firstOfSession : ℕ → ℕ → List Fragment → ℕ

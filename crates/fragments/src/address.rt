@@ -2,7 +2,7 @@
 ghost use mathlib.Core.Path.{_≡_};
 ghost use Prim.Native.Nat.{_+_};
 ghost use lib.Dec.{eqb};
-ghost use Rattle.fragments.specs.Address.{sectorsIn, wholeBlocks, leftOver, missing, block, lba, firstSector, passes};
+ghost use Rattle.fragments.specs.Address.{sectorsIn, wholeBlocks, leftOver, missing, block, lba, firstSector, passes, sectorsBefore};
 
 // The number of an ECC block, from 0. A disc's block numbers fit 32 bits.
 pub struct Block(pub u32);
@@ -86,5 +86,26 @@ impl Lba {
             return true;
         }
         end.0 - self.0 < sectors as u64
+    }
+
+    // Of a run of sectors, how many lie before an end.
+    pub fn sectors_before(self, sectors: u32, end: Lba) -> u32
+        ensures { λ r. ⌜ r ≡ sectorsBefore self sectors «end» ⌝ }
+    {
+        if end.0 <= self.0 {
+            return 0;
+        }
+        let before = end.0 - self.0;
+        if before >= sectors as u64 {
+            return sectors;
+        }
+        before as u32
+    }
+
+    // The sector's place in its block, from 0.
+    pub fn place(self) -> u32
+        ensures { λ r. ⌜ r ≡ leftOver (self .0) ⌝ }
+    {
+        (self.0 % SECTORS_PER_BLOCK as u64) as u32
     }
 }

@@ -5,7 +5,7 @@ use crate::address::WideBlock;
 ghost use mathlib.Core.Path.{_≡_};
 ghost use mathlib.Core.Bool.{_&&_};
 ghost use Rattle.fragments.specs.Address.{wide, firstSector};
-ghost use Rattle.fragments.specs.Fragment.{unusedRecord, reservedAt, shortenedRecord, end, firstUnrecorded, complete, isReserved, isTail, isIncompleteReserved, nextFragmentStart, nextSessionStart, nextAfter, takes, holds, holdsRun, lastRecorded};
+ghost use Rattle.fragments.specs.Fragment.{unusedRecord, reservedAt, shortenedRecord, end, firstUnrecorded, complete, isReserved, isTail, isIncompleteReserved, nextFragmentStart, nextSessionStart, nextAfter, takes, holds, lastRecorded, lastPending};
 
 // Blocks between two fragments: the dividing block in a session, Closure and Intro between sessions.
 const DIVIDING: u64 = 1;
@@ -122,7 +122,7 @@ impl Fragment {
     }
 
     // The address of the first sector that is not recorded.
-    pub(crate) fn recorded_end(self) -> Lba
+    pub fn recorded_end(self) -> Lba
         ensures { λ r. ⌜ r ≡ firstSector (firstUnrecorded self) ⌝ }
     {
         self.start.sector_after(self.recorded)
@@ -155,13 +155,6 @@ impl Fragment {
         (self.start.first_sector().0 <= address.0) & (address.0 < self.end_address().0)
     }
 
-    // Whether a run of sectors lies in the recorded blocks.
-    pub(crate) fn holds_run(self, address: Lba, sectors: u32) -> bool
-        ensures { λ r. ⌜ r ≡ holdsRun address sectors self ⌝ }
-    {
-        (self.start.first_sector().0 <= address.0) & !address.passes(sectors, self.recorded_end())
-    }
-
     // The next writable address, after the recorded blocks and the sectors pending in the fragment.
     pub fn next_writable(self, pending: u8) -> Lba
         ensures { λ r. ⌜ r ≡ nextAfter pending self ⌝ }
@@ -184,5 +177,15 @@ impl Fragment {
             return Lba(0);
         }
         Lba(self.recorded_end().0 - 1)
+    }
+
+    // The address of the last of the sectors pending in the fragment, or 0.
+    pub(crate) fn last_pending(self, pending: u8) -> Lba
+        ensures { λ r. ⌜ r ≡ lastPending pending self ⌝ }
+    {
+        if pending == 0 {
+            return Lba(0);
+        }
+        Lba(self.next_writable(pending).0 - 1)
     }
 }

@@ -5,8 +5,8 @@ ghost use mathlib.Core.Path.{_≡_};
 ghost use Prim.Native.Nat.{_-_};
 ghost use lib.ListN.{length};
 ghost use Rattle.fragments.specs.Address.{later};
-ghost use Rattle.fragments.specs.Fragment.{isIncompleteReserved, holdsRun};
-ghost use Rattle.fragments.specs.List.{listed, recordNumbered, lastOf, pendingOf, holderOf, takerOf, firstOfSession, lastReadable, some};
+ghost use Rattle.fragments.specs.Fragment.{isIncompleteReserved};
+ghost use Rattle.fragments.specs.List.{listed, recordNumbered, lastOf, pendingOf, holderOf, takerOf, firstOfSession, highestRecorded, highestReadable, some};
 
 // How many records a disc has.
 pub const LIMIT: usize = 160;
@@ -151,24 +151,6 @@ pub fn has_incomplete_reserved(fragments: [Fragment; LIMIT]) -> bool
     false
 }
 
-// Whether one fragment has the whole run of sectors in its recorded blocks.
-pub fn holds_run(fragments: [Fragment; LIMIT], address: Lba, sectors: u32) -> bool
-    ensures { λ r. ⌜ r ≡ some (holdsRun address sectors) (listed fragments) ⌝ }
-{
-    let mut i: usize = 0;
-    while i < LIMIT {
-        let f = fragments[i];
-        if f.length == 0 {
-            return false;
-        }
-        if f.holds_run(address, sectors) {
-            return true;
-        }
-        i += 1;
-    }
-    false
-}
-
 // The address that lies further on.
 fn later(a: Lba, b: Lba) -> Lba
     ensures { λ r. ⌜ r ≡ later a b ⌝ }
@@ -179,9 +161,9 @@ fn later(a: Lba, b: Lba) -> Lba
     a
 }
 
-// The highest readable address, or 0.
-pub fn last_readable(fragments: [Fragment; LIMIT]) -> Lba
-    ensures { λ r. ⌜ r ≡ lastReadable (listed fragments) ⌝ }
+// The highest recorded address, or 0.
+fn highest_recorded(fragments: [Fragment; LIMIT]) -> Lba
+    ensures { λ r. ⌜ r ≡ highestRecorded (listed fragments) ⌝ }
 {
     let mut highest = Lba(0);
     let mut i: usize = 0;
@@ -194,4 +176,13 @@ pub fn last_readable(fragments: [Fragment; LIMIT]) -> Lba
         i += 1;
     }
     highest
+}
+
+// The highest readable address, or 0: the highest recorded one, or the last of those pending in the fragment with the number `owner`.
+pub fn highest_readable(fragments: [Fragment; LIMIT], pending: u8, owner: u8) -> Lba
+    ensures { λ r. ⌜ r ≡ highestReadable fragments pending owner ⌝ }
+{
+    let recorded = highest_recorded(fragments);
+    let f = record_numbered(fragments, owner as usize);
+    later(recorded, f.last_pending(pending))
 }

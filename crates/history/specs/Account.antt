@@ -1,7 +1,7 @@
 -- What the history says of each fragment: a fold over the commands that were accepted, by document 01's rules. Of the disc it is told where
 -- the fragments lie and nothing else: not W, not F, not the pending count.
 use Prim.Native.Nat.{ℕ, _+_, _-_, _*_, _/_, _%_}
-use mathlib.Core.Bool.{Bool, false, cond, _&&_}
+use mathlib.Core.Bool.{Bool, false, cond, _&&_, _||_}
 use mathlib.Core.List.{List, [], _∷_}
 use lib.ListN.{take, drop}
 use lib.Dec.{eqb, ltb}
@@ -110,7 +110,8 @@ accountFrom n (t ∷ ts) s k =
 abbrev pub account : ℕ → List Turn → Drive → Account
 account n ts s = accountFrom n ts s opened
 
--- what the history put at an address, and whether in a block that it recorded: by the account of the fragment that the address lies in
+-- what the history put at an address, whether in a block that it recorded, and whether it is still pending, after the recorded ones: by the
+-- account of the fragment that the address lies in
 unfoldable pub contentIn : List Turn → Drive → ℕ → Found → List ℕ
 contentIn ts s a (Number n) = account n ts s .content a
 contentIn ts s a Nowhere = []
@@ -119,8 +120,19 @@ unfoldable pub recordedIn : List Turn → Drive → ℕ → Found → Bool
 recordedIn ts s a (Number n) = ltb a (extentOf (final ts s .disc) n .first + account n ts s .recorded)
 recordedIn ts s a Nowhere = false
 
+unfoldable pub waitsIn : List Turn → Drive → ℕ → Found → Bool
+waitsIn ts s a (Number n) = among (extentOf (final ts s .disc) n .first + account n ts s .recorded) (account n ts s .pending) a
+waitsIn ts s a Nowhere = false
+
 abbrev pub contentAt : List Turn → Drive → ℕ → List ℕ
 contentAt ts s a = contentIn ts s a (atAddress (final ts s .disc) (lba a))
 
 abbrev pub recordedAt : List Turn → Drive → ℕ → Bool
 recordedAt ts s a = recordedIn ts s a (atAddress (final ts s .disc) (lba a))
+
+abbrev pub pendingAt : List Turn → Drive → ℕ → Bool
+pendingAt ts s a = waitsIn ts s a (atAddress (final ts s .disc) (lba a))
+
+-- a "readable" sector, by the history
+abbrev pub readableAt : List Turn → Drive → ℕ → Bool
+readableAt ts s a = recordedAt ts s a || pendingAt ts s a

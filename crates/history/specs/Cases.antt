@@ -7,7 +7,7 @@ use mathlib.Core.List.{List, [], _∷_, _++_, map}
 use lib.ListN.{length, getD, replicate}
 use Rattle.fragments.specs.Address.{lba}
 use Rattle.disc.specs.Blank.{blank}
-use Rattle.disc.specs.Records.{readable}
+use Rattle.disc.specs.Records.{isRecorded, isPending}
 use Rattle.drive.specs.Bytes.{zeros}
 use Rattle.drive.specs.Step.{Drive, drive, Request, request, Result}
 use Rattle.drive.specs.Alike.{recordedByte, pendingSectors, Alike}
@@ -68,28 +68,31 @@ nextThirteen l = l .four ++ (l .five ++ [])
 abbrev pub writing : ℕ → ℕ → List ℕ → Request
 writing a n x = request (writeCdb a n) x []
 
--- 52h number 1, READ of 16 sectors and 35h, with a reply buffer that is full of some byte
+-- 52h number 1, READ of 16 sectors, READ of some and 35h, with a reply buffer that is full of some byte
 abbrev pub asking : ℕ → Request
 asking x = request (0x52 ∷ 1 ∷ 0 ∷ 0 ∷ 0 ∷ 1 ∷ 0 ∷ 0 ∷ 36 ∷ 0 ∷ 0 ∷ 0 ∷ []) [] (replicate 36 x)
 
 abbrev pub reading : ℕ → ℕ → Request
 reading a x = request (0x28 ∷ 0 ∷ 0 ∷ 0 ∷ 0 ∷ a ∷ 0 ∷ 0 ∷ 16 ∷ 0 ∷ 0 ∷ 0 ∷ []) [] (replicate 32768 x)
 
+abbrev pub readingSome : ℕ → ℕ → ℕ → Request
+readingSome a n x = request (0x28 ∷ 0 ∷ 0 ∷ 0 ∷ 0 ∷ a ∷ 0 ∷ 0 ∷ n ∷ 0 ∷ 0 ∷ 0 ∷ []) [] (replicate (2048 * n) x)
+
 abbrev pub flushing : Request
 flushing = request (0x35 ∷ 0 ∷ 0 ∷ 0 ∷ 0 ∷ 0 ∷ 0 ∷ 0 ∷ 0 ∷ 0 ∷ 0 ∷ 0 ∷ []) [] []
 
--- the newer controller: WRITE 0 of 5, 52h, WRITE 5 of 13, READ 0 of 16, 35h, READ 32 of 16, which is refused, and WRITE 32 of 3. Before
--- command i stale bytes change as j i says
+-- the newer controller: WRITE 0 of 5, 52h, WRITE 5 of 13, READ 2 of 16, whose last two sectors are pending, 35h, READ 32 of 16, which is
+-- refused, and WRITE 32 of 3. Before command i stale bytes change as j i says
 abbrev pub newer : Log → ℕ → (ℕ → Change) → List Given
 newer l x j =
-    after (j 0) (writing 0 5 (firstFive l)) ∷ after (j 1) (asking x) ∷ after (j 2) (writing 5 13 (nextThirteen l)) ∷ after (j 3) (reading 0 x)
+    after (j 0) (writing 0 5 (firstFive l)) ∷ after (j 1) (asking x) ∷ after (j 2) (writing 5 13 (nextThirteen l)) ∷ after (j 3) (reading 2 x)
     ∷ after (j 4) flushing ∷ after (j 5) (reading 32 x) ∷ after (j 6) (writing 32 3 (l .six)) ∷ []
 
 -- the older one sends the first WRITE in three, the second in two, and hands other reply buffers over
 abbrev pub older : Log → ℕ → (ℕ → Change) → List Given
 older l x j =
     after (j 0) (writing 0 2 (l .one)) ∷ after (j 1) (writing 2 1 (l .two)) ∷ after (j 2) (writing 3 2 (l .three)) ∷ after (j 3) (asking x)
-    ∷ after (j 4) (writing 5 3 (l .four)) ∷ after (j 5) (writing 8 10 (l .five)) ∷ after (j 6) (reading 0 x) ∷ after (j 7) flushing
+    ∷ after (j 4) (writing 5 3 (l .four)) ∷ after (j 5) (writing 8 10 (l .five)) ∷ after (j 6) (reading 2 x) ∷ after (j 7) flushing
     ∷ after (j 8) (reading 32 x) ∷ after (j 9) (writing 32 3 (l .six)) ∷ []
 
 -- the newer controller's first command, which leaves five sectors pending, and its first three, which leave two
@@ -142,22 +145,27 @@ pub record Fitting (s : Drive) (x y z : List ℕ) (j : ℕ → Change) : Type 0 
 abbrev pub afterAll : List Turn → Drive → Given → Result
 afterAll ts s g = result (turn g (final ts s)) (final ts s)
 
--- what a reader finds of the log, in the newer controller's turns ts from the drive s on: READ 0 of 16 before the flush, and at the end READs
+-- what a reader finds of the log, in the newer controller's turns ts from the drive s on: READ 2 of 16 before the flush, and at the end READs
 -- after a change c; `first` is its first turn
 pub record Reader (l : Log) (x : ℕ) (first ts : List Turn) (s : Drive) (c : Change) : Type 0 where
   -- sectors 3 and 7 are sector 3 of the first WRITE and sector 2 of the second
-  pub early : sectorAt 3 (getD (replies ts s) 3 []) ≡ sectorAt 3 (firstFive l)
-  pub second : sectorAt 7 (getD (replies ts s) 3 []) ≡ sectorAt 2 (nextThirteen l)
+  pub early : sectorAt 1 (getD (replies ts s) 3 []) ≡ sectorAt 3 (firstFive l)
+  pub second : sectorAt 5 (getD (replies ts s) 3 []) ≡ sectorAt 2 (nextThirteen l)
+  -- sector 17, which is pending then, is the log's last so far
+  pub across : sectorAt 15 (getD (replies ts s) 3 []) ≡ sectorAt 12 (nextThirteen l)
   -- after the flush sector 17 is the last one of the log, and sector 18 zeros that nobody wrote
   pub last : sectorAt 1 (afterAll ts s (after c (reading 16 x)) .reply) ≡ sectorAt 12 (nextThirteen l)
   pub zeroed : sectorAt 2 (afterAll ts s (after c (reading 16 x)) .reply) ≡ zeros 2048
-  -- sectors 17 and 31 can be read, 32, which is pending, cannot
-  pub log : readable (final ts s .disc) (lba 17) ≡ true
-  pub padding : readable (final ts s .disc) (lba 31) ≡ true
-  pub beyond : readable (final ts s .disc) (lba 32) ≡ false
-  -- READ 16 of 1 is accepted
-  pub accepted :
-      afterAll ts s (after c (request (0x28 ∷ 0 ∷ 0 ∷ 0 ∷ 0 ∷ 16 ∷ 0 ∷ 0 ∷ 1 ∷ 0 ∷ 0 ∷ 0 ∷ []) [] (replicate 2048 x))) .answer ≡ Accepted
+  -- sectors 17 and 31 are recorded; 32, which is pending, is not, and holds what the last WRITE brought
+  pub log : isRecorded (final ts s .disc) (lba 17) ≡ true
+  pub padding : isRecorded (final ts s .disc) (lba 31) ≡ true
+  pub beyond : isRecorded (final ts s .disc) (lba 32) ≡ false
+  pub waiting : isPending (final ts s .disc) (lba 34) ≡ true
+  pub ended : isPending (final ts s .disc) (lba 35) ≡ false
+  pub held : sectorAt 1 (final ts s .pending) ≡ sectorAt 1 (l .six)
+  -- READ 31 of 4 is accepted, over the border and up to the last pending sector; READ 31 of 5 is not
+  pub accepted : afterAll ts s (after c (readingSome 31 4 x)) .answer ≡ Accepted
+  pub beyondLast : afterAll ts s (after c (readingSome 31 5 x)) .answer ≡ Accepted → ⊥
   -- no request is refused by L2 or L3
   pub served :
       (r : Request) (q : LinkRefusal) → afterAll ts s (after c r) .answer ≡ Link q → (q ≡ MediumSize → ⊥) × (q ≡ UnsoundState → ⊥)

@@ -5,15 +5,15 @@ use mathlib.Core.Path.{_≡_}
 use mathlib.Core.Bool.{true}
 use mathlib.Core.Logic.{_⊎_}
 use mathlib.Core.List.{List}
-use Rattle.fragments.specs.Address.{lba, sectorsIn}
+use Rattle.fragments.specs.Address.{lba, sectorsIn, leftOver}
 use Rattle.protocol.specs.Command.{decode}
-use Rattle.disc.specs.Records.{pendingIn, numbered, readable}
+use Rattle.disc.specs.Records.{pendingIn, numbered, isRecorded, isPending}
 use Rattle.drive.specs.Step.{Drive}
 use Rattle.drive.specs.Alike.{Alike}
 use Rattle.drive.specs.Requests.{ReadOf}
 use Rattle.history.specs.Types.{Lba, Disc, LinkRefusal, CommandBlockLength, TransferLength, Accepted, Link, Read}
 use Rattle.history.specs.Sequence.{Start, Turn, found, result, final, Admissible}
-use Rattle.history.specs.Account.{Account, account, sectorAt, contentAt, recordedAt}
+use Rattle.history.specs.Account.{Account, account, sectorAt, contentAt, recordedAt, pendingAt, readableAt}
 
 -- the "kept count" of the fragment with a number, and the state's own figures
 pub record Keeps (k : Account) (d : Disc) (n : ℕ) : Type 0 where
@@ -35,14 +35,22 @@ pub record KeptAccount : Type 0 where
   pub lengths :
       (c : ℕ) (s : Drive) → Start c s → (ts : List Turn) → Admissible ts s → (t : Turn) → Alike (final ts s) (found t (final ts s))
       → (x : LinkRefusal) → result t (final ts s) .answer ≡ Link x → (x ≡ CommandBlockLength) ⊎ (x ≡ TransferLength)
-  -- readable are exactly the addresses in blocks that the history recorded
+  -- recorded are exactly the addresses in blocks that the history recorded, and pending those of its pending sectors
   pub recorded :
-      (c : ℕ) (s : Drive) → Start c s → (ts : List Turn) → Admissible ts s → (a : ℕ) → readable (final ts s .disc) (lba a) ≡ recordedAt ts s a
-  -- so a READ of such an address is accepted, whatever stale bytes hold
+      (c : ℕ) (s : Drive) → Start c s → (ts : List Turn) → Admissible ts s → (a : ℕ) → isRecorded (final ts s .disc) (lba a) ≡ recordedAt ts s a
+  pub pending :
+      (c : ℕ) (s : Drive) → Start c s → (ts : List Turn) → Admissible ts s → (a : ℕ) → isPending (final ts s .disc) (lba a) ≡ pendingAt ts s a
+  -- a pending sector stands in the pending buffer at the place that it has in its block, and is what the history put at its address
+  pub held :
+      (c : ℕ) (s : Drive) → Start c s → (ts : List Turn) → Admissible ts s → (a : ℕ) → pendingAt ts s a ≡ true
+      → sectorAt (leftOver a) (final ts s .pending) ≡ contentAt ts s a
+  -- a READ of 1 up within the disc is accepted exactly when every sector of it is readable by the history, whatever stale bytes hold
   pub readable :
       (c : ℕ) (s : Drive) → Start c s → (ts : List Turn) → Admissible ts s → (t : Turn) → Alike (final ts s) (found t (final ts s))
-      → (a : Lba) → ReadOf (t .request) a 1 → recordedAt ts s (a .0) ≡ true → result t (final ts s) .answer ≡ Accepted
-  -- every sector of an accepted READ is what the history put at its address
+      → (a : Lba) (n : ℕ) → ReadOf (t .request) a n → 1 ≤ n → a .0 + n ≤ sectorsIn (final ts s .disc .capacity)
+      → (((i : ℕ) → i < n → readableAt ts s (a .0 + i) ≡ true) → result t (final ts s) .answer ≡ Accepted)
+      × (result t (final ts s) .answer ≡ Accepted → (i : ℕ) → i < n → readableAt ts s (a .0 + i) ≡ true)
+  -- every sector of an accepted READ, recorded or pending, is what the history put at its address
   pub back :
       (c : ℕ) (s : Drive) → Start c s → (ts : List Turn) → Admissible ts s → (t : Turn) → Alike (final ts s) (found t (final ts s))
       → (a : Lba) (n : ℕ) → decode (t .request .cdb) ≡ Read a n → result t (final ts s) .answer ≡ Accepted

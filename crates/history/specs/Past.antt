@@ -1,6 +1,6 @@
 -- What the history says is recorded: a block and its sectors are recorded from the command that gathers its sixteenth sector, flushes it or
 -- fills it with zeros. A fold over the accepted commands; of the disc it is told where a reserved fragment lies that is closed, nothing else.
-use Prim.Native.Nat.{ℕ, zero, suc, _+_, _*_, _/_}
+use Prim.Native.Nat.{ℕ, zero, suc, _+_, _-_, _*_, _/_}
 use mathlib.Core.Path.{_≡_}
 use mathlib.Core.Bool.{Bool, true, false, cond, _&&_, _||_}
 use mathlib.Core.List.{List, [], _∷_}
@@ -9,7 +9,7 @@ use lib.ListN.{length, getD, take}
 use Rattle.fragments.specs.Address.{lba}
 use Rattle.protocol.specs.Command.{decode}
 use Rattle.outcomes.specs.Recorded.{among}
-use Rattle.disc.specs.Records.{readable}
+use Rattle.disc.specs.Records.{isRecorded, isPending}
 use Rattle.drive.specs.Step.{Drive, Request}
 use Rattle.drive.specs.Alike.{Alike}
 use Rattle.history.specs.Types.{Disc, Answer, Accepted, Link, Drive as byDrive, Command, TestUnitReady, RequestSense, ReadCapacity, Read, Write, SynchronizeCache, ReserveTrack, CloseTrackSession, ReadDiscInformation, ReadTrackInformation, Unlisted}
@@ -93,10 +93,13 @@ StaleChanges (t ∷ ts) s h = StaleApart h s (found t s) × StaleChanges ts (res
 
 -- for every capacity, every start, every sequence and every change of stale bytes, at every point
 pub record RecordedByHistory : Type 0 where
-  -- what the state calls recorded and pending is so by the history
+  -- what the state calls recorded and pending is so by the history; pending are the last sectors that were accepted
   pub recorded :
-      (c : ℕ) (s : Drive) → Start c s → (ts : List Turn) → Admissible ts s → (a : ℕ) → readable (final ts s .disc) (lba a) ≡ past ts s .recorded (a / 16)
+      (c : ℕ) (s : Drive) → Start c s → (ts : List Turn) → Admissible ts s → (a : ℕ) → isRecorded (final ts s .disc) (lba a) ≡ past ts s .recorded (a / 16)
   pub pending : (c : ℕ) (s : Drive) → Start c s → (ts : List Turn) → Admissible ts s → final ts s .disc .pending ≡ past ts s .held
+  pub waiting :
+      (c : ℕ) (s : Drive) → Start c s → (ts : List Turn) → Admissible ts s → (a : ℕ)
+      → isPending (final ts s .disc) (lba a) ≡ among (past ts s .next - past ts s .held) (past ts s .held) a
   -- so demand 3 is about exactly the sequences in which stale bytes alone are changed
   pub stale : (c : ℕ) (s : Drive) → Start c s → (ts : List Turn) → Admissible ts s → StaleChanges ts s beginning
   pub admissible : (c : ℕ) (s : Drive) → Start c s → (ts : List Turn) → StaleChanges ts s beginning → Admissible ts s

@@ -9,11 +9,11 @@ abbrev pub FlushFits : ℕ → Flush → Type 0
 FlushFits mediumLent Skip = Unit {0}
 FlushFits mediumLent (Record b n) = (1 ≤ n) × (n < 16) × (32768 * (b .0 + 1) ≤ mediumLent)
 
--- the sectors of a READ lie in the medium; those of a WRITE are the data, and the blocks that they fill lie in the medium, as do those
--- filled with zeros. A block's number fits 32 bits
+-- the recorded sectors of a READ lie in the medium, its pending ones in the pending buffer; those of a WRITE are the data, and the blocks
+-- that they fill lie in the medium, as do those filled with zeros. A block's number fits 32 bits
 abbrev pub TransferFits : ℕ → ℕ → Transfer → Type 0
 TransferFits mediumLent dataLent Nothing = Unit {0}
-TransferFits mediumLent dataLent (Send a n) = 2048 * (a .0 + n) ≤ mediumLent
+TransferFits mediumLent dataLent (Send a n i k) = (2048 * (a .0 + n) ≤ mediumLent) × (i + k ≤ 16)
 TransferFits mediumLent dataLent (Gather b p n) =
     (p < 16) × (dataLent ≡ 2048 * n) × (b .0 + (p + n) / 16 < 2 ^ 32) × (32768 * (b .0 + (p + n) / 16) ≤ mediumLent)
 TransferFits mediumLent dataLent (Fill b k) = (b .0 + k < 2 ^ 32) × (32768 * (b .0 + k) ≤ mediumLent)
@@ -21,7 +21,7 @@ TransferFits mediumLent dataLent (Fill b k) = (b .0 + k < 2 ^ 32) × (32768 * (b
 -- the sectors that are sent fit the reply buffer
 abbrev pub RunFits : ℕ → Transfer → Type 0
 RunFits replyLent Nothing = Unit {0}
-RunFits replyLent (Send a n) = 2048 * n ≤ replyLent
+RunFits replyLent (Send a n i k) = 2048 * (n + k) ≤ replyLent
 RunFits replyLent (Gather b p n) = Unit {0}
 RunFits replyLent (Fill b k) = Unit {0}
 

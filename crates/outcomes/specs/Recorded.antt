@@ -18,7 +18,7 @@ flushes (Record b n) k = eqb k (b .0)
 -- the blocks whose sixteenth sector is gathered, or that are filled with zeros
 unfoldable pub transfers : Transfer → ℕ → Bool
 transfers Nothing k = false
-transfers (Send a n) k = false
+transfers (Send a n i p) k = false
 transfers (Gather b held n) k = among (b .0) ((held + n) / 16) k
 transfers (Fill b n) k = among (b .0) n k
 
@@ -33,7 +33,7 @@ flushedCount (Record b n) pending = 0
 
 unfoldable pub transferredCount : Transfer → ℕ → ℕ
 transferredCount Nothing pending = pending
-transferredCount (Send a n) pending = pending
+transferredCount (Send a n i k) pending = pending
 transferredCount (Gather b held n) pending = (held + n) % 16
 transferredCount (Fill b n) pending = pending
 
@@ -44,6 +44,6 @@ pendingBlock d = firstUnrecorded (numbered d (d .owner)) .0
 -- and after a transfer
 unfoldable pub transferredBlock : Transfer → ℕ → ℕ
 transferredBlock Nothing b = b
-transferredBlock (Send a n) b = b
+transferredBlock (Send a n i k) b = b
 transferredBlock (Gather c held n) b = c .0 + (held + n) / 16
 transferredBlock (Fill c n) b = b

@@ -1,5 +1,5 @@
--- The part of the medium that an accepted READ (28h) hands out. It is decided without the lengths of data, reply and pending buffer,
--- which the lower read never sees: a READ that is refused for those has its run here all the same.
+-- The medium's share of what an accepted READ (28h) hands out, as a part of the medium; the rest of it is pending. It is decided without the
+-- lengths of data, reply and pending buffer, which the lower read never sees: a READ that is refused for those has its run here all the same.
 use Prim.Native.Nat.{ℕ, _+_, _*_, _<_}
 use mathlib.Core.Path.{_≡_}
 use mathlib.Core.Bool.{Bool, true, cond, _&&_}
@@ -10,7 +10,7 @@ use Rattle.outcomes.specs.Types.{Lba, Disc, Read}
 use Rattle.decisions.specs.Run.{sent}
 use Rattle.fragments.specs.Address.{lba}
 use Rattle.protocol.specs.Command.{decode}
-use Rattle.disc.specs.Records.{readable}
+use Rattle.disc.specs.Records.{isRecorded}
 use Rattle.disc.specs.Sound.{allowedState}
 use Rattle.disc.specs.Blank.{inRange}
 use Rattle.commands.specs.Judge.{perform}
@@ -21,13 +21,13 @@ abbrev pub served : Disc → ℕ → ℕ → Bool
 served d cdbLength mediumLength =
     eqb cdbLength 12 && inRange (d .capacity) && eqb mediumLength (32768 * d .capacity) && allowedState d
 
--- the recorded run that a command block asks for, as a part of the medium: what its plan sends. No bytes where it asks for none or is
--- refused
+-- the recorded run that a command block asks for, as a part of the medium: what its plan sends of that. No bytes where all of it is pending,
+-- where it asks for none or is refused
 unfoldable pub recordedRun : Disc → List ℕ → List ℕ → List ℕ
 recordedRun d b medium = cond (served d (length b) (length medium)) (sent (perform d (decode b) .plan .transfer) medium) []
 
 -- the promise of the code that hands it out
 pub record RunOf (d : Disc) (b medium r : List ℕ) : Type 0 where
   pub stretch : r ≡ recordedRun d b medium
-  -- every sector of it is readable
-  pub recorded : (a : Lba) (n : ℕ) → decode b ≡ Read a n → (k : ℕ) → 2048 * k < length r → readable d (lba (a .0 + k)) ≡ true
+  -- every sector of it is recorded
+  pub recorded : (a : Lba) (n : ℕ) → decode b ≡ Read a n → (k : ℕ) → 2048 * k < length r → isRecorded d (lba (a .0 + k)) ≡ true

@@ -5,8 +5,8 @@ use lib.Dec.{eqb}
 use Rattle.reporting.specs.Types.{Lba, Disc, Found, Number, Nowhere, DiscReport, TrackReport, Verdict, InvalidFieldInCommand, AddressOutOfRange}
 use Rattle.fragments.specs.Address.{lba, sectorsIn, firstSector}
 use Rattle.fragments.specs.Fragment.{end, complete, isReserved, lastRecorded}
-use Rattle.disc.specs.Records.{isBlank, nextWritable, records, used, isListed, numbered, lastRecord, hasTail, atAddress, blankTailOnly, isBlankDisc}
-use Rattle.fragments.specs.List.{lastReadable, firstOfSession}
+use Rattle.disc.specs.Records.{isBlank, nextWritable, records, used, isListed, numbered, lastRecord, hasTail, atAddress, lastReadable, blankTailOnly, isBlankDisc}
+use Rattle.fragments.specs.List.{firstOfSession}
 use Rattle.protocol.specs.Lengths.{capacityLength}
 use Rattle.decisions.specs.Plan.{noPlan}
 use Rattle.disc.specs.Verdict.{accept, refuse}
@@ -17,9 +17,9 @@ use Rattle.protocol.specs.Reports.{senseBytes, capacityBytes, discBytes, trackB
 unfoldable pub requestSense : Disc → ℕ → Verdict
 requestSense d allocation = accept d d (report (senseBytes (d .sense)) allocation) noPlan
 
--- READ CAPACITY (25h): the last readable address, or 0
+-- READ CAPACITY (25h): the last readable address, recorded or pending, or 0
 unfoldable pub readCapacity : Disc → Verdict
-readCapacity d = accept d d (report (capacityBytes (lastReadable (records d))) capacityLength) noPlan
+readCapacity d = accept d d (report (capacityBytes (lastReadable d)) capacityLength) noPlan
 
 -- READ DISC INFORMATION (51h): the state of the last session: 0 with only a blank tail, 3 on a finalized disc, else 1
 abbrev pub lastSession : Bool → Bool → ℕ

@@ -11,6 +11,6 @@ pub fn read_capacity(disc: Disc) -> Decision
     ensures { λ r. ⌜ decided disc r ≡ readCapacity disc ⌝ }
 {
     let records = disc.fragments;
-    let last = fragments::last_readable(records);
+    let last = fragments::highest_readable(records, disc.pending, disc.owner);
     Decision::unchanged(Reply::of_capacity(last))
 }

@@ -2,10 +2,10 @@
 use mathlib.Core.Path.{_≡_, refl, sym, ap, _∙_, subst}
 use mathlib.Core.Bool.{true, false}
 use mathlib.Core.Logic.{_⊎_, inl, inr, ⊎-elim}
-use Prim.Native.Nat.{ℕ, _+_, _-_, _*_, _/_, _≤_, _<_}
+use Prim.Native.Nat.{ℕ, _+_, _-_, _*_, _/_, _≤_}
 use native.Mathlib.Omega.{arith}
 use mathlib.Core.List.{List}
-use lib.ListN.{length, getD, take}
+use lib.ListN.{length, getD, take, drop}
 use borrow.Author.Tests.{eqb-true, eqb-false}
 use lib.Dec.{eqb}
 use Rattle.fragments.specs.Address.{lba}
@@ -13,18 +13,19 @@ use Rattle.protocol.specs.Answer.{refusalSense}
 use Rattle.commands.specs.Judge.{judge}
 use Rattle.outcomes.specs.Lent.{FlushFits, TransferFits}
 use Rattle.outcomes.specs.Recorded.{flushes, transfers, recordsBlock, flushedCount}
-use Rattle.disc.specs.Records.{readable, withSense}
+use Rattle.disc.specs.Records.{isRecorded, withSense}
 use Rattle.disc.specs.Verdict.{refuse, refuseLink}
+use Rattle.decisions.specs.Run.{stretch}
 use Rattle.fragments.proofs.Laws.Bool.{by-cases, or-cases}
+use Rattle.fragments.proofs.Laws.Numbers.{equal-cases}
 use Rattle.outcomes.proofs.Laws.Judge.{decided-link, decided-refused, decided-recorded, decided-fresh, decided-sends, decided-pending, decided-capacity}
 use Rattle.outcomes.proofs.Laws.Pending.{Pending}
-use Rattle.commands.proofs.Laws.Read.{all-readable-at}
 use Rattle.drive.specs.Types.{Lba, Block, Disc, LinkRefusal, DriveRefusal, Link, Drive as byDrive, CommandBlockLength, MediumSize, Record, Reply, Transfer, Nothing, Send, Gather, Fill, Verdict}
 use Rattle.drive.specs.Moves.{flushedMedium, flushedPending, transferredMedium, transferredPending, movedMedium, movedPending}
 use Rattle.drive.specs.Reply.{sentBytes}
 use Rattle.drive.specs.Step.{Drive, drive, Request, request, Result, lent, verdictOn, carriedOut, step, untouched}
 use Rattle.drive.specs.Alike.{recordedByte, Alike}
-use Rattle.drive.proofs.Laws.Bytes.{splice-nil}
+use Rattle.drive.proofs.Laws.Bytes.{splice-nil, run-in-front}
 use Rattle.drive.proofs.Laws.Agree.{Agree, agree-run}
 use Rattle.drive.proofs.Laws.Kept.{length-flushed-medium, length-flushed-pending, length-moved-medium, length-moved-pending, moved-kept, flushed-agree, transferred-agree, flushed-sectors, transferred-sectors}
 use Rattle.drive.proofs.Laws.Step.{verdict-decided, verdict-block, verdict-lent, verdict-judge, Judgement, judgement, verdict-judges}
@@ -156,20 +157,29 @@ byte-recorded :
 byte-recorded s q v i j t =
     let a = lba (i / 2048) in
     let k : i / 2048 / 16 ≡ i / 32768 = omega arith in
-    or-cases (readable (s .disc) a) (recordsBlock (v .plan) (i / 2048 / 16)) (λ h. inl h) (λ h. inr (rw k at h))
+    or-cases (isRecorded (s .disc) a) (recordsBlock (v .plan) (i / 2048 / 16)) (λ h. inl h) (λ h. inr (rw k at h))
     (sym (decided-recorded (s .disc) v a (j .decided)) ∙ t)
 
--- the bytes that are sent are recorded ones
+-- the bytes that are sent are recorded ones and those of pending sectors
 sent-alike :
-    (t : Transfer) (r : Reply) (m n : List ℕ) → length m ≡ length n
-    → ((a : Lba) (k : ℕ) → t ≡ Send a k
-    → (2048 * (a .0 + k) ≤ length m) × ((i : ℕ) → 2048 * a .0 ≤ i → i < 2048 * a .0 + 2048 * k → getD m i 0 ≡ getD n i 0))
-    → sentBytes t r m ≡ sentBytes t r n
+    (t : Transfer) (r : Reply) (m n p q : List ℕ)
+    → ((a : Lba) (l i k : ℕ) → t ≡ Send a l i k → (stretch (a .0) l m ≡ stretch (a .0) l n) × (stretch i k p ≡ stretch i k q))
+    → sentBytes t r m p ≡ sentBytes t r n q
 unfolding sentBytes
-sent-alike Nothing r m n l h = refl
-sent-alike (Send a k) r m n l h = let w = h a k refl in agree-run m n (2048 * a .0) (2048 * k) (omega (arith, w .0)) l (w .1)
-sent-alike (Gather b p k) r m n l h = refl
-sent-alike (Fill b k) r m n l h = refl
+sent-alike Nothing r m n p q h = refl
+sent-alike (Send a l i k) r m n p q h = let w = h a l i k refl in rw (w .0, w .1)
+sent-alike (Gather b held l) r m n p q h = refl
+sent-alike (Fill b l) r m n p q h = refl
+
+-- sectors of two buffers that have the same first c sectors
+stretch-alike :
+    (p q : List ℕ) (c i k : ℕ) → 2048 * c ≤ length p → 2048 * c ≤ length q → i + k ≤ c → take (2048 * c) p ≡ take (2048 * c) q
+    → stretch i k p ≡ stretch i k q
+stretch-alike p q c i k hp hq h e =
+    sym (part p (omega (arith, hp, h))) ∙ (ap (λ (l : List ℕ). take (2048 * k) (drop (2048 * i) l)) e ∙ part q (omega (arith, hq, h)))
+  where
+    part : (l : List ℕ) → 2048 * i ≤ length l → stretch i k (take (2048 * c) l) ≡ stretch i k l
+    part l within = run-in-front l (2048 * c) (2048 * i) (2048 * k) (omega (arith, h)) within
 
 -- two results that no controller can tell apart, on drives that stay alike
 pub record AlikeResults (r t : Result) : Type 0 where
@@ -192,17 +202,22 @@ module _
     flush-sectors : (c : Block) (l : ℕ) → v .plan .flush ≡ Record c l → take (2048 * l) p ≡ take (2048 * l) q
     flush-sectors c l e = rw (pending .flushed c l e .0) held
 
-    reply-alike : sentBytes (v .plan .transfer) (v .reply) m ≡ sentBytes (v .plan .transfer) (v .reply) n
+    reply-alike : sentBytes (v .plan .transfer) (v .reply) m p ≡ sentBytes (v .plan .transfer) (v .reply) n q
     reply-alike =
-        sent-alike (v .plan .transfer) (v .reply) m n hm
-        (λ a l e.
-        let w = decided-sends d v a l (j .decided) e in
-        let fits : 2048 * (a .0 + l) ≤ length m = rw e at (j .fits .transfer) in (
-          fits,
-          λ i from below.
-              same i
-              (let at : a .0 + (i / 2048 - a .0) ≡ i / 2048 = omega arith in
-              rw at at (all-readable-at d a l (w .readable-all) (i / 2048 - a .0) (omega arith))),
+        sent-alike (v .plan .transfer) (v .reply) m n p q
+        (λ a l i k e.
+        let w = decided-sends d v a l i k (j .decided) e in
+        let fits : (2048 * (a .0 + l) ≤ length m) × (i + k ≤ 16) = rw e at (j .fits .transfer) in (
+          agree-run m n (2048 * a .0) (2048 * l) (omega (arith, fits .0)) hm
+              (λ x from below.
+              same x
+              (let at : a .0 + (x / 2048 - a .0) ≡ x / 2048 = omega arith in
+              rw at at (w .shares .recorded (x / 2048 - a .0) (omega arith)))),
+          equal-cases k 0 (λ z. rw z)
+              (λ z.
+              let most = w .shares .held z in
+              let few = w .shares .few in
+              stretch-alike p q (d .pending) i k (omega (arith, j .block, few)) (omega (arith, other-block, few)) most held),
         ))
 
     -- the media after the flush, and then after the transfer

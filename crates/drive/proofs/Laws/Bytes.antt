@@ -1,6 +1,6 @@
 -- Laws of zeros, splices and padded blocks.
 use mathlib.Core.Path.{_≡_, refl, sym, ap, _∙_}
-use Prim.Native.Nat.{ℕ, zero, suc, _+_, _-_, _≤_, _<_}
+use Prim.Native.Nat.{ℕ, zero, suc, _+_, _-_, _*_, _≤_, _<_}
 use native.Mathlib.Numerals.{add-one}
 use native.Mathlib.Nat.{not-suc-le-zero, le-of-suc-le-suc}
 use native.Mathlib.Omega.{arith}
@@ -8,7 +8,7 @@ use borrow.Rule.Slice.PartMut.{putMid, midOf}
 use borrow.Author.Fill.{fill-more}
 use mathlib.Core.List.{List, [], _∷_, _++_, append-assoc, append-nil}
 use lib.ListN.{length, getD, set, take, drop, length-append, length-take, length-drop, drop-of-length-le, length-replicate, replicate-append-replicate, take-append-drop}
-use lib.Seq.{take-at, drop-at, drop-drop, length-take-le}
+use lib.Seq.{take-at, take-add, take-take, take-append-le, drop-at, drop-drop, drop-append-le, drop-append-add, length-take-le}
 use Rattle.drive.specs.Bytes.{zeros, splice, padded}
 
 pub length-zeros : (n : ℕ) → length (zeros n) ≡ n
@@ -105,6 +105,35 @@ padded-parts m x y p p₁ q hm h e d f =
     let both : p₁ ≡ splice m 0 (x ++ y) = d ∙ (ap (λ (l : List ℕ). splice l (length x) y) e ∙ splice-splice m 0 (length x) x y (omega arith) (omega arith)) in
     let l : length x + length y ≡ length (x ++ y) = sym (length-append x y) in
     padded-put m (x ++ y) p₁ q hm (omega (arith, l)) both (rw l at f)
+
+-- a part of a run is a part of the whole
+pub run-in-run :
+    (l : List ℕ) (a w b v : ℕ) → b + v ≤ w → a + b ≤ length l → take v (drop b (take w (drop a l))) ≡ take v (drop (a + b) l)
+run-in-run l a w b v h k =
+    let rest = drop a l in
+    let split : b + (w - b) ≡ w = omega arith in
+    let front : length (take b rest) ≡ b = length-take-le b rest (omega (arith, length-drop a l)) in
+    ap (λ (n : ℕ). take v (drop b (take n rest))) (sym split)
+    ∙ (ap (λ (x : List ℕ). take v (drop b x)) (take-add b (w - b) rest)
+    ∙ (ap (take v) (drop-at (take b rest) (take (w - b) (drop b rest)) b front)
+    ∙ (take-take v (w - b) (drop b rest) (omega arith) ∙ ap (take v) (drop-drop b a l))))
+
+pub run-in-front : (l : List ℕ) (w b v : ℕ) → b + v ≤ w → b ≤ length l → take v (drop b (take w l)) ≡ take v (drop b l)
+run-in-front l w b v h k =
+    let none : 0 + b ≡ b = omega arith in
+    run-in-run l 0 w b v h (omega (arith, k)) ∙ ap (λ (n : ℕ). take v (drop n l)) none
+
+-- a sector of what stands in front, and of what stands after c sectors
+pub sector-front :
+    (l x : List ℕ) (c i : ℕ) → length l ≡ 2048 * c → i < c → take 2048 (drop (2048 * i) (l ++ x)) ≡ take 2048 (drop (2048 * i) l)
+sector-front l x c i size h =
+    ap (take 2048) (drop-append-le (2048 * i) l x (omega (arith, size)))
+    ∙ take-append-le 2048 (drop (2048 * i) l) x (omega (arith, size, length-drop (2048 * i) l))
+
+pub sector-after : (l x : List ℕ) (c i : ℕ) → length l ≡ 2048 * c → take 2048 (drop (2048 * (c + i)) (l ++ x)) ≡ take 2048 (drop (2048 * i) x)
+sector-after l x c i size =
+    let place : 2048 * (c + i) ≡ length l + 2048 * i = omega (arith, size) in
+    ap (λ (n : ℕ). take 2048 (drop n (l ++ x))) place ∙ ap (take 2048) (drop-append-add l x (2048 * i))
 
 -- one turn of a copy
 copy-suc :

@@ -45,7 +45,7 @@ pub length-transferred-medium :
     (t : Transfer) (m p x : List ℕ) → length p ≡ 32768 → TransferFits (length m) (length x) t → length (transferredMedium t m p x) ≡ length m
 unfolding transferredMedium
 length-transferred-medium Nothing m p x h w = refl
-length-transferred-medium (Send a n) m p x h w = refl
+length-transferred-medium (Send a n i k) m p x h w = refl
 length-transferred-medium (Gather b held n) m p x h w = length-gathered-medium held n p x (omega (arith, w .0)) (w .1) (b .0) m (w .3)
 length-transferred-medium (Fill b n) m p x h w =
     length-splice m (32768 * b .0) (zeros (32768 * n)) (omega (arith, length-zeros (32768 * n), w .1))
@@ -54,7 +54,7 @@ pub length-transferred-pending :
     (t : Transfer) (k : ℕ) (p x : List ℕ) → length p ≡ 32768 → TransferFits k (length x) t → length (transferredPending t p x) ≡ 32768
 unfolding transferredPending
 length-transferred-pending Nothing k p x h w = h
-length-transferred-pending (Send a n) k p x h w = h
+length-transferred-pending (Send a n i j) k p x h w = h
 length-transferred-pending (Gather b held n) k p x h w = length-gathered-pending held n p x (omega (arith, w .0)) (w .1)
 length-transferred-pending (Fill b n) k p x h w = h
 
@@ -75,7 +75,7 @@ pub transferred-kept :
     → getD (transferredMedium t m p x) i 0 ≡ getD m i 0
 unfolding transferredMedium transfers gatheredMedium
 transferred-kept Nothing m p x i h w none = refl
-transferred-kept (Send a n) m p x i h w none = refl
+transferred-kept (Send a n j k) m p x i h w none = refl
 transferred-kept (Gather b held n) m p x i h w none =
     let k = (held + n) / 16 in
     let y = take (32768 * k) (stream held p x) in
@@ -141,7 +141,7 @@ module _ (R : ℕ → Type 0) (m n p q : List ℕ) (hp : length p ≡ 32768) (hq
       → Agree (λ i. (R i) ⊎ (transfers t (i / 32768) ≡ true)) (transferredMedium t m p x) (transferredMedium t n q x)
   unfolding transferredMedium transfers gatheredMedium
   transferred-agree Nothing x w payload = λ i r. ⊎-elim (λ u. same i u) (λ u. absurd (contradiction u refl)) r
-  transferred-agree (Send a k) x w payload = λ i r. ⊎-elim (λ u. same i u) (λ u. absurd (contradiction u refl)) r
+  transferred-agree (Send a k j l) x w payload = λ i r. ⊎-elim (λ u. same i u) (λ u. absurd (contradiction u refl)) r
   transferred-agree (Gather b held k) x w sectors =
       let c = (held + k) / 16 in
       let y = take (32768 * c) (stream held p x) in
@@ -180,7 +180,7 @@ pub transferred-sectors :
     → take (2048 * transferredCount t c) (transferredPending t p x) ≡ take (2048 * transferredCount t c) (transferredPending t q x)
 unfolding transferredCount transferredPending
 transferred-sectors Nothing c p q x h e = e
-transferred-sectors (Send a n) c p q x h e = e
+transferred-sectors (Send a n i k) c p q x h e = e
 transferred-sectors (Gather b held n) c p q x h e =
     let k = h b held n refl in
     ap (take (2048 * ((held + n) % 16))) (stale-pending held n p q x (rw k e))

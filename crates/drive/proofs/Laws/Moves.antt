@@ -123,7 +123,7 @@ pub nothing-moved :
     → (m ≡ transferredMedium t m p x) × (p ≡ transferredPending t p x)
 unfolding transferredMedium transferredPending
 nothing-moved Nothing m p x h = (refl, refl)
-nothing-moved (Send a n) m p x h = (refl, refl)
+nothing-moved (Send a n i k) m p x h = (refl, refl)
 nothing-moved (Gather b q n) m p x h = absurd (miss (0 ∷ 1 ∷ []) 2 tt h)
 nothing-moved (Fill b n) m p x h = absurd (miss (0 ∷ 1 ∷ []) 3 tt h)
 

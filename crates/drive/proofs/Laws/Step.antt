@@ -6,7 +6,7 @@ use native.Mathlib.Omega.{arith}
 use borrow.Author.Tests.{eq-eqb, ne-eqb, eqb-true, eqb-false}
 use mathlib.Core.List.{List}
 use lib.Dec.{eqb}
-use lib.ListN.{length, length-take}
+use lib.ListN.{length, take, drop, length-append, length-take}
 use Rattle.protocol.specs.Answer.{number}
 use Rattle.protocol.specs.Command.{decode}
 use Rattle.commands.specs.Judge.{judge}
@@ -73,13 +73,15 @@ lent-pending d m p h = eqb-true _ _ (and-right (eqb m (32768 * d .capacity)) (eq
 
 -- the reply buffer has room for what is sent
 sent-room :
-    (t : Transfer) (r : Reply) (medium : List ℕ) (n m : ℕ) → TransferFits (length medium) n t → RunFits m t → r .length ≤ m
-    → length (sentBytes t r medium) ≤ m
+    (t : Transfer) (r : Reply) (medium pending : List ℕ) (m : ℕ) → RunFits m t → r .length ≤ m → length (sentBytes t r medium pending) ≤ m
 unfolding sentBytes
-sent-room Nothing r medium n m f g h = simp length-take (omega arith)
-sent-room (Send a k) r medium n m f g h = simp length-take (omega arith)
-sent-room (Gather b p k) r medium n m f g h = simp length-take (omega arith)
-sent-room (Fill b k) r medium n m f g h = simp length-take (omega arith)
+sent-room Nothing r medium pending m g h = simp length-take (omega arith)
+sent-room (Send a n i k) r medium pending m g h =
+    let x = drop (2048 * a .0) medium in
+    let y = drop (2048 * i) pending in
+    omega (arith, g, length-append (take (2048 * n) x) (take (2048 * k) y), length-take (2048 * n) x, length-take (2048 * k) y)
+sent-room (Gather b p k) r medium pending m g h = simp length-take (omega arith)
+sent-room (Fill b k) r medium pending m g h = simp length-take (omega arith)
 
 -- what the disc has decided, with all that is known of it
 pub record Judgement (s : Drive) (q : Request) (v : Verdict) : Type 0 where
@@ -100,9 +102,11 @@ judgement s q l =
       decided = judge-decided d (q .cdb) n m;
     }
 
--- a READ's sectors lie in the medium
-sent-within : (t : Transfer) (l n : ℕ) → TransferFits l n t → (a : Lba) (k : ℕ) → t ≡ Send a k → 2048 * (a .0 + k) ≤ l
-sent-within t l n f a k e = subst (TransferFits l n) e f
+-- a READ's sectors lie in medium and pending buffer
+sent-within :
+    (t : Transfer) (l n p : ℕ) → TransferFits l n t → p ≡ 32768 → (a : Lba) (m i k : ℕ) → t ≡ Send a m i k
+    → (2048 * (a .0 + m) ≤ l) × (2048 * (i + k) ≤ p)
+sent-within t l n p f block a m i k e = let w = subst (TransferFits l n) e f in (w .0, omega (arith, block, w .1))
 
 -- what the code that carries a decision out asks is there
 pub decided-feasible :
@@ -118,8 +122,8 @@ decided-feasible s q d h e =
     record {
       sends =
           record {
-            within = sent-within (d .plan .transfer) (length (s .medium)) n (f .transfer);
-            room = sent-room (d .plan .transfer) (d .reply) (s .medium) n m (f .transfer) (f .run) (f .report);
+            within = sent-within (d .plan .transfer) (length (s .medium)) n (length (s .pending)) (f .transfer) (j .block);
+            room = sent-room (d .plan .transfer) (d .reply) (s .medium) (s .pending) m (f .run) (f .report);
             report = f .report;
             whole = f .whole;
           };

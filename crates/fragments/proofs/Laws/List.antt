@@ -12,7 +12,7 @@ use lib.Seq.{drop-cons}
 use Rattle.fragments.specs.Types.{Fragment, Number, Nowhere}
 use Rattle.fragments.specs.Address.{lba, later}
 use Rattle.fragments.specs.Fragment.{unusedRecord, lastRecorded}
-use Rattle.fragments.specs.List.{limit, listed, every, some, find, sumRecorded, lastReadable, firstOfSession}
+use Rattle.fragments.specs.List.{limit, listed, every, some, find, sumRecorded, highestRecorded, firstOfSession}
 use Rattle.fragments.proofs.Laws.Bool.{and-left, and-right, and-both, or-left, or-right, or-cases, contradiction, by-cases}
 
 -- a record's number stays below AAh, which is the lead-out's in a table of contents, and so below FFh, which 52h takes for the tail
@@ -151,15 +151,15 @@ module _ (fs : List Fragment) (i : ℕ) (d : Fragment) (h : i < length fs) where
   unfolding firstOfSession
   session-on s n e t = rw (listed-drop-on e) (rw (ne-eqb _ _ t))
 
-  pub readable-off : getD fs i d .length ≡ 0 → lastReadable (listed (drop i fs)) ≡ lba 0
-  unfolding lastReadable
-  readable-off e = rw (listed-drop-off e)
+  pub highest-off : getD fs i d .length ≡ 0 → highestRecorded (listed (drop i fs)) ≡ lba 0
+  unfolding highestRecorded
+  highest-off e = rw (listed-drop-off e)
 
-  pub readable-on :
+  pub highest-on :
       (getD fs i d .length ≡ 0 → ⊥)
-      → lastReadable (listed (drop i fs)) ≡ later (lastRecorded (getD fs i d)) (lastReadable (listed (drop (i + 1) fs)))
-  unfolding lastReadable
-  readable-on e = rw (listed-drop-on e)
+      → highestRecorded (listed (drop i fs)) ≡ later (lastRecorded (getD fs i d)) (highestRecorded (listed (drop (i + 1) fs)))
+  unfolding highestRecorded
+  highest-on e = rw (listed-drop-on e)
 
 pub listed-drop-end : (fs : List Fragment) (i : ℕ) → length fs ≤ i → listed (drop i fs) ≡ []
 unfolding listed
@@ -220,9 +220,9 @@ pub session-end : (fs : List Fragment) (i s n : ℕ) → length fs ≤ i → fir
 unfolding firstOfSession
 session-end fs i s n h = rw (listed-drop-end fs i h)
 
-pub readable-end : (fs : List Fragment) (i : ℕ) → length fs ≤ i → lastReadable (listed (drop i fs)) ≡ lba 0
-unfolding lastReadable
-readable-end fs i h = rw (listed-drop-end fs i h)
+pub highest-end : (fs : List Fragment) (i : ℕ) → length fs ≤ i → highestRecorded (listed (drop i fs)) ≡ lba 0
+unfolding highestRecorded
+highest-end fs i h = rw (listed-drop-end fs i h)
 
 -- a test that some record in use passes, one step along the list
 module _ (p : Fragment → Bool) (fs : List Fragment) (i : ℕ) (d : Fragment) (h : i < length fs) where

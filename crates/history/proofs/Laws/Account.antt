@@ -6,31 +6,21 @@ use mathlib.Core.List.{List, [], _++_, append-assoc, append-nil}
 use native.Mathlib.Omega.{arith}
 use borrow.Author.Tests.{eq-eqb, ne-eqb, ltb-true, ltb-false}
 use lib.Dec.{eqb, ltb}
-use lib.ListN.{length, take, drop, take-append-drop, length-append, length-drop}
-use lib.Seq.{take-at, take-append-le, drop-at, drop-append-le, drop-append-add, length-take-le}
+use lib.ListN.{length, take, drop, take-append-drop, length-append}
+use lib.Seq.{take-at, drop-at, length-take-le}
 use Rattle.disc.specs.Records.{pendingIn, numbered}
 use Rattle.outcomes.specs.Recorded.{among}
 use Rattle.fragments.proofs.Laws.Bool.{by-cases, cond-yes, cond-no}
 use Rattle.outcomes.proofs.Laws.Recorded.{among-from, among-below, among-between}
 use Rattle.drive.specs.Bytes.{zeros}
 use Rattle.drive.specs.Moves.{stream, gatheredPending}
-use Rattle.drive.proofs.Laws.Bytes.{length-zeros, zeros-add}
+use Rattle.drive.proofs.Laws.Bytes.{length-zeros, zeros-add, sector-front, sector-after}
 use Rattle.drive.proofs.Laws.Moves.{take-gathered-pending}
 use Rattle.history.specs.Types.{Fragment, Disc}
 use Rattle.history.specs.Account.{Extent, sectorAt, Account, written, zeroed, missing, flushed}
 use Rattle.history.proofs.Laws.Regions.{region, length-region, Grows, grownMedium, grown-here, grown-else, grown-region, kept-region, same-region}
 
--- sectors in front of others and after them, and sectors of zeros
-pub sector-front : (l x : List ℕ) (c i : ℕ) → length l ≡ 2048 * c → i < c → sectorAt i (l ++ x) ≡ sectorAt i l
-sector-front l x c i size h =
-    ap (take 2048) (drop-append-le (2048 * i) l x (omega (arith, size)))
-    ∙ take-append-le 2048 (drop (2048 * i) l) x (omega (arith, size, length-drop (2048 * i) l))
-
-sector-after : (l x : List ℕ) (c i : ℕ) → length l ≡ 2048 * c → sectorAt (c + i) (l ++ x) ≡ sectorAt i x
-sector-after l x c i size =
-    let place : 2048 * (c + i) ≡ length l + 2048 * i = omega (arith, size) in
-    ap (λ (n : ℕ). take 2048 (drop n (l ++ x))) place ∙ ap (take 2048) (drop-append-add l x (2048 * i))
-
+-- a sector of zeros
 sector-zeros : (n i : ℕ) → i < n → sectorAt i (zeros (2048 * n)) ≡ zeros 2048
 sector-zeros n i h =
     let rest = 2048 * n - (2048 * i + 2048) in

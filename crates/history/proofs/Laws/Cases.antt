@@ -1,47 +1,49 @@
 -- The cases, each from a statement and not from its proof: whoever weakens `Demand3`, `KeptAccount` or a word that they use loses one.
-use Prim.Native.Nat.{ℕ, _+_, _*_, _/_, _≤_, _<_}
+use Prim.Native.Nat.{ℕ, zero, suc, _+_, _*_, _/_, _≤_, _<_}
 use mathlib.Core.Path.{_≡_, refl, sym, ap, _∙_, subst}
-use mathlib.Core.Bool.{true, false}
+use mathlib.Core.Bool.{Bool, true, false, _||_}
 use mathlib.Core.Logic.{_⊎_, inl, inr}
 use mathlib.Core.List.{List, [], _∷_, _++_, map, append-nil}
 use native.Mathlib.Omega.{arith}
-use borrow.Author.Tests.{le-leb, lt-ltb}
-use lib.Dec.{ltb}
+use borrow.Author.Tests.{leb-true, le-leb, lt-ltb}
+use lib.Dec.{leb, ltb}
 use lib.ListN.{length, getD, replicate, length-replicate, length-append}
 use Rattle.fragments.specs.Address.{lba}
 use Rattle.protocol.specs.Answer.{isRefusalSense, allowedSense}
 use Rattle.disc.specs.Blank.{inRange, blank}
 use Rattle.disc.proofs.Laws.Blank.{range-most}
+use Rattle.fragments.proofs.Laws.Bool.{and-left, contradiction}
 use Rattle.protocol.specs.Command.{decode}
 use Rattle.fragments.specs.Fragment.{fragment, holdsRecorded}
-use Rattle.disc.specs.Records.{pendingIn, records, numbered, readable, atAddress}
+use Rattle.disc.specs.Records.{pendingIn, records, numbered, isRecorded, atAddress}
 use Rattle.fragments.specs.List.{listed, some, every, find, sumRecorded}
 use Rattle.disc.specs.Sound.{usedFirst, firstAtZero, followsFrom, inOrder, endsWithin, recordedWithin, zeroedWithin, incompleteLast, tailLast, tailOrFull, pendingNamed, finalizedComplete, sound, allowedState}
 use Rattle.protocol.specs.Lengths.{dataLength, replyRoom, lengthsFit}
 use Rattle.commands.specs.Flush.{flush, flushPlan, synchronizeCache}
-use Rattle.commands.specs.Read.{allReadable, read}
+use Rattle.commands.specs.Read.{allReadable, mediumShare, sending, read}
 use Rattle.commands.specs.Write.{flushOthers, flushOthersPlan, gather, writeTo, writeFound, write}
 use Rattle.commands.specs.Reserve.{splitTail, reserve}
 use Rattle.reporting.specs.Reports.{nextWritableOrZero, freeSectors, trackVerdict, trackFound, trackNumbered, readTrackInformation}
 use Rattle.protocol.specs.Reports.{trackBytes}
 use Rattle.commands.specs.Judge.{perform, judgeCommand, judge}
 use Rattle.disc.specs.Verdict.{accepted, accept, refuse}
+use Rattle.outcomes.specs.Recorded.{among}
 use Rattle.drive.specs.Bytes.{zeros}
-use Rattle.drive.specs.Step.{Drive, Request, request}
+use Rattle.drive.specs.Step.{Drive, Request}
 use Rattle.drive.specs.Requests.{WriteOf, ReadOf}
 use Rattle.drive.specs.Alike.{recordedByte, pendingSectors, Alike}
-use Rattle.history.specs.Types.{Disc, Appended, Answer, Accepted, Drive as byDrive, DriveRefusal, BlankCheck, EndOfUserArea, LinkRefusal, CommandBlockLength, MediumSize, UnsoundState, TransferLength, Number}
+use Rattle.history.specs.Types.{Disc, Appended, Answer, Accepted, Drive as byDrive, DriveRefusal, BlankCheck, EndOfUserArea, LinkRefusal, CommandBlockLength, MediumSize, UnsoundState, TransferLength, Number, Read}
 use Rattle.history.specs.Sequence.{Start, Turn, Told, found, requests, result, final, Admissible, Undisturbed, AllAccepted, blocksOf}
 use Rattle.history.specs.Cut.{Parts, none, part, CutOf, SameCommand, Again, ends, same, cut, Agreeing}
 use Rattle.history.specs.Demand.{Demand3}
-use Rattle.history.specs.Account.{Account, opened, extentOf, sectorAt, written, flushed, credited, noted, account, contentAt, recordedAt}
+use Rattle.history.specs.Account.{Account, opened, extentOf, sectorAt, written, flushed, credited, noted, account, contentAt, recordedAt, pendingAt, readableAt}
 use Rattle.history.specs.Kept.{Keeps, KeptAccount}
 use Rattle.history.specs.Brought.{Written, writeOf, acceptedWrite, writes, broughtTo, sole, ReadBack, broughtInto, ListedKeeps, KeptAsListed}
 use Rattle.history.specs.Past.{RecordedByHistory}
 use Rattle.history.specs.Stale.{Change, unchanged, Given, after, turn, given}
 use Rattle.history.specs.Examples.{writeCdb}
 use Rattle.history.specs.Witness.{Shape, shape, discAfter}
-use Rattle.history.specs.Cases.{answers, replies, counts, Flash, blankOver, Log, firstFive, nextThirteen, writing, asking, reading, flushing, newer, older, earliest, early, TwoControllers, ByteForByte, BlockStays, reserving, inTwo, Fitting, afterAll, Reader, Requested, CasesOn, FirstWrite, Cases}
+use Rattle.history.specs.Cases.{answers, replies, counts, Flash, blankOver, Log, firstFive, nextThirteen, writing, asking, reading, readingSome, flushing, newer, older, earliest, early, TwoControllers, ByteForByte, BlockStays, reserving, inTwo, Fitting, afterAll, Reader, Requested, CasesOn, FirstWrite, Cases}
 use Rattle.history.specs.Wide.{partsOf, total, nameable}
 use Rattle.history.proofs.Laws.Parts.{write-request}
 use Rattle.history.proofs.Laws.Demand.{demand-3}
@@ -50,7 +52,7 @@ use Rattle.history.proofs.Laws.ReadBack.{read-back, kept-as-listed}
 use Rattle.history.proofs.Laws.Recalled.{recorded-by-history}
 use Rattle.history.proofs.Laws.Stale.{turn-alike, given-admissible, given-requests, given-undisturbed}
 use Rattle.history.proofs.Laws.Wide.{parts-cut, wide}
-use Rattle.history.proofs.Laws.Decided.{decisions, accountBy, shapes, known-answers, known-disc, known-content, known-recorded}
+use Rattle.history.proofs.Laws.Decided.{decisions, accountBy, shapes, known-answers, known-disc, known-content, known-recorded, known-waiting}
 
 -- there is flash, and there is a log, of any byte
 pub some-flash : (c x : ℕ) → Flash c
@@ -133,7 +135,7 @@ same-again q u b x r = record { cdb = b; payload = x; room = r }
 -- the shapes of the newer controller's commands
 abbrev newerShapes : List Shape
 newerShapes =
-    shape (writeCdb 0 5) 10240 0 ∷ shape (asking 0 .cdb) 0 36 ∷ shape (writeCdb 5 13) 26624 0 ∷ shape (reading 0 0 .cdb) 0 32768
+    shape (writeCdb 0 5) 10240 0 ∷ shape (asking 0 .cdb) 0 36 ∷ shape (writeCdb 5 13) 26624 0 ∷ shape (reading 2 0 .cdb) 0 32768
     ∷ shape (flushing .cdb) 0 0 ∷ shape (reading 32 0 .cdb) 0 32768 ∷ shape (writeCdb 32 3) 6144 0 ∷ []
 
 abbrev newerAnswers : List Answer
@@ -150,7 +152,7 @@ unfolding given
 newer-shapes s l x j =
     λ i.
     shape (writeCdb 0 5) (five-length l i) 0 ∷ shape (asking 0 .cdb) 0 (length-replicate {A = ℕ} 36 x i)
-    ∷ shape (writeCdb 5 13) (thirteen-length l i) 0 ∷ shape (reading 0 0 .cdb) 0 (length-replicate {A = ℕ} 32768 x i)
+    ∷ shape (writeCdb 5 13) (thirteen-length l i) 0 ∷ shape (reading 2 0 .cdb) 0 (length-replicate {A = ℕ} 32768 x i)
     ∷ shape (flushing .cdb) 0 0 ∷ shape (reading 32 0 .cdb) 0 (length-replicate {A = ℕ} 32768 x i) ∷ shape (writeCdb 32 3) (l .sixLength i) 0 ∷ []
 
 earliest-shapes : (s : Drive) (l : Log) (j : ℕ → Change) → shapes (given (earliest l j) s) ≡ earliestShapes
@@ -191,26 +193,34 @@ record Computed (c : ℕ) : Type 0 where
   firstFigures :
       (numbered (listOf c earliestShapes) 1 .recorded ≡ 0) × (numbered (listOf c earliestShapes) 1 .zeroed ≡ 0) × (pendingIn (listOf c earliestShapes) 1 ≡ 5)
   held : (listOf c earlyShapes .pending ≡ 2) × (listOf c newerShapes .pending ≡ 3)
-  beyond : readable (listOf c newerShapes) (lba 32) ≡ false
+  beyond : isRecorded (listOf c newerShapes) (lba 32) ≡ false
+  size : listOf c newerShapes .capacity ≡ c
   first : extentOf (listOf c newerShapes) 1 .first ≡ 0
-  earlyPlaces : (atAddress (listOf c earlyShapes) (lba 3) ≡ Number 1) × (atAddress (listOf c earlyShapes) (lba 7) ≡ Number 1)
+  earlyPlaces :
+      (atAddress (listOf c earlyShapes) (lba 3) ≡ Number 1) × (atAddress (listOf c earlyShapes) (lba 7) ≡ Number 1)
+      × (atAddress (listOf c earlyShapes) (lba 17) ≡ Number 1)
   newerPlaces :
       (atAddress (listOf c newerShapes) (lba 17) ≡ Number 1) × (atAddress (listOf c newerShapes) (lba 18) ≡ Number 1)
       × (atAddress (listOf c newerShapes) (lba 31) ≡ Number 1) × (atAddress (listOf c newerShapes) (lba 32) ≡ Number 1)
-      × (atAddress (listOf c newerShapes) (lba 16) ≡ Number 1)
+      × (atAddress (listOf c newerShapes) (lba 33) ≡ Number 1) × (atAddress (listOf c newerShapes) (lba 34) ≡ Number 1)
+      × (atAddress (listOf c newerShapes) (lba 35) ≡ Number 1)
   earlyContent :
       (s : Drive) (l : Log) (x : ℕ) (j : ℕ → Change)
       → (accountOf c (given (early l x j) s) earlyShapes .content 3 ≡ sectorAt 3 (firstFive l))
       × (accountOf c (given (early l x j) s) earlyShapes .content 7 ≡ sectorAt 2 (nextThirteen l))
+      × (accountOf c (given (early l x j) s) earlyShapes .content 17 ≡ sectorAt 12 (nextThirteen l))
   newerContent :
       (s : Drive) (l : Log) (x : ℕ) (j : ℕ → Change)
       → (accountOf c (given (newer l x j) s) newerShapes .content 17 ≡ sectorAt 12 (nextThirteen l))
       × (accountOf c (given (newer l x j) s) newerShapes .content 18 ≡ zeros 2048)
-  newerRecorded : (s : Drive) (l : Log) (x : ℕ) (j : ℕ → Change) → accountOf c (given (newer l x j) s) newerShapes .recorded ≡ 32
+      × (accountOf c (given (newer l x j) s) newerShapes .content 33 ≡ sectorAt 1 (l .six))
+  newerFigures :
+      (s : Drive) (l : Log) (x : ℕ) (j : ℕ → Change)
+      → (accountOf c (given (newer l x j) s) newerShapes .recorded ≡ 32) × (accountOf c (given (newer l x j) s) newerShapes .pending ≡ 3)
 
 -- on the smallest disc and on the largest
 computed : Computed 256 × Computed 143444
-unfolding decisions discAfter accountBy given noted credited written flushed splitTail reserve decode listed some every find sumRecorded usedFirst firstAtZero followsFrom inOrder endsWithin recordedWithin zeroedWithin incompleteLast tailLast tailOrFull pendingNamed finalizedComplete sound allowedState isRefusalSense allowedSense blank dataLength replyRoom lengthsFit accepted accept refuse flush flushPlan synchronizeCache allReadable read flushOthers flushOthersPlan gather writeTo writeFound write nextWritableOrZero freeSectors trackBytes trackVerdict trackFound trackNumbered readTrackInformation perform judgeCommand judge
+unfolding decisions discAfter accountBy given noted credited written flushed splitTail reserve decode listed some every find sumRecorded usedFirst firstAtZero followsFrom inOrder endsWithin recordedWithin zeroedWithin incompleteLast tailLast tailOrFull pendingNamed finalizedComplete sound allowedState isRefusalSense allowedSense blank dataLength replyRoom lengthsFit accepted accept refuse flush flushPlan synchronizeCache allReadable mediumShare sending read flushOthers flushOthersPlan gather writeTo writeFound write nextWritableOrZero freeSectors trackBytes trackVerdict trackFound trackNumbered readTrackInformation perform judgeCommand judge
 computed = (
   record {
     range = refl;
@@ -224,12 +234,13 @@ computed = (
     firstFigures = (refl, refl, refl);
     held = (refl, refl);
     beyond = refl;
+    size = refl;
     first = refl;
-    earlyPlaces = (refl, refl);
-    newerPlaces = (refl, refl, refl, refl, refl);
-    earlyContent = λ s l x j. (refl, refl);
-    newerContent = λ s l x j. (refl, refl);
-    newerRecorded = λ s l x j. refl;
+    earlyPlaces = (refl, refl, refl);
+    newerPlaces = (refl, refl, refl, refl, refl, refl, refl);
+    earlyContent = λ s l x j. (refl, refl, refl);
+    newerContent = λ s l x j. (refl, refl, refl);
+    newerFigures = λ s l x j. (refl, refl);
   },
   record {
     range = refl;
@@ -243,18 +254,19 @@ computed = (
     firstFigures = (refl, refl, refl);
     held = (refl, refl);
     beyond = refl;
+    size = refl;
     first = refl;
-    earlyPlaces = (refl, refl);
-    newerPlaces = (refl, refl, refl, refl, refl);
-    earlyContent = λ s l x j. (refl, refl);
-    newerContent = λ s l x j. (refl, refl);
-    newerRecorded = λ s l x j. refl;
+    earlyPlaces = (refl, refl, refl);
+    newerPlaces = (refl, refl, refl, refl, refl, refl, refl);
+    earlyContent = λ s l x j. (refl, refl, refl);
+    newerContent = λ s l x j. (refl, refl, refl);
+    newerFigures = λ s l x j. (refl, refl);
   },
 )
 
-tail-readable : (d : Disc) (c w z a : ℕ) → records d ≡ fragment 1 0 c w z Appended ∷ [] → a < 16 * w → readable d (lba a) ≡ true
+tail-recorded : (d : Disc) (c w z a : ℕ) → records d ≡ fragment 1 0 c w z Appended ∷ [] → a < 16 * w → isRecorded d (lba a) ≡ true
 unfolding some
-tail-readable d c w z a e h =
+tail-recorded d c w z a e h =
     ap (some (holdsRecorded (lba a))) e ∙ rw (le-leb (16 * 0) a (omega arith), lt-ltb a (16 * (0 + w)) (omega (arith, h)))
 
 module _ (c : ℕ) (m : Computed c) (s : Drive) (start : Start c s) (l : Log) (x : ℕ) (j : ℕ → Change) where
@@ -272,14 +284,14 @@ module _ (s e : Drive) (l : Log) (x y : ℕ) (j k : ℕ → Change) where
 
   abbrev rest₁ : List Given
   rest₁ =
-      after (k 3) (asking y) ∷ after (k 4) (writing 5 3 (l .four)) ∷ after (k 5) (writing 8 10 (l .five)) ∷ after (k 6) (reading 0 y)
+      after (k 3) (asking y) ∷ after (k 4) (writing 5 3 (l .four)) ∷ after (k 5) (writing 8 10 (l .five)) ∷ after (k 6) (reading 2 y)
       ∷ after (k 7) flushing ∷ after (k 8) (reading 32 y) ∷ after (k 9) (writing 32 3 (l .six)) ∷ []
 
   abbrev parts₂ : List Given
   parts₂ = after (k 4) (writing 5 3 (l .four)) ∷ after (k 5) (writing 8 10 (l .five)) ∷ []
 
   abbrev rest₂ : List Given
-  rest₂ = after (k 6) (reading 0 y) ∷ after (k 7) flushing ∷ after (k 8) (reading 32 y) ∷ after (k 9) (writing 32 3 (l .six)) ∷ []
+  rest₂ = after (k 6) (reading 2 y) ∷ after (k 7) flushing ∷ after (k 8) (reading 32 y) ∷ after (k 9) (writing 32 3 (l .six)) ∷ []
 
   abbrev after₁ : Drive
   after₁ = final (given parts₁ e) e
@@ -298,7 +310,7 @@ module _ (s e : Drive) (l : Log) (x y : ℕ) (j k : ℕ → Change) where
       cut s _ _ (given parts₁ e) (given rest₁ after₁) _ one (cut-in-three l)
       (same _ _ _ _ _ (same-again (asking x) (asking y) refl refl (length-replicate {A = ℕ} 36 x ∙ sym (length-replicate {A = ℕ} 36 y)))
       (cut _ _ _ (given parts₂ told₁) (given rest₂ after₂) _ two (cut-in-two 5 3 10 13 (l .four) (l .five) (omega arith) (omega arith) refl (l .fourLength) (l .fiveLength))
-      (same _ _ _ _ _ (same-again (reading 0 x) (reading 0 y) refl refl (length-replicate {A = ℕ} 32768 x ∙ sym (length-replicate {A = ℕ} 32768 y)))
+      (same _ _ _ _ _ (same-again (reading 2 x) (reading 2 y) refl refl (length-replicate {A = ℕ} 32768 x ∙ sym (length-replicate {A = ℕ} 32768 y)))
       (same _ _ _ _ _ (same-again flushing flushing refl refl refl)
       (same _ _ _ _ _ (same-again (reading 32 x) (reading 32 y) refl refl (length-replicate {A = ℕ} 32768 x ∙ sym (length-replicate {A = ℕ} 32768 y)))
       (same _ _ _ _ _ (same-again (writing 32 3 (l .six)) (writing 32 3 (l .six)) refl refl refl) (ends _)))))
@@ -375,7 +387,7 @@ module _ (c : ℕ) (m : Computed c) (demand : Demand3) (f g : Flash c) (l : Log)
             sym
             (a .recorded i
             (ap (λ (d : Disc). recordedByte d i) newer-disc
-            ∙ tail-readable (listOf c newerShapes) c 2 14 (i / 2048) (m .newerList) (omega (arith, h))));
+            ∙ tail-recorded (listOf c newerShapes) c 2 14 (i / 2048) (m .newerList) (omega (arith, h))));
         pending = sym (a .pending);
       }
 
@@ -383,12 +395,12 @@ module _ (c : ℕ) (m : Computed c) (demand : Demand3) (f g : Flash c) (l : Log)
 unchanged-newer : (s : Drive) (l : Log) (x : ℕ) → Undisturbed (given (newer l x (λ i. unchanged)) s) s
 unchanged-newer s l x =
     given-undisturbed
-    (writing 0 5 (firstFive l) ∷ asking x ∷ writing 5 13 (nextThirteen l) ∷ reading 0 x ∷ flushing ∷ reading 32 x ∷ writing 32 3 (l .six) ∷ []) s
+    (writing 0 5 (firstFive l) ∷ asking x ∷ writing 5 13 (nextThirteen l) ∷ reading 2 x ∷ flushing ∷ reading 32 x ∷ writing 32 3 (l .six) ∷ []) s
 
 unchanged-older : (s : Drive) (l : Log) (x : ℕ) → Undisturbed (given (older l x (λ i. unchanged)) s) s
 unchanged-older s l x =
     given-undisturbed
-    (writing 0 2 (l .one) ∷ writing 2 1 (l .two) ∷ writing 3 2 (l .three) ∷ asking x ∷ writing 5 3 (l .four) ∷ writing 8 10 (l .five) ∷ reading 0 x
+    (writing 0 2 (l .one) ∷ writing 2 1 (l .two) ∷ writing 3 2 (l .three) ∷ asking x ∷ writing 5 3 (l .four) ∷ writing 8 10 (l .five) ∷ reading 2 x
     ∷ flushing ∷ reading 32 x ∷ writing 32 3 (l .six) ∷ []) s
 
 byte-for-byte :
@@ -404,7 +416,7 @@ byte-for-byte c m demand f l x y =
 
 -- a recorded block stays
 abbrev later : Log → ℕ → (ℕ → Change) → List Given
-later l x j = after (j 3) (reading 0 x) ∷ after (j 4) flushing ∷ after (j 5) (reading 32 x) ∷ after (j 6) (writing 32 3 (l .six)) ∷ []
+later l x j = after (j 3) (reading 2 x) ∷ after (j 4) flushing ∷ after (j 5) (reading 32 x) ∷ after (j 6) (writing 32 3 (l .six)) ∷ []
 
 newer-split :
     (s : Drive) (l : Log) (x : ℕ) (j : ℕ → Change)
@@ -424,7 +436,7 @@ block-stays c m demand f l x j i h =
     let d : final ts s .disc ≡ listOf c earlyShapes =
     known-disc c s (flash-start c f (m .range)) ts (given-admissible (early l x j) s) earlyShapes (early-shapes s l x j) in
     let here : recordedByte (final ts s .disc) i ≡ true =
-    ap (λ (d : Disc). recordedByte d i) d ∙ tail-readable (listOf c earlyShapes) c 1 0 (i / 2048) (m .earlyList) (omega (arith, h)) in
+    ap (λ (d : Disc). recordedByte d i) d ∙ tail-recorded (listOf c earlyShapes) c 1 0 (i / 2048) (m .earlyList) (omega (arith, h)) in
     let kept = demand .stays c s (flash-start c f (m .range)) ts us whole i here in (
       ap (λ (vs : List Turn). recordedByte (final vs s .disc) i) split ∙ kept .0,
       ap (λ (vs : List Turn). getD (final vs s .medium) i 0) split ∙ kept .1,
@@ -503,7 +515,7 @@ unfolding given
 late-shapes s a l x j =
     λ i.
     shape (writeCdb 0 5) (five-length l i) 0 ∷ shape (asking 0 .cdb) 0 (length-replicate {A = ℕ} 36 x i)
-    ∷ shape (writeCdb 5 13) (thirteen-length l i) 0 ∷ shape (reading 0 0 .cdb) 0 (length-replicate {A = ℕ} 32768 x i)
+    ∷ shape (writeCdb 5 13) (thirteen-length l i) 0 ∷ shape (reading 2 0 .cdb) 0 (length-replicate {A = ℕ} 32768 x i)
     ∷ shape (flushing .cdb) 0 0 ∷ shape (reading 32 0 .cdb) 0 (length-replicate {A = ℕ} 32768 x i) ∷ shape (writeCdb 32 3) (l .sixLength i) 0
     ∷ shape (reading a 0 .cdb) 0 (length-replicate {A = ℕ} 32768 x i) ∷ []
 
@@ -555,11 +567,11 @@ module _ (c : ℕ) (m : Computed c) (kept : KeptAccount) (f : Flash c) (l : Log)
   log-admissible = given-admissible (newer l x j) disc₀
 
   read-early :
-      (a : ℕ) → a < 16 → sectorAt a (getD (replies logTurns disc₀) 3 []) ≡ contentAt earlyTurns disc₀ (0 + a)
+      (a : ℕ) → a < 16 → sectorAt a (getD (replies logTurns disc₀) 3 []) ≡ contentAt earlyTurns disc₀ (2 + a)
   unfolding given final answers replies decode
   read-early a h =
       let r = final earlyTurns disc₀ in
-      kept .back c disc₀ start₀ earlyTurns early-admissible (turn (after (j 3) (reading 0 x)) r) (turn-alike (after (j 3) (reading 0 x)) r) (lba 0) 16 refl
+      kept .back c disc₀ start₀ earlyTurns early-admissible (turn (after (j 3) (reading 2 x)) r) (turn-alike (after (j 3) (reading 2 x)) r) (lba 2) 16 refl
       (newer-answer c m disc₀ start₀ l x j 3) a h
 
   read-late :
@@ -578,16 +590,52 @@ module _ (c : ℕ) (m : Computed c) (kept : KeptAccount) (f : Flash c) (l : Log)
   log-recorded : (a : ℕ) → atAddress (listOf c newerShapes) (lba a) ≡ Number 1 → recordedAt logTurns disc₀ a ≡ ltb a 32
   log-recorded a e =
       known-recorded c disc₀ start₀ logTurns log-admissible newerShapes (newer-shapes disc₀ l x j) a 1 e
-      ∙ (ap (λ (b : ℕ). ltb a (b + accountOf c logTurns newerShapes .recorded)) (m .first) ∙ ap (λ (b : ℕ). ltb a (0 + b)) (m .newerRecorded disc₀ l x j))
+      ∙ (ap (λ (b : ℕ). ltb a (b + accountOf c logTurns newerShapes .recorded)) (m .first) ∙ ap (λ (b : ℕ). ltb a (0 + b)) (m .newerFigures disc₀ l x j .0))
 
-  log-readable : (a : ℕ) → atAddress (listOf c newerShapes) (lba a) ≡ Number 1 → readable (logEnd .disc) (lba a) ≡ ltb a 32
-  log-readable a e = kept .recorded c disc₀ start₀ logTurns log-admissible a ∙ log-recorded a e
+  log-on-medium : (a : ℕ) → atAddress (listOf c newerShapes) (lba a) ≡ Number 1 → isRecorded (logEnd .disc) (lba a) ≡ ltb a 32
+  log-on-medium a e = kept .recorded c disc₀ start₀ logTurns log-admissible a ∙ log-recorded a e
 
-  one-read : ReadOf (request (0x28 ∷ 0 ∷ 0 ∷ 0 ∷ 0 ∷ 16 ∷ 0 ∷ 0 ∷ 1 ∷ 0 ∷ 0 ∷ 0 ∷ []) [] (replicate 2048 x)) (lba 16) 1
+  log-waiting : (a : ℕ) → atAddress (listOf c newerShapes) (lba a) ≡ Number 1 → pendingAt logTurns disc₀ a ≡ among 32 3 a
+  log-waiting a e =
+      let k = accountOf c logTurns newerShapes in
+      known-waiting c disc₀ start₀ logTurns log-admissible newerShapes (newer-shapes disc₀ l x j) a 1 e
+      ∙ (ap (λ (b : ℕ). among (b + k .recorded) (k .pending) a) (m .first)
+      ∙ (ap (λ (b : ℕ). among (0 + b) (k .pending) a) (m .newerFigures disc₀ l x j .0) ∙ ap (λ (b : ℕ). among 32 b a) (m .newerFigures disc₀ l x j .1)))
+
+  log-readable : (a : ℕ) → atAddress (listOf c newerShapes) (lba a) ≡ Number 1 → readableAt logTurns disc₀ a ≡ (ltb a 32 || among 32 3 a)
+  log-readable a e =
+      ap (λ (b : Bool). b || pendingAt logTurns disc₀ a) (log-recorded a e) ∙ ap (λ (b : Bool). ltb a 32 || b) (log-waiting a e)
+
+  some-read : (n : ℕ) → decode (readingSome 31 n x .cdb) ≡ Read (lba 31) n → ReadOf (readingSome 31 n x) (lba 31) n
+  some-read n e =
+      let size = length-replicate {A = ℕ} (2048 * n) x in
+      record { cdb = refl; command = e; payload = refl; room = omega (arith, size) }
+
+  log-reads :
+      (n : ℕ) → decode (readingSome 31 n x .cdb) ≡ Read (lba 31) n → 1 ≤ n → n ≤ 5
+      → (((i : ℕ) → i < n → readableAt logTurns disc₀ (31 + i) ≡ true) → afterAll logTurns disc₀ (after (j 7) (readingSome 31 n x)) .answer ≡ Accepted)
+      × (afterAll logTurns disc₀ (after (j 7) (readingSome 31 n x)) .answer ≡ Accepted → (i : ℕ) → i < n → readableAt logTurns disc₀ (31 + i) ≡ true)
+  log-reads n e some few =
+      let g = after (j 7) (readingSome 31 n x) in
+      let size = ap (λ (d : Disc). d .capacity) (known-disc c disc₀ start₀ logTurns log-admissible newerShapes (newer-shapes disc₀ l x j)) ∙ m .size in
+      let least = leb-true 256 c (and-left (leb 256 c) (leb c 143444) (m .range)) in
+      kept .readable c disc₀ start₀ logTurns log-admissible (turn g logEnd) (turn-alike g logEnd) (lba 31) n (some-read n e) some
+      (omega (arith, size, least, few))
+
+  up-to-last : (i : ℕ) → i < 4 → readableAt logTurns disc₀ (31 + i) ≡ true
+  up-to-last zero h = log-readable 31 (m .newerPlaces .2)
+  up-to-last (suc zero) h = log-readable 32 (m .newerPlaces .3)
+  up-to-last (suc (suc zero)) h = log-readable 33 (m .newerPlaces .4)
+  up-to-last (suc (suc (suc zero))) h = log-readable 34 (m .newerPlaces .5)
+  up-to-last (suc (suc (suc (suc i)))) h = absurd (omega (arith, h))
+
+  four-read : decode (readingSome 31 4 x .cdb) ≡ Read (lba 31) 4
   unfolding decode
-  one-read =
-      let size = length-replicate {A = ℕ} 2048 x in
-      record { cdb = refl; command = refl; payload = refl; room = omega (arith, size) }
+  four-read = refl
+
+  five-read : decode (readingSome 31 5 x .cdb) ≡ Read (lba 31) 5
+  unfolding decode
+  five-read = refl
 
   log-kept : Keeps (account 1 logTurns disc₀) (listOf c newerShapes) 1
   log-kept =
@@ -608,17 +656,21 @@ module _ (c : ℕ) (m : Computed c) (kept : KeptAccount) (f : Flash c) (l : Log)
       let n = m .figures in
       let o = m .firstFigures in
       record {
-        early = read-early 3 (omega arith) ∙ (early-known 3 (m .earlyPlaces .0) ∙ m .earlyContent disc₀ l x j .0);
-        second = read-early 7 (omega arith) ∙ (early-known 7 (m .earlyPlaces .1) ∙ m .earlyContent disc₀ l x j .1);
+        early = read-early 1 (omega arith) ∙ (early-known 3 (m .earlyPlaces .0) ∙ m .earlyContent disc₀ l x j .0);
+        second = read-early 5 (omega arith) ∙ (early-known 7 (m .earlyPlaces .1) ∙ m .earlyContent disc₀ l x j .1);
+        across = read-early 15 (omega arith) ∙ (early-known 17 (m .earlyPlaces .2) ∙ m .earlyContent disc₀ l x j .2);
         last = read-late 1 (omega arith) ∙ (log-known 17 (m .newerPlaces .0) ∙ m .newerContent disc₀ l x j .0);
         zeroed = read-late 2 (omega arith) ∙ (log-known 18 (m .newerPlaces .1) ∙ m .newerContent disc₀ l x j .1);
-        log = log-readable 17 (m .newerPlaces .0);
-        padding = log-readable 31 (m .newerPlaces .2);
-        beyond = log-readable 32 (m .newerPlaces .3);
-        accepted =
-            let r = request (0x28 ∷ 0 ∷ 0 ∷ 0 ∷ 0 ∷ 16 ∷ 0 ∷ 0 ∷ 1 ∷ 0 ∷ 0 ∷ 0 ∷ []) [] (replicate 2048 x) in
-            kept .readable c disc₀ start₀ logTurns log-admissible (turn (after (j 7) r) logEnd) (turn-alike (after (j 7) r) logEnd) (lba 16) one-read
-            (log-recorded 16 (m .newerPlaces .4));
+        log = log-on-medium 17 (m .newerPlaces .0);
+        padding = log-on-medium 31 (m .newerPlaces .2);
+        beyond = log-on-medium 32 (m .newerPlaces .3);
+        waiting = kept .pending c disc₀ start₀ logTurns log-admissible 34 ∙ log-waiting 34 (m .newerPlaces .5);
+        ended = kept .pending c disc₀ start₀ logTurns log-admissible 35 ∙ log-waiting 35 (m .newerPlaces .6);
+        held =
+            kept .held c disc₀ start₀ logTurns log-admissible 33 (log-waiting 33 (m .newerPlaces .4))
+            ∙ (log-known 33 (m .newerPlaces .4) ∙ m .newerContent disc₀ l x j .2);
+        accepted = log-reads 4 four-read (omega arith) (omega arith) .0 up-to-last;
+        beyondLast = λ t. contradiction (log-reads 5 five-read (omega arith) (omega arith) .1 t 4 (omega arith)) (log-readable 35 (m .newerPlaces .6));
         served =
             λ r q e.
             let w = kept .lengths c disc₀ start₀ logTurns log-admissible (turn (after (j 7) r) logEnd) (turn-alike (after (j 7) r) logEnd) q e in
@@ -675,7 +727,7 @@ module _ (c : ℕ) (m : Computed c) (back : ReadBack) (count : KeptAsListed) (hi
       bring : Answer → Answer → Answer → Answer → Answer → Answer → Answer → List Written
       bring a b o d e p q =
           acceptedWrite a (writing 0 5 (firstFive l)) ++ (acceptedWrite b (asking x) ++ (acceptedWrite o (writing 5 13 (nextThirteen l))
-          ++ (acceptedWrite d (reading 0 x) ++ (acceptedWrite e flushing ++ (acceptedWrite p (reading 32 x)
+          ++ (acceptedWrite d (reading 2 x) ++ (acceptedWrite e flushing ++ (acceptedWrite p (reading 32 x)
           ++ (acceptedWrite q (writing 32 3 (l .six)) ++ []))))))
 
   last-disc : end₁ .disc ≡ listOf c newerShapes
@@ -705,10 +757,10 @@ module _ (c : ℕ) (m : Computed c) (back : ReadBack) (count : KeptAsListed) (hi
             ∙ (ap (λ (d : Disc). d .pending) early-disc ∙ m .held .0);
         flushed =
             sym (history .recorded c disc₁ start₁ turns₁ admissible₁ 16)
-            ∙ (ap (λ (d : Disc). readable d (lba 16)) last-disc ∙ tail-readable (listOf c newerShapes) c 2 14 16 (m .newerList) (omega arith));
+            ∙ (ap (λ (d : Disc). isRecorded d (lba 16)) last-disc ∙ tail-recorded (listOf c newerShapes) c 2 14 16 (m .newerList) (omega arith));
         beyond =
             sym (history .recorded c disc₁ start₁ turns₁ admissible₁ 32)
-            ∙ (ap (λ (d : Disc). readable d (lba 32)) last-disc ∙ m .beyond);
+            ∙ (ap (λ (d : Disc). isRecorded d (lba 32)) last-disc ∙ m .beyond);
         late =
             sym (history .pending c disc₁ start₁ turns₁ admissible₁) ∙ (ap (λ (d : Disc). d .pending) last-disc ∙ m .held .1);
         outside = history .stale c disc₁ start₁ turns₁ admissible₁;

@@ -19,7 +19,7 @@ use Rattle.decisions.specs.Plan.{noPlan, plan}
 use Rattle.disc.specs.Verdict.{accepted, accept, refuse}
 use Rattle.protocol.specs.Reply.{noReply}
 use Rattle.commands.specs.Flush.{flush, flushPlan, synchronizeCache}
-use Rattle.commands.specs.Read.{allReadable, read}
+use Rattle.commands.specs.Read.{sending, read}
 use Rattle.commands.specs.Write.{flushOthers, flushOthersPlan, gather, Writable, writeTo, writeFound, write}
 use Rattle.commands.specs.Reserve.{splitTail, reserve}
 use Rattle.commands.specs.Close.{appendTail, closeIncomplete, closeFragment, hasIncompleteReserved, closeTail, openSession, closeSession, finalized, finalize, close}
@@ -33,6 +33,7 @@ use Rattle.disc.proofs.Laws.Rules.{sound-rules}
 use Rattle.disc.proofs.Laws.Sound.{none-pending, disjoint, incomplete-room, pending-in-few}
 use Rattle.commands.proofs.Laws.Flush.{flush-grows, flush-pending, flush-sound, flush-used, flush-capacity}
 use Rattle.commands.proofs.Laws.Write.{writable-found, others-numbered, others-pending, others-sound}
+use Rattle.commands.proofs.Laws.Read.{read-cases}
 use Rattle.commands.proofs.Laws.Reserve.{reserve-cases}
 use Rattle.commands.proofs.Laws.Close.{appended-last}
 use Rattle.commands.proofs.Laws.Session.{kept, kept-few, kept-pending}
@@ -40,7 +41,7 @@ use Rattle.outcomes.proofs.Laws.Keep.{write-room}
 use Rattle.outcomes.proofs.Laws.Outcome.{append-pending}
 use Rattle.drive.specs.Moves.{gatheredMedium, gatheredPending, flushedMedium, flushedPending, transferredMedium, transferredPending, movedMedium, movedPending}
 use Rattle.drive.proofs.Laws.Kept.{length-flushed-medium, length-flushed-pending}
-use Rattle.history.specs.Types.{Lba, Fragment, Kind, Reserved, Appended, Disc, Found, Number, Nowhere, Accepted, DriveRefusal, WriteProtected, InvalidFieldInCommand, AddressOutOfRange, BlankCheck, InvalidOperationCode, InvalidAddressForWrite, IncompleteTrackInSession, EmptyTrack, NoMoreReservations, EndOfUserArea, Reply, Plan, Verdict, Skip, Nothing, Send, Gather, Command, TestUnitReady, RequestSense, ReadCapacity, Read, Write, SynchronizeCache, ReserveTrack, CloseTrackSession, ReadDiscInformation, ReadTrackInformation, Unlisted}
+use Rattle.history.specs.Types.{Lba, Fragment, Kind, Reserved, Appended, Disc, Found, Number, Nowhere, Accepted, DriveRefusal, WriteProtected, InvalidFieldInCommand, AddressOutOfRange, InvalidOperationCode, InvalidAddressForWrite, IncompleteTrackInSession, EmptyTrack, NoMoreReservations, EndOfUserArea, Reply, Plan, Verdict, Skip, Nothing, Gather, Command, TestUnitReady, RequestSense, ReadCapacity, Read, Write, SynchronizeCache, ReserveTrack, CloseTrackSession, ReadDiscInformation, ReadTrackInformation, Unlisted}
 use Rattle.history.specs.Account.{Account, extentOf, written, zeroed, flushed, filled, credited}
 use Rattle.history.proofs.Laws.Account.{Holds, same-holds, zeroed-none, flushed-none}
 use Rattle.history.proofs.Laws.Recording.{holds-as, holds-at, flush-holds, others-own, others-else, gather-holds-own, gather-holds-else, fill-holds-own, fill-holds-else}
@@ -131,9 +132,9 @@ module _
     unfolding movedMedium movedPending flushedMedium flushedPending transferredMedium transferredPending
     noted-same l reply e = noted-accepted l d reply noPlan (λ f g. holds-as n refl refl refl e h)
 
-    noted-sent : (a : Lba) (count : ℕ) → Noted k (accept d d noReply (plan Skip (Send a count)))
-    unfolding movedMedium movedPending flushedMedium flushedPending transferredMedium transferredPending
-    noted-sent a count = noted-accepted k d noReply (plan Skip (Send a count)) (λ f g. h)
+    noted-sent : (a : Lba) (count : ℕ) → Noted k (accept d d noReply (plan Skip (sending d a count)))
+    unfolding movedMedium movedPending flushedMedium flushedPending transferredMedium transferredPending sending
+    noted-sent a count = noted-accepted k d noReply (plan Skip (sending d a count)) (λ f g. h)
 
     -- a flush and nothing else to the bytes; then perhaps a change of the list that records nothing
     noted-flush : (after : Disc) (reply : Reply) → SameCounts (flush d) after → after .pending ≡ 0
@@ -389,12 +390,7 @@ module _
     noted-synchronize = noted-flush (flush d) noReply (same-counts (flush d)) (flush-pending d)
 
     noted-read : (a : Lba) (count : ℕ) → Noted k (read d a count)
-    unfolding read
-    noted-read a count =
-        cond-cases (Noted k) (eqb count 0) _ _ (λ z. noted-same k noReply refl)
-        (λ z.
-        cond-cases (Noted k) (ltb (sectorsIn (d .capacity)) (a .0 + count)) _ _ (λ l. noted-refused k AddressOutOfRange)
-        (λ l. cond-cases (Noted k) (allReadable d a count) _ _ (λ t. noted-sent a count) (λ t. noted-refused k BlankCheck)))
+    noted-read a count = read-cases (Noted k) d a count (noted-same k noReply refl) (noted-refused k) (λ z l t. noted-sent a count)
 
     noted-track-found : (allocation : ℕ) (x : Found) → Noted k (trackFound d allocation x)
     unfolding trackFound trackVerdict

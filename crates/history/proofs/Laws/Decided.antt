@@ -9,12 +9,13 @@ use Rattle.fragments.specs.Address.{lba}
 use Rattle.disc.specs.Blank.{blank}
 use Rattle.commands.specs.Judge.{judge}
 use Rattle.disc.specs.Records.{atAddress}
+use Rattle.outcomes.specs.Recorded.{among}
 use Rattle.drive.specs.Step.{Drive, lent}
 use Rattle.drive.specs.Alike.{Alike}
 use Rattle.drive.proofs.Laws.Alike.{lent-after, step-judges}
 use Rattle.history.specs.Types.{Disc, Found, Number, Answer}
 use Rattle.history.specs.Sequence.{Start, Turn, found, result, final, Admissible, requests}
-use Rattle.history.specs.Account.{Account, opened, extentOf, noted, accountFrom, account, contentIn, recordedIn, contentAt, recordedAt}
+use Rattle.history.specs.Account.{Account, opened, extentOf, noted, accountFrom, account, contentIn, recordedIn, waitsIn, contentAt, recordedAt, pendingAt}
 use Rattle.history.specs.Witness.{Shape, shapeOf, discAfter}
 use Rattle.history.specs.Cases.{answers}
 use Rattle.history.proofs.Laws.Served.{start-lent}
@@ -109,3 +110,13 @@ module _ (c : ℕ) (s : Drive) (start : Start c s) (ts : List Turn) (h : Admissi
       ap (λ (x : Found). recordedIn ts s a x) (known-place a n e)
       ∙ (ap (λ (d : Disc). ltb a (extentOf d n .first + account n ts s .recorded)) known-disc
       ∙ ap (λ (k : Account). ltb a (extentOf (discAfter hs (blank c)) n .first + k .recorded)) (known-account n))
+
+  pub known-waiting :
+      (a n : ℕ) → atAddress (discAfter hs (blank c)) (lba a) ≡ Number n
+      → pendingAt ts s a
+      ≡ among (extentOf (discAfter hs (blank c)) n .first + accountBy n ts hs (blank c) opened .recorded) (accountBy n ts hs (blank c) opened .pending) a
+  unfolding waitsIn
+  known-waiting a n e =
+      ap (λ (x : Found). waitsIn ts s a x) (known-place a n e)
+      ∙ (ap (λ (d : Disc). among (extentOf d n .first + account n ts s .recorded) (account n ts s .pending) a) known-disc
+      ∙ ap (λ (k : Account). among (extentOf (discAfter hs (blank c)) n .first + k .recorded) (k .pending) a) (known-account n))

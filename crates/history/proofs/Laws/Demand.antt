@@ -6,7 +6,7 @@ use native.Mathlib.Omega.{arith}
 use lib.ListN.{take}
 use Rattle.disc.proofs.Laws.Blank.{blank-pending}
 use Rattle.fragments.specs.Address.{lba}
-use Rattle.commands.proofs.Laws.Read.{blank-unreadable}
+use Rattle.disc.proofs.Laws.Readable.{blank-unrecorded}
 use Rattle.drive.specs.Step.{Drive, Request, request, Result, verdictOn, carriedOut, step}
 use Rattle.drive.specs.Alike.{recordedByte, pendingSectors, Alike}
 use Rattle.drive.proofs.Laws.Alike.{AlikeResults, step-alike, alike-same, alike-back, alike-on}
@@ -26,7 +26,7 @@ start-alike c s e a b =
       disc = a .disc ∙ sym (b .disc);
       mediumLength = a .medium ∙ sym (b .medium);
       pendingLength = a .pending ∙ sym (b .pending);
-      recorded = λ i t. absurd (blank-unreadable c (lba (i / 2048)) (ap (λ (d : Disc). recordedByte d i) (sym (a .disc)) ∙ t));
+      recorded = λ i t. absurd (blank-unrecorded c (lba (i / 2048)) (ap (λ (d : Disc). recordedByte d i) (sym (a .disc)) ∙ t));
       pending = none s a ∙ sym (none e b);
     }
 

@@ -1,46 +1,48 @@
 -- The account and the drive over whole sequences: the kept count, and what is read is what was written.
 use Prim.Native.Nat.{ℕ, suc, zero, _+_, _-_, _*_, _/_, _≤_, _<_}
 use mathlib.Core.Path.{_≡_, refl, sym, ap, _∙_, subst}
-use mathlib.Core.Bool.{true}
+use mathlib.Core.Bool.{Bool, true, _||_}
 use mathlib.Core.List.{List, [], _∷_, _++_}
 use native.Mathlib.Omega.{arith}
 use borrow.Author.Tests.{leb-true, leb-false, ltb-true}
 use lib.Dec.{eqb, leb, ltb}
 use lib.ListN.{length, getD, take, drop, replicate, length-drop}
-use lib.Seq.{take-add, take-take, drop-at, drop-drop, length-take-le}
-use Rattle.fragments.specs.Address.{lba, block, firstSector, sectorsIn}
+use lib.Seq.{length-take-le}
+use Rattle.fragments.specs.Address.{lba, firstSector, sectorsIn, leftOver}
 use Rattle.protocol.specs.Answer.{refusalSense}
 use Rattle.disc.specs.Blank.{blank}
 use Rattle.protocol.specs.Command.{decode}
 use Rattle.fragments.specs.Fragment.{unusedRecord}
-use Rattle.disc.specs.Records.{pendingIn, used, numbered, withSense, atAddress, readable}
+use Rattle.disc.specs.Records.{pendingIn, used, numbered, withSense, atAddress, isRecorded, isPending, isReadable}
 use Rattle.fragments.specs.List.{limit}
 use Rattle.disc.specs.Rules.{at, Sound}
 use Rattle.outcomes.specs.Lent.{Fits}
-use Rattle.commands.specs.Read.{read}
+use Rattle.outcomes.specs.Recorded.{among}
 use Rattle.commands.specs.Judge.{perform}
-use Rattle.outcomes.proofs.Laws.Accepts.{accepted-read}
-use Rattle.fragments.proofs.Laws.Bool.{by-cases, cond-yes, cond-no}
+use Rattle.fragments.proofs.Laws.Bool.{by-cases, or-right, or-cases, contradiction, cond-yes, cond-no}
 use Rattle.commands.proofs.Laws.Judge.{allowed-ready}
-use Rattle.outcomes.proofs.Laws.Judge.{perform-read, decided-performed}
-use Rattle.commands.proofs.Laws.Read.{readable-cases, recorded-below, held-readable, Located, located, located-readable, nowhere-unreadable}
+use Rattle.outcomes.proofs.Laws.Judge.{decided-performed}
+use Rattle.outcomes.proofs.Laws.Recorded.{among-from, among-below}
+use Rattle.disc.proofs.Laws.Readable.{held-recorded, Located, located, located-recorded, located-pending, nowhere-unreadable, nowhere-unrecorded}
 use Rattle.disc.proofs.Laws.Rules.{sound-rules}
+use Rattle.disc.proofs.Laws.Sound.{pending-in-few}
 use Rattle.fragments.proofs.Laws.Numbers.{equal-cases}
 use Rattle.drive.specs.Alike.{Alike}
 use Rattle.drive.specs.Requests.{ReadOf}
 use Rattle.drive.specs.Step.{Drive, Request, Result, verdictOn, carriedOut, step}
 use Rattle.drive.proofs.Laws.Agree.{agree-run}
+use Rattle.drive.proofs.Laws.Bytes.{run-in-run, run-in-front, sector-front, sector-after}
 use Rattle.drive.proofs.Laws.Alike.{step-link, step-refused}
 use Rattle.drive.proofs.Laws.Cut.{Served, served-after, served-alike}
-use Rattle.drive.proofs.Laws.Reads.{recorded-accepted, read-reply}
-use Rattle.drive.proofs.Laws.Step.{verdict-decided, verdict-judges, lent-medium, judgement}
+use Rattle.drive.proofs.Laws.Reads.{readable-accepted, accepted-readable, sectorOf, read-readable, read-sector}
+use Rattle.drive.proofs.Laws.Step.{verdict-decided, verdict-judges, lent-medium, lent-pending, judgement}
 use Rattle.history.specs.Types.{Lba, Fragment, Disc, Found, Number, Nowhere, Answer, Accepted, Link, Drive as byDrive, Read, Verdict}
 use Rattle.history.specs.Sequence.{Start, Turn, found, result, final, Admissible}
-use Rattle.history.specs.Account.{Account, opened, extentOf, credited, noted, accountFrom, account, sectorAt, contentIn, recordedIn, contentAt, recordedAt}
+use Rattle.history.specs.Account.{Account, opened, extentOf, credited, noted, accountFrom, account, sectorAt, contentIn, recordedIn, waitsIn, contentAt, recordedAt, pendingAt, readableAt}
 use Rattle.history.specs.Kept.{Keeps, KeptAccount}
 use Rattle.history.proofs.Laws.Served.{start-served, sequence-served, only-lengths-refused}
 use Rattle.history.proofs.Laws.Regions.{region, unlisted-none}
-use Rattle.history.proofs.Laws.Account.{Holds, same-holds, sector-front}
+use Rattle.history.proofs.Laws.Account.{Holds, same-holds}
 use Rattle.history.proofs.Laws.Credit.{noted-performed}
 
 abbrev pub HoldsOn : Drive → ℕ → Account → Type 0
@@ -90,7 +92,7 @@ region-alike s t n sound w one a =
     agree-run (s .medium) (t .medium) (32768 * b) (32768 * c) (omega (arith, ends, most, whole)) (a .mediumLength)
     (λ i from below.
     a .recorded i
-    (held-readable d (lba (i / 2048))
+    (held-recorded d (lba (i / 2048))
     (record { index = n - 1; listed = omega arith; from = omega (arith, from); below = omega (arith, below) }))))
     (λ l.
     let none = unlisted-none d n sound (leb-false n (used d) l) in
@@ -162,17 +164,17 @@ sequence-holds (t ∷ ts) s h w n one k g =
     sequence-holds ts (result t s .after) (h .1) (served-after (found t s) (t .request) here) n one _
     (answer-holds (found t s) (t .request) n k here one (found-holds s t n k w one (h .0) g) (result t s .answer) refl)
 
--- a sector in a run, as the sector of the whole
-sector-in-run :
-    (l : List ℕ) (a w b : ℕ) → b + 2048 ≤ w → a + b ≤ length l → take 2048 (drop b (take w (drop a l))) ≡ take 2048 (drop (a + b) l)
-sector-in-run l a w b h k =
-    let rest = drop a l in
-    let split : b + (w - b) ≡ w = omega arith in
-    let front : length (take b rest) ≡ b = length-take-le b rest (omega (arith, length-drop a l)) in
-    ap (λ (n : ℕ). take 2048 (drop b (take n rest))) (sym split)
-    ∙ (ap (λ (x : List ℕ). take 2048 (drop b x)) (take-add b (w - b) rest)
-    ∙ (ap (take 2048) (drop-at (take b rest) (take (w - b) (drop b rest)) b front)
-    ∙ (take-take 2048 (w - b) (drop b rest) (omega arith) ∙ ap (take 2048) (drop-drop b a l))))
+-- the bytes of a fragment's recorded blocks
+region-length :
+    (s : Drive) (n a : ℕ) → Sound (s .disc) → Served s → Located (s .disc) a n
+    → length (region (s .disc) (s .medium) n) ≡ 2048 * (16 * numbered (s .disc) n .recorded)
+region-length s n a sound w x =
+    let f = numbered (s .disc) n in
+    let ends = sound .ends (n - 1) (omega (arith, x .from, x .listed)) in
+    let most = sound .recorded (n - 1) (omega (arith, x .from, x .listed)) in
+    let whole = lent-medium (s .disc) (length (s .medium)) (length (s .pending)) (w .lends) in
+    length-take-le (32768 * f .recorded) (drop (32768 * f .start .0) (s .medium))
+    (omega (arith, length-drop (32768 * f .start .0) (s .medium), whole, ends, most)) ∙ omega arith
 
 -- a recorded sector is what the account has at its address
 content-sector :
@@ -183,22 +185,40 @@ content-sector s n a k sound w h x below =
     let d = s .disc in
     let f = numbered d n in
     let i = a - 16 * f .start .0 in
-    let r = region d (s .medium) n in
-    let p = take (2048 * pendingIn d n) (s .pending) in
     let ends = sound .ends (n - 1) (omega (arith, x .from, x .listed)) in
     let most = sound .recorded (n - 1) (omega (arith, x .from, x .listed)) in
     let whole = lent-medium d (length (s .medium)) (length (s .pending)) (w .lends) in
-    let size : length r ≡ 2048 * (16 * f .recorded) =
-    length-take-le (32768 * f .recorded) (drop (32768 * f .start .0) (s .medium))
-    (omega (arith, length-drop (32768 * f .start .0) (s .medium), whole, ends, most)) ∙ omega arith in
     let index : i < 16 * f .recorded = omega (arith, x .first, below) in
     let address : a ≡ 16 * f .start .0 + i = omega (arith, x .first) in
     let place : 32768 * f .start .0 + 2048 * i ≡ 2048 * a = omega (arith, x .first) in
     ap (k .content) address
     ∙ (h .content i (omega (arith, index, h .recorded))
-    ∙ (sector-front r p (16 * f .recorded) i size index
-    ∙ (sector-in-run (s .medium) (32768 * f .start .0) (32768 * f .recorded) (2048 * i) (omega (arith, index)) (omega (arith, whole, ends, most, index))
+    ∙ (sector-front (region d (s .medium) n) (take (2048 * pendingIn d n) (s .pending)) (16 * f .recorded) i (region-length s n a sound w x) index
+    ∙ (run-in-run (s .medium) (32768 * f .start .0) (32768 * f .recorded) (2048 * i) 2048 (omega (arith, index)) (omega (arith, whole, ends, most, index))
     ∙ ap (λ (b : ℕ). take 2048 (drop b (s .medium))) place)))
+
+-- and so is a pending one, at its place in the pending buffer
+content-pending :
+    (s : Drive) (n a : ℕ) (k : Account) → Sound (s .disc) → Served s → HoldsOn s n k → Located (s .disc) a n
+    → (let e = firstSector (numbered (s .disc) n .start) .0 + 16 * numbered (s .disc) n .recorded in among e (pendingIn (s .disc) n) a ≡ true)
+    → k .content a ≡ sectorAt (leftOver a) (s .pending)
+content-pending s n a k sound w h x waits =
+    let d = s .disc in
+    let f = numbered d n in
+    let held = pendingIn d n in
+    let e = firstSector (f .start) .0 + 16 * f .recorded in
+    let j = a - e in
+    let from = among-from e held a waits in
+    let below = among-below e held a waits in
+    let few = pending-in-few d sound n in
+    let block = lent-pending d (length (s .medium)) (length (s .pending)) (w .lends) in
+    let address : a ≡ 16 * f .start .0 + (16 * f .recorded + j) = omega (arith, from) in
+    let place : j ≡ leftOver a = omega (arith, from, below, few) in
+    ap (k .content) address
+    ∙ (h .content (16 * f .recorded + j) (omega (arith, from, below, h .recorded, h .pending))
+    ∙ (sector-after (region d (s .medium) n) (take (2048 * held) (s .pending)) (16 * f .recorded) j (region-length s n a sound w x)
+    ∙ (run-in-front (s .pending) (2048 * held) (2048 * j) 2048 (omega (arith, from, below)) (omega (arith, block, from, below, few))
+    ∙ ap (λ (b : ℕ). sectorAt b (s .pending)) place)))
 
 -- at every point of a sequence from a start
 module _ (c : ℕ) (s : Drive) (start : Start c s) (ts : List Turn) (h : Admissible ts s) where
@@ -237,17 +257,51 @@ module _ (c : ℕ) (s : Drive) (start : Start c s) (ts : List Turn) (h : Admissi
         pending = g .pending;
       }
 
-  found-recorded : (a : ℕ) (x : Found) → atAddress (reached .disc) (lba a) ≡ x → readable (reached .disc) (lba a) ≡ recordedIn ts s a x
+  found-recorded : (a : ℕ) (x : Found) → atAddress (reached .disc) (lba a) ≡ x → isRecorded (reached .disc) (lba a) ≡ recordedIn ts s a x
   unfolding recordedIn
   found-recorded a (Number n) e =
       let w = located (reached .disc) a n e in
-      located-readable (reached .disc) a n point-sound w
+      located-recorded (reached .disc) a point-sound n w
       ∙ ap (λ (k : ℕ). ltb a (firstSector (numbered (reached .disc) n .start) .0 + k)) (sym (point-holds n (w .from) .recorded))
   found-recorded a Nowhere e =
-      by-cases (readable (reached .disc) (lba a)) (λ t. absurd (nowhere-unreadable (reached .disc) a point-sound e t)) (λ t. t)
+      by-cases (isRecorded (reached .disc) (lba a)) (λ t. absurd (nowhere-unrecorded (reached .disc) a point-sound e t)) (λ t. t)
 
-  point-recorded : (a : ℕ) → readable (reached .disc) (lba a) ≡ recordedAt ts s a
+  point-recorded : (a : ℕ) → isRecorded (reached .disc) (lba a) ≡ recordedAt ts s a
   point-recorded a = found-recorded a (atAddress (reached .disc) (lba a)) refl
+
+  found-pending : (a : ℕ) (x : Found) → atAddress (reached .disc) (lba a) ≡ x → isPending (reached .disc) (lba a) ≡ waitsIn ts s a x
+  unfolding waitsIn
+  found-pending a (Number n) e =
+      let d = reached .disc in
+      let w = located d a n e in
+      let k = account n ts s in
+      let h = point-holds n (w .from) in
+      located-pending d a point-sound n w
+      ∙ (ap (λ (b : ℕ). among (firstSector (numbered d n .start) .0 + b) (pendingIn d n) a) (sym (h .recorded))
+      ∙ ap (λ (b : ℕ). among (firstSector (numbered d n .start) .0 + k .recorded) b a) (sym (h .pending)))
+  found-pending a Nowhere e =
+      by-cases (isPending (reached .disc) (lba a))
+      (λ t. absurd (nowhere-unreadable (reached .disc) a point-sound e (or-right (isRecorded (reached .disc) (lba a)) t))) (λ t. t)
+
+  point-pending : (a : ℕ) → isPending (reached .disc) (lba a) ≡ pendingAt ts s a
+  point-pending a = found-pending a (atAddress (reached .disc) (lba a)) refl
+
+  by-history : (a : ℕ) → isReadable (reached .disc) (lba a) ≡ readableAt ts s a
+  by-history a =
+      ap (λ (b : Bool). b || isPending (reached .disc) (lba a)) (point-recorded a) ∙ ap (λ (b : Bool). recordedAt ts s a || b) (point-pending a)
+
+  -- what a pending sector holds
+  held-found :
+      (a : ℕ) (x : Found) → atAddress (reached .disc) (lba a) ≡ x → waitsIn ts s a x ≡ true
+      → sectorAt (leftOver a) (reached .pending) ≡ contentIn ts s a x
+  unfolding waitsIn contentIn
+  held-found a (Number n) e t =
+      let d = reached .disc in
+      let w = located d a n e in
+      sym
+      (content-pending reached n a (account n ts s) point-sound point-served (point-holds n (w .from)) w
+      (sym (located-pending d a point-sound n w) ∙ (found-pending a (Number n) e ∙ t)))
+  held-found a Nowhere e t = absurd (contradiction t refl)
 
   -- the command that comes then
   module _ (t : Turn) (alike : Alike reached (found t reached)) where
@@ -257,44 +311,44 @@ module _ (c : ℕ) (s : Drive) (start : Start c s) (ts : List Turn) (h : Admissi
     here-served : Served here
     here-served = served-alike reached here alike point-served
 
-    point-readable : (a : Lba) → ReadOf (t .request) a 1 → recordedAt ts s (a .0) ≡ true → result t reached .answer ≡ Accepted
-    point-readable a w e =
-        let d = reached .disc in
-        let read : readable d (lba (a .0)) ≡ true = point-recorded (a .0) ∙ e in
-        let within : a .0 + 1 ≤ sectorsIn (d .capacity) =
-        readable-cases d (lba (a .0))
-        (λ i l q. let ends = point-sound .ends i l in let most = point-sound .recorded i l in omega (arith, recorded-below (lba (a .0)) (at d i) q, ends, most)) read in
-        recorded-accepted here (t .request) a 1 w here-served (λ z. omega (arith, z)) within
-        (λ i l. let first : a .0 + i ≡ a .0 = omega (arith, l) in rw first read)
+    point-readable :
+        (a : Lba) (n : ℕ) → ReadOf (t .request) a n → 1 ≤ n → a .0 + n ≤ sectorsIn (reached .disc .capacity)
+        → (((i : ℕ) → i < n → readableAt ts s (a .0 + i) ≡ true) → result t reached .answer ≡ Accepted)
+        × (result t reached .answer ≡ Accepted → (i : ℕ) → i < n → readableAt ts s (a .0 + i) ≡ true)
+    point-readable a n w some within =
+        let q = t .request in
+        let z : n ≡ 0 → ⊥ = λ none. omega (arith, none, some) in (
+          λ all. readable-accepted here q a n w here-served z within (λ i l. by-history (a .0 + i) ∙ all i l),
+          λ accepted i l. sym (by-history (a .0 + i)) ∙ accepted-readable here q a n w here-served z within accepted i l,
+        )
 
     content-found :
-        (a : ℕ) (x : Found) → atAddress (reached .disc) (lba a) ≡ x → readable (reached .disc) (lba a) ≡ true
-        → take 2048 (drop (2048 * a) (t .medium)) ≡ contentIn ts s a x
+        (a : ℕ) (x : Found) → atAddress (reached .disc) (lba a) ≡ x → isReadable (reached .disc) (lba a) ≡ true
+        → sectorOf here a ≡ contentIn ts s a x
     unfolding contentIn
     content-found a (Number n) e r =
-        let w = located (reached .disc) a n e in
-        let below = ltb-true a _ (sym (located-readable (reached .disc) a n point-sound w) ∙ r) in
-        sym
-        (content-sector here n a (account n ts s) point-sound here-served
-        (found-holds reached t n (account n ts s) point-served (w .from) alike (point-holds n (w .from))) w below)
+        let d = reached .disc in
+        let w = located d a n e in
+        let k = account n ts s in
+        let h = found-holds reached t n k point-served (w .from) alike (point-holds n (w .from)) in
+        by-cases (isRecorded d (lba a))
+        (λ y.
+        cond-yes (isRecorded d (lba a)) _ _ y
+        ∙ sym (content-sector here n a k point-sound here-served h w (ltb-true a _ (sym (located-recorded d a point-sound n w) ∙ y))))
+        (λ y.
+        cond-no (isRecorded d (lba a)) _ _ y
+        ∙ sym
+        (content-pending here n a k point-sound here-served h w
+        (sym (located-pending d a point-sound n w) ∙ or-cases (isRecorded d (lba a)) (isPending d (lba a)) (λ x. absurd (contradiction x y)) (λ x. x) r)))
     content-found a Nowhere e r = absurd (nowhere-unreadable (reached .disc) a point-sound e r)
 
     point-back :
         (a : Lba) (n : ℕ) → decode (t .request .cdb) ≡ Read a n → result t reached .answer ≡ Accepted → (i : ℕ) → i < n
         → sectorAt i (result t reached .reply) ≡ contentAt ts s (a .0 + i)
-    unfolding step carriedOut
     point-back a n e accepted i l =
-        let d = reached .disc in
-        let q = t .request in
-        let performed : verdictOn here q ≡ read d a n =
-        decided-performed d (verdictOn here q) (verdict-decided here q) accepted ∙ (ap (perform d) e ∙ perform-read d a n) in
-        let all = accepted-read d a n (λ z. omega (arith, z, l)) (sym (ap (λ (v : Verdict). v .answer) performed) ∙ accepted) in
-        let whole = lent-medium d (length (t .medium)) (length (t .pending)) (here-served .lends) in
-        let place : 2048 * a .0 + 2048 * i ≡ 2048 * (a .0 + i) = omega arith in
-        ap (λ (x : List ℕ). sectorAt i x) (read-reply here q a n e accepted)
-        ∙ (sector-in-run (t .medium) (2048 * a .0) (2048 * n) (2048 * i) (omega arith) (omega (arith, whole, all .0, l))
-        ∙ (ap (λ (b : ℕ). take 2048 (drop b (t .medium))) place
-        ∙ content-found (a .0 + i) (atAddress d (lba (a .0 + i))) refl (all .1 i l)))
+        let z : n ≡ 0 → ⊥ = λ none. omega (arith, none, l) in
+        read-sector here (t .request) a n e accepted z i l
+        ∙ content-found (a .0 + i) (atAddress (reached .disc) (lba (a .0 + i))) refl (read-readable here (t .request) a n e accepted z i l)
 
 -- the theorem
 pub kept-account : KeptAccount
@@ -302,7 +356,9 @@ kept-account =
     record {
       keeps = λ c s start ts h n one. point-keeps c s start ts h n one;
       recorded = λ c s start ts h a. point-recorded c s start ts h a;
+      pending = λ c s start ts h a. point-pending c s start ts h a;
+      held = λ c s start ts h a. held-found c s start ts h a (atAddress (final ts s .disc) (lba a)) refl;
       lengths = only-lengths-refused;
-      readable = λ c s start ts h t alike a w e. point-readable c s start ts h t alike a w e;
+      readable = λ c s start ts h t alike a n w. point-readable c s start ts h t alike a n w;
       back = λ c s start ts h t alike a n e accepted i l. point-back c s start ts h t alike a n e accepted i l;
     }

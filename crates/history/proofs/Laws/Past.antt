@@ -7,9 +7,9 @@ use native.Mathlib.Omega.{arith}
 use borrow.Author.Tests.{eq-eqb, ne-eqb, eqb-true, eqb-false, ltb-true, ltb-false, not-false}
 use lib.Dec.{eqb, ltb}
 use lib.ListN.{length}
-use Rattle.fragments.specs.Address.{lba, firstSector, sectorsIn}
+use Rattle.fragments.specs.Address.{lba, firstSector}
 use Rattle.fragments.specs.Fragment.{end, firstUnrecorded, complete, isReserved, nextSessionStart, shortenedRecord}
-use Rattle.disc.specs.Records.{isBlank, pendingIn, used, isListed, numbered, lastRecord, withRecord, hasTail, writableAt, blankTailOnly, atAddress, readable}
+use Rattle.disc.specs.Records.{isBlank, pendingIn, used, isListed, numbered, lastRecord, withRecord, hasTail, writableAt, blankTailOnly, atAddress, isRecorded}
 use Rattle.fragments.specs.List.{limit}
 use Rattle.outcomes.specs.Recorded.{among, flushes, transfers, recordsBlock, flushedCount, transferredCount, pendingBlock, transferredBlock}
 use Rattle.disc.specs.Ready.{Ready}
@@ -17,7 +17,7 @@ use Rattle.decisions.specs.Plan.{noPlan, plan}
 use Rattle.disc.specs.Verdict.{accepted, accept, refuse}
 use Rattle.protocol.specs.Reply.{noReply}
 use Rattle.commands.specs.Flush.{flush, flushPlan, synchronizeCache}
-use Rattle.commands.specs.Read.{allReadable, read}
+use Rattle.commands.specs.Read.{sending, read}
 use Rattle.commands.specs.Write.{flushOthersPlan, Writable, writeTo, writeFound, write}
 use Rattle.commands.specs.Reserve.{splitTail, reserve}
 use Rattle.commands.specs.Close.{filledRecord, appendTail, closeIncomplete, closeFragment, hasIncompleteReserved, closeTail, openSession, closeSession, finalized, finalize, close}
@@ -25,7 +25,8 @@ use Rattle.reporting.specs.Reports.{requestSense, readCapacity, readDiscInforma
 use Rattle.commands.specs.Judge.{testUnitReady, perform}
 use Rattle.fragments.proofs.Laws.Bool.{and-both, and-false, by-cases, or-left, or-right, or-cases, same-test, cond-yes, cond-no, cond-cases}
 use Rattle.fragments.proofs.Laws.Numbers.{equal-cases}
-use Rattle.commands.proofs.Laws.Read.{readable-held, held-readable, readable-onward}
+use Rattle.disc.proofs.Laws.Readable.{recorded-held, held-recorded, recorded-onward}
+use Rattle.commands.proofs.Laws.Read.{read-cases}
 use Rattle.outcomes.proofs.Laws.Recorded.{among-from, among-below, among-between, flush-onward}
 use Rattle.disc.proofs.Laws.Records.{listed-number}
 use Rattle.disc.proofs.Laws.Rules.{sound-rules}
@@ -34,7 +35,7 @@ use Rattle.commands.proofs.Laws.Flush.{owner, flush-grows, flush-sound, flush-u
 use Rattle.commands.proofs.Laws.Write.{writable-found}
 use Rattle.commands.proofs.Laws.Reserve.{reserve-cases}
 use Rattle.outcomes.proofs.Laws.Counts.{blank-only-none}
-use Rattle.history.specs.Types.{Lba, Fragment, Kind, Reserved, Appended, Disc, Found, Number, Nowhere, Accepted, DriveRefusal, WriteProtected, InvalidFieldInCommand, AddressOutOfRange, BlankCheck, InvalidOperationCode, InvalidAddressForWrite, IncompleteTrackInSession, EmptyTrack, NoMoreReservations, EndOfUserArea, Reply, Flush, Plan, Verdict, Skip, Record, Nothing, Send, Gather, Fill, Command, TestUnitReady, RequestSense, ReadCapacity, Read, Write, SynchronizeCache, ReserveTrack, CloseTrackSession, ReadDiscInformation, ReadTrackInformation, Unlisted}
+use Rattle.history.specs.Types.{Lba, Fragment, Kind, Reserved, Appended, Disc, Found, Number, Nowhere, Accepted, DriveRefusal, WriteProtected, InvalidFieldInCommand, AddressOutOfRange, InvalidOperationCode, InvalidAddressForWrite, IncompleteTrackInSession, EmptyTrack, NoMoreReservations, EndOfUserArea, Reply, Flush, Plan, Verdict, Skip, Record, Nothing, Gather, Fill, Command, TestUnitReady, RequestSense, ReadCapacity, Read, Write, SynchronizeCache, ReserveTrack, CloseTrackSession, ReadDiscInformation, ReadTrackInformation, Unlisted}
 use Rattle.history.specs.Account.{extentOf}
 use Rattle.history.specs.Past.{Past, blockRecorded, sectorGathered, sectorsGathered, pastFlushed, pastFilled, pastAfter}
 
@@ -135,7 +136,7 @@ gathers-next a (suc n) h some = gathered-next a n h
 
 -- the history and the state: recorded blocks, how many sectors are pending, and the address after them
 pub record Recalls (d : Disc) (h : Past) : Type 0 where
-  pub recorded : (a : ℕ) → readable d (lba a) ≡ h .recorded (a / 16)
+  pub recorded : (a : ℕ) → isRecorded d (lba a) ≡ h .recorded (a / 16)
   pub held : d .pending ≡ h .held
   pub next : (d .pending ≡ 0 → ⊥) → h .next ≡ 16 * pendingBlock d + d .pending
 
@@ -166,8 +167,8 @@ module _ (d : Disc) (h : Past) (r : Ready d) (w : Recalls d h) where
   tells-none =
       record { recorded = λ k. or-none (h .recorded k); held = refl; next = λ z. w .next (λ q. z (sym (w .held) ∙ q)) ∙ ap (λ (n : ℕ). 16 * pendingBlock d + n) (w .held) }
 
-  tells-sent : (a : Lba) (n : ℕ) → Tells d h h (plan Skip (Send a n))
-  unfolding recordsBlock flushes transfers transferredCount flushedCount transferredBlock
+  tells-sent : (a : Lba) (n : ℕ) → Tells d h h (plan Skip (sending d a n))
+  unfolding recordsBlock flushes transfers transferredCount flushedCount transferredBlock sending
   tells-sent a n =
       record { recorded = λ k. or-none (h .recorded k); held = refl; next = λ z. w .next (λ q. z (sym (w .held) ∙ q)) ∙ ap (λ (n : ℕ). 16 * pendingBlock d + n) (w .held) }
 
@@ -230,15 +231,15 @@ module _ (d : Disc) (h : Past) (r : Ready d) (w : Recalls d h) where
   recalled-idle reply z = recalled-as (accept d d reply noPlan) (sym (flushed-idle z)) (recalled-same reply)
 
   -- what is recorded after it
-  flushed-recorded : (a : ℕ) → readable (flush d) (lba a) ≡ pastFlushed h .recorded (a / 16)
+  flushed-recorded : (a : ℕ) → isRecorded (flush d) (lba a) ≡ pastFlushed h .recorded (a / 16)
   flushed-recorded a =
       let o = flush-onward d r in
       let k = a / 16 in
       same-test
-      (λ t. ⊎-elim (λ x. or-left (flushes (flushPlan d) k) (held-readable d (lba a) x)) (λ x. or-right (readable d (lba a)) x) (o .was k (readable-held (flush d) (lba a) t)))
+      (λ t. ⊎-elim (λ x. or-left (flushes (flushPlan d) k) (held-recorded d (lba a) x)) (λ x. or-right (isRecorded d (lba a)) x) (o .was k (recorded-held (flush d) (lba a) t)))
       (λ t.
-      or-cases (readable d (lba a)) (flushes (flushPlan d) k) (λ x. readable-onward d (flush d) _ (lba a) o x)
-      (λ x. held-readable (flush d) (lba a) (o .adds k x)) t)
+      or-cases (isRecorded d (lba a)) (flushes (flushPlan d) k) (λ x. recorded-onward d (flush d) _ (lba a) o x)
+      (λ x. held-recorded (flush d) (lba a) (o .adds k x)) t)
       ∙ (ap (λ (x : Bool). x || flushes (flushPlan d) k) (w .recorded a) ∙ flush-tells k)
 
   -- a block recorded in fragment j of the flushed disc
@@ -248,7 +249,7 @@ module _ (d : Disc) (h : Past) (r : Ready d) (w : Recalls d h) where
       let place : 16 * k / 16 ≡ k = omega arith in
       ap (λ (x : ℕ). pastFlushed h .recorded x) (sym place)
       ∙ (sym (flushed-recorded (16 * k))
-      ∙ held-readable (flush d) (lba (16 * k))
+      ∙ held-recorded (flush d) (lba (16 * k))
       (record { index = j - 1; listed = omega (arith, from, to); from = omega (arith, first); below = omega (arith, below) }))
 
   -- WRITE of one sector up, to fragment j: the held sectors stay where it goes on after them, and are flushed where it does not
@@ -534,14 +535,9 @@ module _ (d : Disc) (h : Past) (r : Ready d) (w : Recalls d h) where
       (λ b some f t w. recalled-accepted h (splitTail d b) noReply noPlan tells-none)
 
   recalled-read : (a : Lba) (n : ℕ) → Recalled h (read d a n)
-  unfolding read
   recalled-read a n =
-      cond-cases (Recalled h) (eqb n 0) _ _ (λ z. recalled-same noReply)
-      (λ z.
-      cond-cases (Recalled h) (ltb (sectorsIn (d .capacity)) (a .0 + n)) _ _ (λ l. recalled-refused h AddressOutOfRange)
-      (λ l.
-      cond-cases (Recalled h) (allReadable d a n) _ _ (λ t. recalled-accepted h d noReply (plan Skip (Send a n)) (tells-sent a n))
-      (λ t. recalled-refused h BlankCheck)))
+      read-cases (Recalled h) d a n (recalled-same noReply) (recalled-refused h)
+      (λ z l t. recalled-accepted h d noReply (plan Skip (sending d a n)) (tells-sent a n))
 
   recalled-track-found : (allocation : ℕ) (x : Found) → Recalled h (trackFound d allocation x)
   unfolding trackFound trackVerdict

@@ -5,7 +5,7 @@ use mathlib.Core.Bool.{true, false, not, _&&_, _||_}
 use native.Mathlib.Omega.{arith}
 use borrow.Author.Tests.{eqb-true, eqb-false, leb-true, leb-false, ltb-false, not-false}
 use lib.Dec.{eqb, leb, ltb}
-use Rattle.fragments.specs.Address.{lba, firstSector, sectorsIn}
+use Rattle.fragments.specs.Address.{lba, firstSector}
 use Rattle.fragments.specs.Fragment.{end, complete, nextSessionStart, shortenedRecord}
 use Rattle.disc.specs.Records.{isBlank, pendingIn, used, isListed, numbered, lastRecord, withRecord, hasTail, hasBlankTail, writableAt, blankTailOnly, atAddress}
 use Rattle.fragments.specs.List.{limit}
@@ -15,7 +15,7 @@ use Rattle.decisions.specs.Plan.{noPlan}
 use Rattle.disc.specs.Verdict.{accepted, accept, refuse}
 use Rattle.protocol.specs.Reply.{noReply}
 use Rattle.commands.specs.Flush.{flush, synchronizeCache}
-use Rattle.commands.specs.Read.{allReadable, read}
+use Rattle.commands.specs.Read.{read}
 use Rattle.commands.specs.Write.{flushOthers, gather, Writable, writeTo, writeFound, write}
 use Rattle.commands.specs.Reserve.{splitTail, reserve}
 use Rattle.commands.specs.Close.{filledRecord, appendTail, closeIncomplete, closeFragment, hasIncompleteReserved, closeTail, openSession, closeSession, finalized, finalize, close}
@@ -29,13 +29,14 @@ use Rattle.disc.proofs.Laws.Sound.{none-pending, incomplete-room, pending-in-fe
 use Rattle.disc.proofs.Laws.Grow.{Grown}
 use Rattle.commands.proofs.Laws.Flush.{flush-grows, flush-pending, flush-sound, flush-used}
 use Rattle.commands.proofs.Laws.Write.{writable-found, others-sound}
+use Rattle.commands.proofs.Laws.Read.{read-cases}
 use Rattle.commands.proofs.Laws.Reserve.{reserve-cases}
 use Rattle.commands.proofs.Laws.Close.{appended-last}
 use Rattle.commands.proofs.Laws.Session.{kept, kept-few, kept-pending}
 use Rattle.outcomes.proofs.Laws.Keep.{write-room, gather-grows, gather-sound, fill-grows, fill-sound}
 use Rattle.outcomes.proofs.Laws.Outcome.{append-pending}
 use Rattle.outcomes.proofs.Laws.Counts.{SameCounts, same-counts, counts-on, split-counts, split-start, shorten-counts, close-tail-counts, open-counts}
-use Rattle.history.specs.Types.{Lba, Fragment, Kind, Reserved, Appended, Disc, Found, Number, Nowhere, Accepted, DriveRefusal, WriteProtected, InvalidFieldInCommand, AddressOutOfRange, BlankCheck, InvalidOperationCode, InvalidAddressForWrite, IncompleteTrackInSession, EmptyTrack, NoMoreReservations, EndOfUserArea, Reply, Plan, Verdict, Command, TestUnitReady, RequestSense, ReadCapacity, Read, Write, SynchronizeCache, ReserveTrack, CloseTrackSession, ReadDiscInformation, ReadTrackInformation, Unlisted}
+use Rattle.history.specs.Types.{Lba, Fragment, Kind, Reserved, Appended, Disc, Found, Number, Nowhere, Accepted, DriveRefusal, WriteProtected, InvalidFieldInCommand, AddressOutOfRange, InvalidOperationCode, InvalidAddressForWrite, IncompleteTrackInSession, EmptyTrack, NoMoreReservations, EndOfUserArea, Reply, Plan, Verdict, Command, TestUnitReady, RequestSense, ReadCapacity, Read, Write, SynchronizeCache, ReserveTrack, CloseTrackSession, ReadDiscInformation, ReadTrackInformation, Unlisted}
 
 -- the sectors of the fragment with a number: recorded and pending ones
 abbrev pub taken : Disc → ℕ → ℕ
@@ -238,12 +239,7 @@ module _ (d : Disc) (n : ℕ) (r : Ready d) (one : 1 ≤ n) where
 
   -- the commands that change nothing
   moved-read : (a : Lba) (count : ℕ) → Moved (read d a count)
-  unfolding read
-  moved-read a count =
-      cond-cases Moved (eqb count 0) _ _ (λ z. moved-same noReply noPlan)
-      (λ z.
-      cond-cases Moved (ltb (sectorsIn (d .capacity)) (a .0 + count)) _ _ (λ l. moved-refused AddressOutOfRange)
-      (λ l. cond-cases Moved (allReadable d a count) _ _ (λ t. moved-same noReply _) (λ t. moved-refused BlankCheck)))
+  moved-read a count = read-cases Moved d a count (moved-same noReply noPlan) moved-refused (λ z l t. moved-same noReply _)
 
   moved-track-found : (allocation : ℕ) (x : Found) → Moved (trackFound d allocation x)
   unfolding trackFound trackVerdict

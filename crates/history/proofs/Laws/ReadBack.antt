@@ -8,18 +8,14 @@ use borrow.Author.Tests.{ltb-true}
 use lib.ListN.{length}
 use Rattle.fragments.specs.Address.{lba}
 use Rattle.protocol.specs.Command.{decode}
-use Rattle.disc.specs.Records.{numbered, atAddress, readable}
-use Rattle.commands.specs.Read.{read}
+use Rattle.disc.specs.Records.{numbered, atAddress, isReadable}
 use Rattle.disc.specs.Rules.{Sound}
-use Rattle.commands.specs.Judge.{perform}
-use Rattle.outcomes.proofs.Laws.Accepts.{accepted-read}
-use Rattle.outcomes.proofs.Laws.Judge.{perform-read, decided-performed}
-use Rattle.commands.proofs.Laws.Read.{located, located-readable, nowhere-unreadable}
+use Rattle.disc.proofs.Laws.Readable.{located, located-readable, nowhere-unreadable}
 use Rattle.outcomes.proofs.Laws.Recorded.{among-between}
 use Rattle.drive.specs.Alike.{Alike}
-use Rattle.drive.specs.Step.{Drive, verdictOn, carriedOut, step}
-use Rattle.drive.proofs.Laws.Step.{verdict-decided}
-use Rattle.history.specs.Types.{Lba, Found, Number, Nowhere, Accepted, Read, Write, Answer, Command, Verdict}
+use Rattle.drive.specs.Step.{Drive}
+use Rattle.drive.proofs.Laws.Reads.{read-readable}
+use Rattle.history.specs.Types.{Lba, Found, Number, Nowhere, Accepted, Read, Write, Answer, Command}
 use Rattle.history.specs.Sequence.{Start, Turn, found, result, final, Admissible}
 use Rattle.history.specs.Account.{opened, extentOf, sectorAt, account, contentIn}
 use Rattle.history.specs.Brought.{Written, writeOf, acceptedWrite, writes, broughtTo, sole, broughtIn, ReadBack, broughtInto, ListedKeeps, KeptAsListed}
@@ -42,36 +38,26 @@ module _ (c : ℕ) (s : Drive) (start : Start c s) (ts : List Turn) (h : Admissi
 
   -- the account's content of a readable address
   content-found :
-      (a : ℕ) (x : Found) → atAddress (there .disc) (lba a) ≡ x → readable (there .disc) (lba a) ≡ true
+      (a : ℕ) (x : Found) → atAddress (there .disc) (lba a) ≡ x → isReadable (there .disc) (lba a) ≡ true
       → contentIn ts s a x ≡ sole (broughtTo a (writes ts s))
   unfolding contentIn
   content-found a (Number n) e r =
       let d = there .disc in
       let w = located d a n e in
-      let below = ltb-true a _ (sym (located-readable d a n there-sound w) ∙ r) in
+      let below = ltb-true a _ (sym (located-readable d a there-sound n w) ∙ r) in
       let i = a - base d n in
       let place : a ≡ base d n + i = omega (arith, w .first) in
       ap (account n ts s .content) place
       ∙ (traced .each n (w .from) .content i (omega (arith, w .first, below)) ∙ ap (λ (b : ℕ). sole (broughtTo b (writes ts s))) (sym place))
   content-found a Nowhere e r = absurd (nowhere-unreadable (there .disc) a there-sound e r)
 
-  -- an accepted READ reads readable sectors
-  read-sectors :
-      (t : Turn) (a : Lba) (n : ℕ) → decode (t .request .cdb) ≡ Read a n → result t there .answer ≡ Accepted → (i : ℕ) → i < n
-      → readable (there .disc) (lba (a .0 + i)) ≡ true
-  unfolding step carriedOut
-  read-sectors t a n e accepted i l =
-      let d = there .disc in
-      let v = verdictOn (found t there) (t .request) in
-      let performed : v ≡ read d a n = decided-performed d v (verdict-decided (found t there) (t .request)) accepted ∙ (ap (perform d) e ∙ perform-read d a n) in
-      accepted-read d a n (λ z. omega (arith, z, l)) (sym (ap (λ (v : Verdict). v .answer) performed) ∙ accepted) .1 i l
-
   point-back :
       (t : Turn) → Alike there (found t there) → (a : Lba) (n : ℕ) → decode (t .request .cdb) ≡ Read a n → result t there .answer ≡ Accepted
       → (i : ℕ) → i < n → sectorAt i (result t there .reply) ≡ sole (broughtTo (a .0 + i) (writes ts s))
   point-back t alike a n e accepted i l =
       kept-account .back c s start ts h t alike a n e accepted i l
-      ∙ content-found (a .0 + i) (atAddress (there .disc) (lba (a .0 + i))) refl (read-sectors t a n e accepted i l)
+      ∙ content-found (a .0 + i) (atAddress (there .disc) (lba (a .0 + i))) refl
+      (read-readable (found t there) (t .request) a n e accepted (λ z. omega (arith, z, l)) i l)
 
   -- the sectors brought to a fragment's addresses are those that its account accepted
   point-accepted : (n : ℕ) → 1 ≤ n → account n ts s .accepted ≡ broughtInto (extentOf (there .disc) n) (writes ts s)

@@ -1,20 +1,22 @@
 -- Over a history: what is recorded and pending by it is what the state says, so stale bytes are those that document 01 means.
-use Prim.Native.Nat.{ℕ, _*_, _/_}
+use Prim.Native.Nat.{ℕ, _-_, _*_, _/_}
 use mathlib.Core.Path.{_≡_, refl, sym, ap, _∙_, subst}
-use mathlib.Core.Bool.{Bool, _||_}
+use mathlib.Core.Bool.{Bool, false, _||_}
 use mathlib.Core.List.{List, [], _∷_}
 use native.Mathlib.Omega.{arith}
 use lib.ListN.{take}
 use Rattle.fragments.specs.Address.{lba}
 use Rattle.disc.specs.Blank.{blank}
 use Rattle.protocol.specs.Command.{decode}
-use Rattle.disc.specs.Records.{readable}
-use Rattle.outcomes.specs.Recorded.{recordsBlock, flushedCount, transferredCount}
+use Rattle.disc.specs.Records.{isRecorded, isPending}
+use Rattle.outcomes.specs.Recorded.{among, recordsBlock, flushedCount, transferredCount, pendingBlock}
 use Rattle.fragments.proofs.Laws.Bool.{by-cases}
+use Rattle.fragments.proofs.Laws.Numbers.{equal-cases}
 use Rattle.disc.proofs.Laws.Blank.{blank-pending}
 use Rattle.commands.proofs.Laws.Judge.{allowed-ready}
 use Rattle.outcomes.proofs.Laws.Judge.{decided-performed, decided-recorded, decided-pending}
-use Rattle.commands.proofs.Laws.Read.{blank-unreadable}
+use Rattle.outcomes.proofs.Laws.Recorded.{among-from, among-below}
+use Rattle.disc.proofs.Laws.Readable.{blank-unrecorded}
 use Rattle.drive.specs.Alike.{Alike}
 use Rattle.drive.specs.Step.{Drive, Request, Result, verdictOn, carriedOut, step}
 use Rattle.drive.proofs.Laws.Alike.{step-link, step-refused}
@@ -64,7 +66,7 @@ module _ (s : Drive) (q : Request) (h : Past) (w : Served s) (m : Recalls (s .di
 
 -- stale bytes by the state and by the history
 module _ (s e : Drive) (h : Past) (m : Recalls (s .disc) h) where
-  byte-recorded : (i : ℕ) → readable (s .disc) (lba (i / 2048)) ≡ h .recorded (i / 32768)
+  byte-recorded : (i : ℕ) → isRecorded (s .disc) (lba (i / 2048)) ≡ h .recorded (i / 32768)
   byte-recorded i =
       let place : i / 2048 / 16 ≡ i / 32768 = omega arith in
       m .recorded (i / 2048) ∙ ap (h .recorded) place
@@ -92,6 +94,19 @@ module _ (s e : Drive) (h : Past) (m : Recalls (s .disc) h) where
             ap (λ (n : ℕ). take (2048 * n) (s .pending)) (m .held)
             ∙ (a .pending ∙ ap (λ (n : ℕ). take (2048 * n) (e .pending)) (sym (m .held) ∙ ap (λ (d : Disc). d .pending) (a .disc)));
       }
+
+-- pending sectors by the history: the last ones that it accepted
+recalled-waiting : (d : Disc) (h : Past) → Recalls d h → (a : ℕ) → isPending d (lba a) ≡ among (h .next - h .held) (h .held) a
+recalled-waiting d h m a =
+    equal-cases (d .pending) 0
+    (λ z.
+    none (16 * pendingBlock d) (d .pending) z ∙ sym (none (h .next - h .held) (h .held) (sym (m .held) ∙ z)))
+    (λ z.
+    let first : h .next - h .held ≡ 16 * pendingBlock d = omega (arith, m .next z, m .held) in
+    ap (λ (b : ℕ). among (16 * pendingBlock d) b a) (m .held) ∙ ap (λ (b : ℕ). among b (h .held) a) (sym first))
+  where
+    none : (b n : ℕ) → n ≡ 0 → among b n a ≡ false
+    none b n z = by-cases (among b n a) (λ t. absurd (omega (arith, z, among-from b n a t, among-below b n a t))) (λ t. t)
 
 -- over a sequence
 turn-recalls :
@@ -128,7 +143,7 @@ start-recalls : (c : ℕ) (s : Drive) → Start c s → Recalls (s .disc) beginn
 start-recalls c s start =
     subst (λ (d : Disc). Recalls d beginning) (sym (start .disc))
     (record {
-      recorded = λ a. by-cases (readable (blank c) (lba a)) (λ t. absurd (blank-unreadable c (lba a) t)) (λ t. t);
+      recorded = λ a. by-cases (isRecorded (blank c) (lba a)) (λ t. absurd (blank-unrecorded c (lba a) t)) (λ t. t);
       held = blank-pending c;
       next = λ z. absurd (z (blank-pending c));
     })
@@ -139,6 +154,7 @@ recorded-by-history =
     record {
       recorded = λ c s start ts a x. there c s start ts a .recorded x;
       pending = λ c s start ts a. there c s start ts a .held;
+      waiting = λ c s start ts a x. recalled-waiting (final ts s .disc) (past ts s) (there c s start ts a) x;
       stale = λ c s start ts a. admissible-stale ts s beginning (start-served c s start) (start-recalls c s start) a;
       admissible = λ c s start ts a. stale-admissible ts s beginning (start-served c s start) (start-recalls c s start) a;
       apart = λ c s start ts a e. alike-apart (final ts s) e (past ts s) (there c s start ts a);

@@ -5,7 +5,7 @@ use mathlib.Core.Bool.{true}
 use mathlib.Core.List.{List, [], _∷_, _++_}
 use native.Mathlib.Omega.{arith}
 use Rattle.fragments.specs.Address.{lba}
-use Rattle.outcomes.proofs.Laws.Judge.{decided-readable}
+use Rattle.outcomes.proofs.Laws.Judge.{decided-stays}
 use Rattle.drive.specs.Step.{Drive, Request, verdictOn, carriedOut, step}
 use Rattle.drive.specs.Alike.{recordedByte, Alike}
 use Rattle.drive.proofs.Laws.Step.{verdict-decided}
@@ -84,7 +84,7 @@ stays-stale s e a = λ i t. (ap (λ (d : Disc). recordedByte d i) (sym (a .disc)
 
 step-recorded : (s : Drive) (q : Request) (i : ℕ) → recordedByte (s .disc) i ≡ true → recordedByte (step s q .after .disc) i ≡ true
 unfolding step carriedOut
-step-recorded s q i t = decided-readable (s .disc) (verdictOn s q) (lba (i / 2048)) (verdict-decided s q) t
+step-recorded s q i t = decided-stays (s .disc) (verdictOn s q) (lba (i / 2048)) (verdict-decided s q) t
 
 stays-step : (s : Drive) (q : Request) → RecordedStays s (step s q .after)
 stays-step s q = λ i t. (step-recorded s q i t, step-kept s q i t)

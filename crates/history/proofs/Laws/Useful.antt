@@ -48,10 +48,10 @@ three = judge (two .disc) (writeCdb 16 16) 32768 0
 
 computed :
     (one .answer ≡ Accepted) × (one .recorded ≡ 1)
-    × ((m : List ℕ) → sentBytes (two .plan .transfer) (two .reply) m ≡ 0x00 ∷ 0x20 ∷ 0x05 ∷ 1 ∷ 1 ∷ 1 ∷ 1 ∷ replicate 27 0)
+    × ((m p : List ℕ) → sentBytes (two .plan .transfer) (two .reply) m p ≡ 0x00 ∷ 0x20 ∷ 0x05 ∷ 1 ∷ 1 ∷ 1 ∷ 1 ∷ replicate 27 0)
     × (three .answer ≡ Accepted) × (three .recorded ≡ 1)
 unfolding sentBytes decode listed some every find sumRecorded firstOfSession usedFirst firstAtZero followsFrom inOrder endsWithin recordedWithin zeroedWithin incompleteLast tailLast tailOrFull pendingNamed finalizedComplete sound allowedState isRefusalSense allowedSense blank dataLength replyRoom lengthsFit accepted accept flush flushPlan flushOthers flushOthersPlan gather writeTo writeFound write sessionState discStatus discBytes readDiscInformation perform judgeCommand judge
-computed = (refl, refl, λ m. refl, refl, refl)
+computed = (refl, refl, λ m p. refl, refl, refl)
 
 module _ (s : Drive) (start : Start 300 s) where
   first-verdict : verdictOn s firstBlock ≡ one
@@ -79,7 +79,7 @@ module _ (s : Drive) (start : Start 300 s) where
   pub information-says : step after-first informationRequest .reply ≡ 0x00 ∷ 0x20 ∷ 0x05 ∷ 1 ∷ 1 ∷ 1 ∷ 1 ∷ replicate 27 0
   unfolding step carriedOut
   information-says =
-      ap (λ (v : Verdict). sentBytes (v .plan .transfer) (v .reply) (after-first .medium)) second-verdict ∙ computed .2 (after-first .medium)
+      ap (λ (v : Verdict). sentBytes (v .plan .transfer) (v .reply) (after-first .medium) (after-first .pending)) second-verdict ∙ computed .2 (after-first .medium) (after-first .pending)
 
   abbrev after-second : Drive
   after-second = step after-first informationRequest .after

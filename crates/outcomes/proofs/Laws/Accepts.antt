@@ -8,17 +8,17 @@ use native.Mathlib.Omega.{arith}
 use borrow.Author.Tests.{eq-eqb, ne-eqb, le-ltb, ltb-false}
 use lib.Dec.{eqb, ltb}
 use lib.ListN.{length, getD}
-use Rattle.outcomes.specs.Types.{Lba, Fragment, Disc, Found, Number, Nowhere, Verdict, Accepted, Drive, WriteProtected, EndOfUserArea, AddressOutOfRange, BlankCheck, Send, Skip}
+use Rattle.outcomes.specs.Types.{Lba, Fragment, Disc, Found, Number, Nowhere, Verdict, Accepted, Drive, WriteProtected, EndOfUserArea, AddressOutOfRange, BlankCheck, Skip}
 use Rattle.fragments.specs.Address.{firstSector, lba, sectorsIn}
 use Rattle.fragments.specs.Fragment.{unusedRecord, end, complete}
-use Rattle.disc.specs.Records.{nextWritable, pendingIn, records, used, numbered, writableAt, readable}
+use Rattle.disc.specs.Records.{nextWritable, pendingIn, records, used, numbered, writableAt, isReadable}
 use Rattle.fragments.specs.List.{find}
 use Rattle.disc.specs.Rules.{at}
 use Rattle.disc.specs.Ready.{Ready}
 use Rattle.decisions.specs.Plan.{noPlan, plan}
 use Rattle.disc.specs.Verdict.{accepted, accept, refuse}
 use Rattle.protocol.specs.Reply.{noReply}
-use Rattle.commands.specs.Read.{allReadable, read}
+use Rattle.commands.specs.Read.{allReadable, sending, read}
 use Rattle.commands.specs.Write.{flushOthersCount, Writable, writeTo, writeFound, write}
 use Rattle.fragments.proofs.Laws.Bool.{and-both, by-cases, cond-yes, cond-no, cond-cases, contradiction}
 use Rattle.fragments.proofs.Laws.List.{listed-at}
@@ -26,7 +26,7 @@ use Rattle.disc.proofs.Laws.Rules.{sound-rules}
 use Rattle.disc.proofs.Laws.Sound.{writable-once}
 use Rattle.commands.proofs.Laws.Write.{writable-found, place, write-count, flush-count-most}
 use Rattle.commands.proofs.Laws.Flush.{rise-same}
-use Rattle.commands.proofs.Laws.Read.{all-readable-at, at-all-readable}
+use Rattle.commands.proofs.Laws.Read.{all-readable-at, at-all-readable, read-sent}
 
 -- a WRITE of n at an address: the address is the next writable one of an incomplete fragment, and n sectors fit there
 pub record Takes (d : Disc) (a : Lba) (n : ℕ) : Type 0 where
@@ -109,21 +109,18 @@ write-takes d a n z e =
 -- a READ of 1 up within the disc is accepted exactly when every sector touched is readable
 pub read-done :
     (d : Disc) (a : Lba) (n : ℕ) → (n ≡ 0 → ⊥) → a .0 + n ≤ sectorsIn (d .capacity)
-    → ((k : ℕ) → k < n → readable d (lba (a .0 + k)) ≡ true) → read d a n ≡ accept d d noReply (plan Skip (Send a n))
-unfolding read
-read-done d a n z h r =
-    cond-no (eqb n 0) _ _ (ne-eqb _ _ z)
-    ∙ (cond-no (ltb (sectorsIn (d .capacity)) (a .0 + n)) _ _ (le-ltb _ _ h) ∙ cond-yes (allReadable d a n) _ _ (at-all-readable d a n r))
+    → ((k : ℕ) → k < n → isReadable d (lba (a .0 + k)) ≡ true) → read d a n ≡ accept d d noReply (plan Skip (sending d a n))
+read-done d a n z h r = read-sent d a n z h (at-all-readable d a n r)
 
 pub read-accepted :
     (d : Disc) (a : Lba) (n : ℕ) → (n ≡ 0 → ⊥) → a .0 + n ≤ sectorsIn (d .capacity)
-    → ((k : ℕ) → k < n → readable d (lba (a .0 + k)) ≡ true) → read d a n .answer ≡ Accepted
+    → ((k : ℕ) → k < n → isReadable d (lba (a .0 + k)) ≡ true) → read d a n .answer ≡ Accepted
 unfolding read accept accepted
 read-accepted d a n z h r = ap (λ (v : Verdict). v .answer) (read-done d a n z h r)
 
 pub accepted-read :
     (d : Disc) (a : Lba) (n : ℕ) → (n ≡ 0 → ⊥) → read d a n .answer ≡ Accepted
-    → (a .0 + n ≤ sectorsIn (d .capacity)) × ((k : ℕ) → k < n → readable d (lba (a .0 + k)) ≡ true)
+    → (a .0 + n ≤ sectorsIn (d .capacity)) × ((k : ℕ) → k < n → isReadable d (lba (a .0 + k)) ≡ true)
 unfolding read refuse
 accepted-read d a n z e =
     by-cases (ltb (sectorsIn (d .capacity)) (a .0 + n))
@@ -171,7 +168,7 @@ write-most d a n r =
     (λ f. found-most d a n r (writableAt d a) refl))
 
 -- an accepted READ sends its sectors, and a READ of 0 none
-pub read-sends : (d : Disc) (a : Lba) (n : ℕ) → read d a n .answer ≡ Accepted → (n ≡ 0 → ⊥) → read d a n .plan .transfer ≡ Send a n
+pub read-sends : (d : Disc) (a : Lba) (n : ℕ) → read d a n .answer ≡ Accepted → (n ≡ 0 → ⊥) → read d a n .plan .transfer ≡ sending d a n
 unfolding accept accepted
 read-sends d a n e z =
     let h = accepted-read d a n z e in

@@ -4,16 +4,16 @@ use mathlib.Core.Path.{_≡_, refl, sym}
 use mathlib.Core.Bool.{true, not, _||_}
 use mathlib.Core.List.{List}
 use native.Mathlib.Omega.{arith}
-use borrow.Author.Tests.{not-false, ltb-false, eq-eqb, le-leb, ne-eqb}
+use borrow.Author.Tests.{not-false, eq-eqb, le-leb, ne-eqb}
 use native.Mathlib.Nat.{le-refl}
 use lib.ListN.{length, replicate, length-append}
-use lib.Dec.{eqb, ltb}
+use lib.Dec.{eqb}
 use Rattle.outcomes.specs.Types.{Lba, Disc, Verdict, Found, Number, Nowhere, Command, TestUnitReady, RequestSense, ReadCapacity, Read, Write, SynchronizeCache, ReserveTrack, CloseTrackSession, ReadDiscInformation, ReadTrackInformation, Unlisted, InvalidOperationCode, InvalidFieldInCommand, AddressOutOfRange, BlankCheck, DriveRefusal, LinkRefusal, Accepted, Link, Drive, CommandBlockLength, MediumSize, UnsoundState, TransferLength, WriteProtected, InvalidAddressForWrite, IncompleteTrackInSession, EmptyTrack, NoMoreReservations, EndOfUserArea, Send}
-use Rattle.fragments.specs.Address.{lba, sectorsIn}
+use Rattle.fragments.specs.Address.{lba}
 use Rattle.protocol.specs.Answer.{allowedSense, noSense, refusalSense, isRefusalSense}
 use Rattle.protocol.specs.Command.{decode}
-use Rattle.fragments.specs.List.{lastReadable, sumRecorded}
-use Rattle.disc.specs.Records.{records, used, isListed, hasTail, atAddress, readable}
+use Rattle.fragments.specs.List.{sumRecorded}
+use Rattle.disc.specs.Records.{used, isListed, hasTail, atAddress, isRecorded, lastReadable}
 use Rattle.disc.specs.Sound.{sound, allowedState}
 use Rattle.disc.specs.Blank.{inRange}
 use Rattle.disc.specs.Ready.{Ready}
@@ -21,7 +21,7 @@ use Rattle.protocol.specs.Lengths.{lengthsFit, replyRoom, capacityLength, dataL
 use Rattle.decisions.specs.Plan.{noPlan}
 use Rattle.disc.specs.Verdict.{refuseLink, refuse, accepted, accept, rise}
 use Rattle.protocol.specs.Reply.{report}
-use Rattle.commands.specs.Read.{allReadable, read}
+use Rattle.commands.specs.Read.{read}
 use Rattle.reporting.specs.Reports.{requestSense, readCapacity, discReport, readDiscInformation, trackReport, trackVerdict, trackFound, trackNumbered, readTrackInformation}
 use Rattle.protocol.specs.Reports.{senseBytes, capacityBytes, discBytes, trackBytes}
 use Rattle.commands.specs.Judge.{judgeAsAsked, testUnitReady, perform, judgeCommand, judge}
@@ -35,21 +35,15 @@ use Rattle.disc.proofs.Laws.Rules.{sound-rules}
 use Rattle.disc.proofs.Laws.Onward.{Onward, same-onward, onward-sum}
 use Rattle.outcomes.proofs.Laws.Recorded.{Records, nothing-records}
 use Rattle.outcomes.proofs.Laws.Plan.{Placed, placed-none, placed-fresh, Sending, moved-sends}
-use Rattle.commands.proofs.Laws.Read.{readable-onward, readable-held, held-readable}
+use Rattle.disc.proofs.Laws.Readable.{recorded-onward, recorded-held, held-recorded}
+use Rattle.commands.proofs.Laws.Read.{read-cases}
 use Rattle.outcomes.proofs.Laws.Accepts.{write-most}
 use Rattle.outcomes.proofs.Laws.Outcome.{Outcome, refused, same-outcome, sent-outcome, unchanged-outcome, outcome-rise, synchronize-outcome, write-outcome, reserve-outcome, close-outcome, outcome-ready, outcome-answer, outcome-refused, outcome-accepted, outcome-capacity, outcome-onward, outcome-placed, done, outcome-pending}
 
 -- READ and the reports leave the list alone
 read-outcome : (d : Disc) (a : Lba) (n : ℕ) → Ready d → Outcome d (Read a n) (read d a n)
-unfolding read
 read-outcome d a n r =
-    let c = Read a n in
-    cond-cases (Outcome d c) (eqb n 0) _ _ (λ e. unchanged-outcome d c r)
-    (λ e.
-    cond-cases (Outcome d c) (ltb (sectorsIn (d .capacity)) (a .0 + n)) _ _ (λ h. refused AddressOutOfRange)
-    (λ h.
-    cond-cases (Outcome d c) (allReadable d a n) _ _ (λ t. sent-outcome d a n (ltb-false _ _ h) t r)
-    (λ t. refused BlankCheck)))
+    read-cases (Outcome d (Read a n)) d a n (unchanged-outcome d (Read a n) r) refused (λ z h t. sent-outcome d a n z h t r)
 
 report-outcome :
     (d : Disc) (c : Command) (bytes : List ℕ) (n : ℕ) → min (length bytes) n ≤ replyRoom c → Ready d
@@ -64,7 +58,7 @@ sense-outcome d n r = report-outcome d (RequestSense n) (senseBytes (d .sense)) 
 
 capacity-outcome : (d : Disc) → Ready d → Outcome d ReadCapacity (readCapacity d)
 unfolding readCapacity replyRoom
-capacity-outcome d r = report-outcome d ReadCapacity (capacityBytes (lastReadable (records d))) capacityLength (le-refl _) r
+capacity-outcome d r = report-outcome d ReadCapacity (capacityBytes (lastReadable d)) capacityLength (le-refl _) r
 
 disc-outcome : (d : Disc) (t n : ℕ) → Ready d → Outcome d (ReadDiscInformation t n) (readDiscInformation d t n)
 unfolding readDiscInformation discBytes replyRoom
@@ -185,7 +179,7 @@ module _ {c : Command} {n m : ℕ} (d : Disc) where
   decided-performed v (onLink x) e = absurd (let z : _≡_ {A = ℕ} 0 1 = cc in omega arith)
   decided-performed v (byDrive r a l) e = refl
 
-  -- every decision keeps a disc ready, its capacity, and every sector that was readable
+  -- every decision keeps a disc ready, its capacity, and every sector that was recorded
   pub decided-ready : (v : Verdict) → Ready d → Decided d c n m v → Ready (v .disc)
   unfolding refuseLink
   decided-ready v k (onLink x) = k
@@ -234,28 +228,28 @@ module _ {c : Command} {n m : ℕ} (d : Disc) where
 
   -- exactly the blocks that were recorded and those of its plan are recorded then
   pub decided-recorded :
-      (v : Verdict) (a : Lba) → Decided d c n m v → readable (v .disc) a ≡ (readable d a || recordsBlock (v .plan) (a .0 / 16))
+      (v : Verdict) (a : Lba) → Decided d c n m v → isRecorded (v .disc) a ≡ (isRecorded d a || recordsBlock (v .plan) (a .0 / 16))
   decided-recorded v a w =
       let o = decided-onward v w in
       let k = a .0 / 16 in
       same-test
       (λ t.
-      ⊎-elim (λ h. or-left (recordsBlock (v .plan) k) (held-readable d a h)) (λ h. or-right (readable d a) h)
-      (o .was k (readable-held (v .disc) a t)))
+      ⊎-elim (λ h. or-left (recordsBlock (v .plan) k) (held-recorded d a h)) (λ h. or-right (isRecorded d a) h)
+      (o .was k (recorded-held (v .disc) a t)))
       (λ t.
-      or-cases (readable d a) (recordsBlock (v .plan) k) (λ h. readable-onward d (v .disc) _ a o h)
-      (λ h. held-readable (v .disc) a (o .adds k h)) t)
+      or-cases (isRecorded d a) (recordsBlock (v .plan) k) (λ h. recorded-onward d (v .disc) _ a o h)
+      (λ h. held-recorded (v .disc) a (o .adds k h)) t)
 
   -- and those of its plan were not recorded before
-  pub decided-fresh : (v : Verdict) (a : Lba) → Decided d c n m v → recordsBlock (v .plan) (a .0 / 16) ≡ true → readable d a ≡ true → ⊥
+  pub decided-fresh : (v : Verdict) (a : Lba) → Decided d c n m v → recordsBlock (v .plan) (a .0 / 16) ≡ true → isRecorded d a ≡ true → ⊥
   unfolding refuseLink recordsBlock flushes transfers
   decided-fresh v a (onLink x) t r = contradiction t refl
   decided-fresh v a (byDrive r s l) t k =
       placed-fresh d c (perform d c .plan) a (sound-rules d (allowed-ready d r s .sound)) (outcome-placed d c _ (allowed-outcome d c r s)) t k
 
-  -- only a READ sends, sectors that are all recorded
-  pub decided-sends : (v : Verdict) (a : Lba) (k : ℕ) → Decided d c n m v → v .plan .transfer ≡ Send a k → Sending d c a k
-  decided-sends v a k w e = moved-sends d c a k (rw e at (decided-placed v w .moved))
+  -- only a READ sends, sectors that are all readable: recorded ones of the medium, pending ones of the pending buffer
+  pub decided-sends : (v : Verdict) (a : Lba) (k i p : ℕ) → Decided d c n m v → v .plan .transfer ≡ Send a k i p → Sending d c a k i p
+  decided-sends v a k i p w e = moved-sends d c a k i p (rw e at (decided-placed v w .moved))
 
   -- the sectors that are pending then
   pub decided-pending : (v : Verdict) → Decided d c n m v → Pending d (v .plan) (v .disc)
@@ -263,8 +257,8 @@ module _ {c : Command} {n m : ℕ} (d : Disc) where
   decided-pending v (onLink x) = pending-same d d refl (λ z. refl)
   decided-pending v (byDrive r a l) = outcome-pending d c _ (allowed-outcome d c r a)
 
-  pub decided-readable : (v : Verdict) (a : Lba) → Decided d c n m v → readable d a ≡ true → readable (v .disc) a ≡ true
-  decided-readable v a w t = readable-onward d (v .disc) _ a (decided-onward v w) t
+  pub decided-stays : (v : Verdict) (a : Lba) → Decided d c n m v → isRecorded d a ≡ true → isRecorded (v .disc) a ≡ true
+  decided-stays v a w t = recorded-onward d (v .disc) _ a (decided-onward v w) t
 
 -- a command that the link lets through is performed
 pub judge-performs :

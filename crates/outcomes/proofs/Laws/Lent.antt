@@ -47,7 +47,10 @@ transfer-fits :
     → TransferFits k n t × RunFits m t
 unfolding dataLength replyRoom
 transfer-fits d c t k n m r e l nothing = (tt, tt)
-transfer-fits d c t k n m r e l (sends a x q h v) = let room = reply-fits c n m l in (omega arith, rw q at room)
+transfer-fits d c t k n m r e l (sends a x y i j q h v w) =
+    let room = reply-fits c n m l in
+    let whole : 2048 * x ≤ m = rw q at room in
+    ((omega (arith, e, h, w .whole), w .within), omega (arith, whole, w .whole))
 transfer-fits d c t k n m r e l (gathers a b p x q few u) =
     let given = data-fits c n m l in
     let inside = unrecorded-inside d (sound-rules d (r .sound)) (b .0) _ u in
@@ -81,16 +84,16 @@ judge-fits d b k n m e = decided-fits d k (judge d b n m) e (judge-decided d b n
 
 -- a plan that sends is a READ's, so on a medium of whole blocks the recorded run of its block is what it sends
 decided-run :
-    {n m : ℕ} (d : Disc) (b medium : List ℕ) (a : Lba) (k : ℕ) (v : Verdict) → length b ≡ 12 → length medium ≡ 32768 * d .capacity
-    → Decided d (decode b) n m v → v .plan .transfer ≡ Send a k → recordedRun d b medium ≡ stretch a k medium
+    {n m : ℕ} (d : Disc) (b medium : List ℕ) (a : Lba) (k i p : ℕ) (v : Verdict) → length b ≡ 12 → length medium ≡ 32768 * d .capacity
+    → Decided d (decode b) n m v → v .plan .transfer ≡ Send a k i p → recordedRun d b medium ≡ stretch (a .0) k medium
 unfolding refuseLink recordedRun sent
-decided-run d b medium a k v lb lm (onLink x) e = absurd (let z : _≡_ {A = ℕ} 0 1 = cc in omega arith)
-decided-run d b medium a k v lb lm (byDrive r s l) e =
+decided-run d b medium a k i p v lb lm (onLink x) e = absurd (let z : _≡_ {A = ℕ} 0 1 = cc in omega arith)
+decided-run d b medium a k i p v lb lm (byDrive r s l) e =
     let t : served d (length b) (length medium) ≡ true =
     and-both (and-both (and-both (eq-eqb _ _ lb) r) (eq-eqb _ _ lm)) s in
     rw (t, e)
 
 pub judge-run :
-    (d : Disc) (b medium : List ℕ) (n m : ℕ) (a : Lba) (k : ℕ) → length b ≡ 12 → length medium ≡ 32768 * d .capacity
-    → judge d b n m .plan .transfer ≡ Send a k → recordedRun d b medium ≡ stretch a k medium
-judge-run d b medium n m a k lb lm e = decided-run d b medium a k (judge d b n m) lb lm (judge-decided d b n m) e
+    (d : Disc) (b medium : List ℕ) (n m : ℕ) (a : Lba) (k i p : ℕ) → length b ≡ 12 → length medium ≡ 32768 * d .capacity
+    → judge d b n m .plan .transfer ≡ Send a k i p → recordedRun d b medium ≡ stretch (a .0) k medium
+judge-run d b medium n m a k i p lb lm e = decided-run d b medium a k i p (judge d b n m) lb lm (judge-decided d b n m) e

@@ -6,7 +6,7 @@ use native.Mathlib.Omega.{arith}
 use borrow.Author.Tests.{eq-eqb, eqb-false, ltb-false, not-false}
 use lib.Dec.{eqb, ltb}
 use lib.ListN.{length, set}
-use Rattle.outcomes.specs.Types.{Sense, Accepted, Drive, Lba, Kind, Reserved, Appended, Disc, Found, Number, Nowhere, Reply, Plan, Verdict, DriveRefusal, LinkRefusal, Link, Nothing, Command, Write, WriteProtected, InvalidFieldInCommand, InvalidAddressForWrite, IncompleteTrackInSession, EmptyTrack, NoMoreReservations, EndOfUserArea, Skip, Send, Read, Gather, Fill}
+use Rattle.outcomes.specs.Types.{Sense, Accepted, Drive, Lba, Kind, Reserved, Appended, Disc, Found, Number, Nowhere, Reply, Plan, Verdict, DriveRefusal, LinkRefusal, Link, Nothing, Command, Write, WriteProtected, InvalidFieldInCommand, InvalidAddressForWrite, IncompleteTrackInSession, EmptyTrack, NoMoreReservations, EndOfUserArea, Skip, Read, Gather, Fill}
 use Rattle.fragments.specs.Address.{firstSector, sectorsIn}
 use Rattle.protocol.specs.Answer.{noSense, refusalSense}
 use Rattle.fragments.specs.Fragment.{end, complete, nextFragmentStart, nextSessionStart, firstUnrecorded, shortenedRecord}
@@ -22,7 +22,7 @@ use Rattle.commands.specs.Flush.{flush, flushPlan, synchronizeCache}
 use Rattle.commands.specs.Write.{flushOthers, gather, writeTo, writeFound, write, Writable, flushOthersPlan, grownRecord}
 use Rattle.commands.specs.Reserve.{splitTail, reserve}
 use Rattle.commands.specs.Close.{filledRecord, appendTail, closeIncomplete, closeFragment, hasIncompleteReserved, closeTail, openSession, closeSession, finalized, finalize, close}
-use Rattle.commands.specs.Read.{allReadable}
+use Rattle.commands.specs.Read.{allReadable, sending}
 use Rattle.outcomes.specs.Recorded.{transfers}
 use Rattle.outcomes.proofs.Laws.Pending.{Pending, pending-same, pending-sent, pending-none, pending-filled, pending-gathered, pending-split}
 use Rattle.outcomes.proofs.Laws.Recorded.{Records, set-onward, flush-onward, others-onward, flush-records, both-record, nothing-records, sent-records}
@@ -62,11 +62,12 @@ same-outcome d c r m k =
 
 -- a READ that is accepted
 pub sent-outcome :
-    (d : Disc) (a : Lba) (n : ℕ) → a .0 + n ≤ sectorsIn (d .capacity) → allReadable d a n ≡ true → Ready d
-    → Outcome d (Read a n) (accept d d noReply (plan Skip (Send a n)))
-sent-outcome d a n h t k =
-    done d noReply (plan Skip (Send a n)) (sound-rules d (k .sound)) refl (sent-records d a n) (placed-send d a n h t) (pending-sent d a n)
-    (no-room (Read a n))
+    (d : Disc) (a : Lba) (n : ℕ) → (n ≡ 0 → ⊥) → a .0 + n ≤ sectorsIn (d .capacity) → allReadable d a n ≡ true → Ready d
+    → Outcome d (Read a n) (accept d d noReply (plan Skip (sending d a n)))
+unfolding sending
+sent-outcome d a n z h t k =
+    let s = sound-rules d (k .sound) in
+    done d noReply (plan Skip (sending d a n)) s refl (sent-records d a _ _ _) (placed-send d a n s z h t) (pending-sent d a _ _ _) (no-room (Read a n))
 
 -- and moves no byte
 pub unchanged-outcome : (d : Disc) (c : Command) → Ready d → Outcome d c (accept d d noReply noPlan)

@@ -45,9 +45,9 @@ pending-same d after e f =
       place = f;
     }
 
-pub pending-sent : (d : Disc) (a : Lba) (n : ℕ) → Pending d (plan Skip (Send a n)) d
+pub pending-sent : (d : Disc) (a : Lba) (n i k : ℕ) → Pending d (plan Skip (Send a n i k)) d
 unfolding flushedCount transferredCount transferredBlock
-pending-sent d a n =
+pending-sent d a n i k =
     record {
       flushed = λ b m q. absurd (let z : _≡_ {A = ℕ} 0 1 = cc in omega arith);
       gathered = λ b h m q. absurd (let z : _≡_ {A = ℕ} 0 1 = cc in omega arith);

@@ -8,11 +8,11 @@ use lib.Dec.{eqb}
 use Rattle.outcomes.specs.Types.{Block, Lba, Disc, Flush, Skip, Record, Transfer, Nothing, Send, Gather, Fill, Plan, Command, Read, Write}
 use Rattle.fragments.specs.Address.{firstSector, sectorsIn}
 use Rattle.fragments.specs.Fragment.{end, firstUnrecorded}
-use Rattle.disc.specs.Records.{pendingIn, used, numbered, readable}
+use Rattle.disc.specs.Records.{pendingIn, used, numbered, isRecorded}
 use Rattle.disc.specs.Rules.{at, Sound}
 use Rattle.disc.specs.Ready.{Ready}
 use Rattle.decisions.specs.Plan.{noPlan, plan}
-use Rattle.commands.specs.Read.{allReadable}
+use Rattle.commands.specs.Read.{allReadable, sending}
 use Rattle.commands.specs.Flush.{flush, flushPlan}
 use Rattle.commands.specs.Write.{flushOthersPlan, Writable}
 use Rattle.outcomes.specs.Recorded.{among, flushes, transfers, recordsBlock}
@@ -21,7 +21,8 @@ use Rattle.fragments.proofs.Laws.Bool.{cond-cases, contradiction, or-cases}
 use Rattle.fragments.proofs.Laws.Numbers.{order-cases}
 use Rattle.disc.proofs.Laws.Rules.{sound-rules}
 use Rattle.disc.proofs.Laws.Sound.{starts-rise, pending-in-few}
-use Rattle.commands.proofs.Laws.Read.{readable-cases, recorded-from, recorded-below}
+use Rattle.disc.proofs.Laws.Readable.{recorded-cases, recorded-from, recorded-below}
+use Rattle.commands.proofs.Laws.Read.{Shared, shared}
 use Rattle.commands.proofs.Laws.Flush.{owner, flush-grows, flush-sound, flush-used}
 
 -- k blocks from block b on lie in one fragment, after its recorded blocks
@@ -36,10 +37,10 @@ module _ (d : Disc) (s : Sound d) (b k : ℕ) (u : Unrecorded d b k) where
   pub unrecorded-inside : b + k ≤ d .capacity
   unrecorded-inside = omega (arith, u .to, s .ends (u .index) (u .listed))
 
-  -- and none of their sectors is readable
-  pub unrecorded-blank : (a : Lba) → 16 * b ≤ a .0 → a .0 < 16 * (b + k) → readable d a ≡ true → ⊥
+  -- and none of their sectors is recorded
+  pub unrecorded-blank : (a : Lba) → 16 * b ≤ a .0 → a .0 < 16 * (b + k) → isRecorded d a ≡ true → ⊥
   unrecorded-blank a h l t =
-      readable-cases d a
+      recorded-cases d a
       (λ j lj held.
       let i = u .index in
       let from = recorded-from a (at d j) held in
@@ -55,10 +56,12 @@ pub data Flushed (d : Disc) : Flush → Type 0 where
   skips : Flushed d Skip
   records : (b : Block) (n : ℕ) → 1 ≤ n → n < 16 → Unrecorded d (b .0) 1 → Flushed d (Record b n)
 
--- only a READ sends, recorded sectors, and only a WRITE gathers, each its own
+-- only a READ sends, readable sectors, and only a WRITE gathers, each its own
 pub data Moved (d : Disc) (c : Command) : Transfer → Type 0 where
   nothing : Moved d c Nothing
-  sends : (a : Lba) (n : ℕ) → c ≡ Read a n → a .0 + n ≤ sectorsIn (d .capacity) → allReadable d a n ≡ true → Moved d c (Send a n)
+  sends :
+      (a : Lba) (n m i k : ℕ) → c ≡ Read a n → a .0 + n ≤ sectorsIn (d .capacity) → allReadable d a n ≡ true → Shared d a n m i k
+      → Moved d c (Send a m i k)
   gathers :
       (a : Lba) (b : Block) (held n : ℕ) → c ≡ Write a n → held < 16 → Unrecorded d (b .0) ((held + n) / 16) → Moved d c (Gather b held n)
   fills : (b : Block) (k : ℕ) → Unrecorded d (b .0) k → Moved d c (Fill b k)
@@ -72,9 +75,10 @@ pub placed-none : (d : Disc) (c : Command) → Placed d c noPlan
 placed-none d c = record { flushed = skips; moved = nothing }
 
 pub placed-send :
-    (d : Disc) (a : Lba) (n : ℕ) → a .0 + n ≤ sectorsIn (d .capacity) → allReadable d a n ≡ true
-    → Placed d (Read a n) (plan Skip (Send a n))
-placed-send d a n h t = record { flushed = skips; moved = sends a n refl h t }
+    (d : Disc) (a : Lba) (n : ℕ) → Sound d → (n ≡ 0 → ⊥) → a .0 + n ≤ sectorsIn (d .capacity) → allReadable d a n ≡ true
+    → Placed d (Read a n) (plan Skip (sending d a n))
+unfolding sending
+placed-send d a n s z h t = record { flushed = skips; moved = sends a n _ _ _ refl h t (shared d s a n z t) }
 
 flush-placed : (d : Disc) → Ready d → Flushed d (flushPlan d)
 unfolding flushPlan
@@ -133,33 +137,35 @@ placed-fill d c n r from to =
     }
 
 -- what a plan that sends has after it
-pub record Sending (d : Disc) (c : Command) (a : Lba) (n : ℕ) : Type 0 where
-  pub command : c ≡ Read a n
-  pub within : a .0 + n ≤ sectorsIn (d .capacity)
-  pub readable-all : allReadable d a n ≡ true
+pub record Sending (d : Disc) (c : Command) (a : Lba) (m i k : ℕ) : Type 0 where
+  pub count : ℕ
+  pub command : c ≡ Read a count
+  pub within : a .0 + count ≤ sectorsIn (d .capacity)
+  pub readable-all : allReadable d a count ≡ true
+  pub shares : Shared d a count m i k
 
-pub moved-sends : (d : Disc) (c : Command) (a : Lba) (n : ℕ) → Moved d c (Send a n) → Sending d c a n
-moved-sends d c a n (sends x y q h t) = record { command = q; within = h; readable-all = t }
+pub moved-sends : (d : Disc) (c : Command) (a : Lba) (m i k : ℕ) → Moved d c (Send a m i k) → Sending d c a m i k
+moved-sends d c a m i k (sends x n y j l q h t w) = record { count = n; command = q; within = h; readable-all = t; shares = w }
 
--- no block that a plan records has a readable sector
-flush-fresh : (d : Disc) (f : Flush) (a : Lba) → Sound d → Flushed d f → flushes f (a .0 / 16) ≡ true → readable d a ≡ true → ⊥
+-- no block that a plan records has a recorded sector
+flush-fresh : (d : Disc) (f : Flush) (a : Lba) → Sound d → Flushed d f → flushes f (a .0 / 16) ≡ true → isRecorded d a ≡ true → ⊥
 unfolding flushes
 flush-fresh d f a s skips t r = contradiction t refl
 flush-fresh d f a s (records b n some few u) t r =
     let e = eqb-true (a .0 / 16) (b .0) t in unrecorded-blank d s (b .0) 1 u a (omega (arith, e)) (omega (arith, e)) r
 
-among-fresh : (d : Disc) (b n : ℕ) (a : Lba) → Sound d → Unrecorded d b n → among b n (a .0 / 16) ≡ true → readable d a ≡ true → ⊥
+among-fresh : (d : Disc) (b n : ℕ) (a : Lba) → Sound d → Unrecorded d b n → among b n (a .0 / 16) ≡ true → isRecorded d a ≡ true → ⊥
 among-fresh d b n a s u t r =
     unrecorded-blank d s b n u a (omega (arith, among-from b n (a .0 / 16) t)) (omega (arith, among-below b n (a .0 / 16) t)) r
 
-transfer-fresh : (d : Disc) (c : Command) (t : Transfer) (a : Lba) → Sound d → Moved d c t → transfers t (a .0 / 16) ≡ true → readable d a ≡ true → ⊥
+transfer-fresh : (d : Disc) (c : Command) (t : Transfer) (a : Lba) → Sound d → Moved d c t → transfers t (a .0 / 16) ≡ true → isRecorded d a ≡ true → ⊥
 unfolding transfers
 transfer-fresh d c t a s nothing k r = contradiction k refl
-transfer-fresh d c t a s (sends x n q h l) k r = contradiction k refl
+transfer-fresh d c t a s (sends x n m i j q h l w) k r = contradiction k refl
 transfer-fresh d c t a s (gathers x b held n q few u) k r = among-fresh d (b .0) ((held + n) / 16) a s u k r
 transfer-fresh d c t a s (fills b n u) k r = among-fresh d (b .0) n a s u k r
 
-pub placed-fresh : (d : Disc) (c : Command) (p : Plan) (a : Lba) → Sound d → Placed d c p → recordsBlock p (a .0 / 16) ≡ true → readable d a ≡ true → ⊥
+pub placed-fresh : (d : Disc) (c : Command) (p : Plan) (a : Lba) → Sound d → Placed d c p → recordsBlock p (a .0 / 16) ≡ true → isRecorded d a ≡ true → ⊥
 unfolding recordsBlock
 placed-fresh d c p a s w t r =
     or-cases (flushes (p .flush) (a .0 / 16)) (transfers (p .transfer) (a .0 / 16)) (λ h. flush-fresh d (p .flush) a s (w .flushed) h r)

@@ -120,6 +120,6 @@ pub nothing-records : (d e : Disc) → Onward d e NoBlock → Onward d e (Record
 unfolding recordsBlock flushes transfers
 nothing-records d e o = no-block d e (recordsBlock noPlan) (λ x. refl) o
 
-pub sent-records : (d : Disc) (a : Lba) (n : ℕ) → Onward d d (Records (plan Skip (Send a n)))
+pub sent-records : (d : Disc) (a : Lba) (n i k : ℕ) → Onward d d (Records (plan Skip (Send a n i k)))
 unfolding recordsBlock flushes transfers
-sent-records d a n = no-block d d (recordsBlock (plan Skip (Send a n))) (λ x. refl) (same-onward d)
+sent-records d a n i k = no-block d d (recordsBlock (plan Skip (Send a n i k))) (λ x. refl) (same-onward d)

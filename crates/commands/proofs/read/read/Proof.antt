@@ -1,10 +1,11 @@
+use Prim.Native.Nat.{_+_, _≤_}
+use mathlib.Core.Path.{sym, _∙_}
+use borrow.Author.Tests.{eq-eqb, ne-eqb, ltb-false}
+use Rattle.fragments.specs.Address.{sectorsIn}
 use Rattle.disc.proofs.Laws.Apply.{refused-verdict, unchanged-verdict}
-use mathlib.Core.Bool.{true, false}
-use Rattle.commands.specs.Read.{allReadable, read}
-use borrow.Author.Tests.{eq-eqb, ne-eqb}
-use mathlib.Core.Path.{_≡_, sym, _∙_}
 use Rattle.disc.proofs.Laws.Rules.{sound-rules}
-use Rattle.commands.proofs.Laws.Read.{run-test}
+use Rattle.commands.specs.Read.{read}
+use Rattle.commands.proofs.Laws.Read.{read-nowhere}
 use native.Mathlib.Omega.{arith}
 use borrow.Author.Needs.{needs}
 use Rattle.commands.proofs.read.read.Statement.{statement}
@@ -33,44 +34,35 @@ returns-2 : tie.Need-returns-2
 unfolding read
 returns-2 c = simp (c .refused .ensures, refused-verdict, c .before .if2 .taken, ← (rw (c .before .before .before .first-sector .ensures) at (c .before .before .passes .ensures)), ne-eqb _ _ (c .before .before .before .before .if1 .left))
 
-holds-run-requires : tie.Need-holds-run-requires
-holds-run-requires c κs = search needs
+at-address-requires : tie.Need-at-address-requires
+at-address-requires c κs = search needs
 
-new-requires : tie.Need-new-requires
-new-requires c κs = search needs
+enum-known-found : tie.Need-enum-known-found
+enum-known-found c = search needs
 
-none-requires-2 : tie.Need-none-requires-2
-none-requires-2 c κs = search needs
+read-from-requires : tie.Need-read-from-requires
+read-from-requires c κs =
+    let d = c .before .before .before .before .before .before .before .before .args .disc in
+    let within : c .before .before .before .before .before .before .before .before .args .address .0 + c .before .before .before .before .before .before .before .before .args .sectors ≤ sectorsIn (d .capacity) =
+    ltb-false _ _ (sym (rw (c .before .before .before .before .before .before .first-sector .ensures) at (c .before .before .before .before .before .passes .ensures)) ∙ c .before .before .before .before .if2 .left) in
+    (c .before .before .before .before .before .before .before .before .pre, omega (arith, c .before .before .before .before .before .before .before .if1 .left), within, sym (c .before .before .before .at-address .ensures) ∙ c .before .found .given .1)
 
-accepted-requires : tie.Need-accepted-requires
-accepted-requires c κs = search needs
-
-returns-3 : tie.Need-returns-3
-unfolding read
-returns-3 c =
-    let start = c .before .before .before .before .before .before .before .before .before in
-    let d = start .args .disc in
-    let a = start .args .address in
-    let n = start .args .sectors in
-    let some-sectors = c .before .before .before .before .before .before .before .before .if1 .left in
-    let r : allReadable d a n ≡ true =
-    sym (run-test d (sound-rules d (start .pre .sound)) a n (omega arith)) ∙ sym (c .before .before .before .before .holds-run .ensures) ∙ c .before .before .before .if3 .taken in
-    simp (c .accepted .ensures, unchanged-verdict, c .before .none2 .ensures, c .before .before .new .ensures, r, c .before .before .before .before .before .if2 .left, ← (rw (c .before .before .before .before .before .before .before .first-sector .ensures) at (c .before .before .before .before .before .before .passes .ensures)), ne-eqb _ _ some-sectors)
+enum-told : tie.Need-enum-told
+enum-told c = search needs
 
 refused-requires-2 : tie.Need-refused-requires-2
 refused-requires-2 c κs = search needs
 
+returns-3 : tie.Need-returns-3
+returns-3 c = search needs
+
 returns-4 : tie.Need-returns-4
-unfolding read
 returns-4 c =
-    let start = c .before .before .before .before .before .before .before in
-    let d = start .args .disc in
-    let a = start .args .address in
-    let n = start .args .sectors in
-    let some-sectors = c .before .before .before .before .before .before .if1 .left in
-    let r : allReadable d a n ≡ false =
-    sym (run-test d (sound-rules d (start .pre .sound)) a n (omega arith)) ∙ sym (c .before .before .holds-run .ensures) ∙ c .before .if3 .left in
-    simp (c .refused2 .ensures, refused-verdict, r, c .before .before .before .if2 .left, ← (rw (c .before .before .before .before .before .first-sector .ensures) at (c .before .before .before .before .passes .ensures)), ne-eqb _ _ some-sectors)
+    let d = c .before .before .before .before .before .before .before .before .args .disc in
+    let within : c .before .before .before .before .before .before .before .before .args .address .0 + c .before .before .before .before .before .before .before .before .args .sectors ≤ sectorsIn (d .capacity) =
+    ltb-false _ _ (sym (rw (c .before .before .before .before .before .before .first-sector .ensures) at (c .before .before .before .before .before .passes .ensures)) ∙ c .before .before .before .before .if2 .left) in
+    rw (c .refused2 .ensures, refused-verdict)
+    (read-nowhere d (c .before .before .before .before .before .before .before .before .args .address) (c .before .before .before .before .before .before .before .before .args .sectors) (c .before .before .before .before .before .before .before .if1 .left) within (sound-rules d (c .before .before .before .before .before .before .before .before .pre .sound)) (sym (c .before .before .before .at-address .ensures) ∙ c .before .enum-told .given .1))
 
 pub read-spec : {M : Type 1} → statement M
 read-spec =
@@ -83,10 +75,10 @@ read-spec =
     passes-requires
     refused-requires
     returns-2
-    holds-run-requires
-    new-requires
-    none-requires-2
-    accepted-requires
-    returns-3
+    at-address-requires
+    enum-known-found
+    read-from-requires
+    enum-told
     refused-requires-2
+    returns-3
     returns-4)

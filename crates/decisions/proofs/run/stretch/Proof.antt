@@ -25,7 +25,7 @@ part-result-end c = search needs
 
 returns : tie.Need-returns
 returns c =
-    let a = c .before .args .address .0 in
+    let a = c .before .args .first in
     let n = c .before .args .sectors in
     let e : 2048 * a + 2048 * n - 2048 * a ≡ 2048 * n = omega arith in
     rw e

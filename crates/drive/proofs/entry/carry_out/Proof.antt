@@ -22,7 +22,7 @@ same-length-3 c = search needs
 returns : tie.Need-returns
 returns c =
     record {
-      responds = ap (outcome (c .before .before .before .before .before .before .before .before .before .before .before .before .before .before .before .before .before .before .before .args .decision)) (c .before .before .before .before .before .before .before .before .before .before .send .ensures .0);
+      responds = ap (outcome (c .before .before .before .before .before .before .before .before .before .before .before .before .before .before .before .before .before .before .before .before .args .decision)) (c .before .before .before .before .before .before .before .before .before .before .send .ensures .0);
       recordedMedium = c .before .before .before .before .before .carry-out .ensures .0;
       keptPending = c .before .before .before .before .before .carry-out .ensures .1;
       filledBuffer = c .before .before .before .before .before .before .before .before .before .before .send .ensures .1;

@@ -21,10 +21,11 @@ part-result-end : tie.Need-part-result-end
 part-result-end c = search needs
 
 returns : tie.Need-returns
+unfolding sentWithin
 returns c = c .stretch-within .ensures ∙ ap (λ t. sentWithin t (c .before .before .before .before .before .args .medium .now)) (sym (c .before .before .self .given .1))
 
 returns-2 : tie.Need-returns-2
-returns-2 c = sym (no-sectors (c .before .before .before .args .self) (c .before .before .before .args .medium .now) (c .before .match .keys2))
+returns-2 c = sym (no-sectors (c .before .before .before .args .self) (c .before .before .before .args .medium .now) (c .before .match .keys2) .0)
 
 pub run-spec : {M : Type 1} → statement M
 run-spec =

@@ -2,18 +2,18 @@ use Prim.Native.Nat.{_-_, _≤_}
 use lib.ListN.{drop, length}
 use Rattle.fragments.specs.Address.{later}
 use Rattle.fragments.proofs.Laws.Address.{zero-later, later-zero, later-later}
-use Rattle.fragments.specs.List.{limit, listed, lastReadable}
-use Rattle.fragments.proofs.Laws.List.{array-length, readable-off, readable-on, readable-end}
+use Rattle.fragments.specs.List.{limit, listed, highestRecorded}
+use Rattle.fragments.proofs.Laws.List.{array-length, highest-off, highest-on, highest-end}
 use borrow.Author.Needs.{needs}
 use mathlib.Core.Path.{_≡_, sym, _∙_}
 use native.Mathlib.Omega.{arith}
-use Rattle.fragments.proofs.list.last_readable.Statement.{statement}
-use Rattle.fragments.proofs.list.last_readable.Tie as tie
+use Rattle.fragments.proofs.list.highest_recorded.Statement.{statement}
+use Rattle.fragments.proofs.list.highest_recorded.Tie as tie
 
 abbrev Inv-loop : tie.InvT-loop
 Inv-loop fragments highest₀ i₀ highest i =
     (i ≤ limit) × (length fragments ≡ limit)
-    × (lastReadable (listed fragments) ≡ later highest (lastReadable (listed (drop i fragments))))
+    × (highestRecorded (listed fragments) ≡ later highest (highestRecorded (listed (drop i fragments))))
 
 abbrev μ-loop : tie.MeasureT-loop
 μ-loop fragments highest₀ i₀ highest i = limit - i
@@ -31,7 +31,7 @@ returns : tie.Need-returns Inv-loop μ-loop
 returns c =
     let w = c .before .before .before .before .loop in
     let e = w .inv .2 in
-    let o = readable-off (c .before .before .before .before .before .args .t1) (w .i) _ (omega arith) (c .if1 .taken) in
+    let o = highest-off (c .before .before .before .before .before .args .t1) (w .i) _ (omega arith) (c .if1 .taken) in
     sym (e ∙ (rw o (later-zero (w .highest))))
 
 last-recorded-requires : tie.Need-last-recorded-requires Inv-loop μ-loop
@@ -53,17 +53,17 @@ loop-again c =
       omega arith,
       w .inv .1,
       rw (c .later .ensures, c .before .last-recorded .ensures)
-          (w .inv .2 ∙ (rw (readable-on fs (w .i) _ (omega arith) (c .before .before .if1 .left)) (sym (later-later _ _ _)))),
+          (w .inv .2 ∙ (rw (highest-on fs (w .i) _ (omega arith) (c .before .before .if1 .left)) (sym (later-later _ _ _)))),
     )
 
 returns-2 : tie.Need-returns-2 Inv-loop μ-loop
 returns-2 c =
     let w = c .before .loop in
-    let o = readable-end (c .before .before .args .t1) (w .i) (omega arith) in
+    let o = highest-end (c .before .before .args .t1) (w .i) (omega arith) in
     sym (w .inv .2 ∙ (rw o (later-zero (w .highest))))
 
-pub last-readable-spec : {M : Type 1} → statement M
-last-readable-spec =
+pub highest-recorded-spec : {M : Type 1} → statement M
+highest-recorded-spec =
     tie.close
     (tie.spec
     Inv-loop

@@ -324,10 +324,10 @@ impl Event<'_> {
         recorded.map(|record| recorded_end(&record) - 1).max()
     }
 
-    /// The pending bytes past the count are not all zero. A READ leaves them.
+    /// The sector after the pending ones in the pending buffer is not zeros. A READ leaves it.
     fn has_noise_past_count(&self) -> bool {
         let held = self.before.pending_count() as usize * SECTOR_BYTES;
-        self.pending[held..].iter().any(|&byte| byte != 0)
+        self.pending[held..held + SECTOR_BYTES] != [0; SECTOR_BYTES]
     }
 
     /// Where the pending sectors will be recorded, the medium does not hold their bytes.

@@ -1,4 +1,4 @@
-/* The first commands of a disc: WRITE, SYNCHRONIZE CACHE, a READ, and a READ of a sector that nobody recorded. */
+/* The first commands of a disc: WRITE, SYNCHRONIZE CACHE, a READ, and a READ of a sector that is neither recorded nor pending. */
 #include "gladhamre.h"
 #include <stdio.h>
 #include <string.h>

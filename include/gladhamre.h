@@ -76,7 +76,7 @@ uint32_t gladhamre_blank(uint32_t capacity, uint32_t *state, size_t state_words)
  *          with data is L4, like every other command with data that it does not take.
  * state    the image, GLADHAMRE_STATE_WORDS words.
  * medium   C blocks of 32,768 bytes.
- * pending  the pending buffer, 32,768 bytes.
+ * pending  the pending buffer, 32,768 bytes: the pending sectors first, one after another. A READ takes them from here.
  * reply    the reply buffer: at least 2,048 bytes for each sector of a READ (28h), 8 for 25h, the allocation length cut to the report
  *          for 03h, 51h and 52h; any length for the other commands. Bytes past the reply are left alone.
  * reply_count, recorded: the reply's length, and the number of blocks that the command recorded; 0 on every refusal.
@@ -110,8 +110,9 @@ uint32_t gladhamre_command(
  * On the bus. A link refusal (1 to 4) is no answer of the drive: abort the command and let the controller try again; the sense is the
  * one of the last command that reached the drive. A drive refusal is reported as CHECK CONDITION, and 03h tells the sense.
  *
- * Nothing outside writes the image, the recorded blocks or the pending sectors. Bytes of unrecorded blocks, and of the pending buffer
- * past the pending sectors, are stale: they may hold anything, and no answer depends on them.
+ * Nothing outside writes the image, the recorded blocks or the pending sectors: a READ gives the sectors as they stand there. Bytes of
+ * unrecorded blocks, and of the pending buffer past the pending sectors, are stale: they may hold anything, and no answer depends on
+ * them.
  */
 
 #ifdef __cplusplus

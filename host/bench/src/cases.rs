@@ -10,7 +10,7 @@ pub const CAPACITY: u32 = 500;
 const BLOCK_SECTORS: u32 = 16;
 
 /// Sectors recorded in the tail, enough for the longest READ.
-const READABLE: u16 = 64;
+const RECORDED: u16 = 64;
 
 /// A command, and the state on which it is given again and again.
 pub struct Case {
@@ -74,7 +74,7 @@ pub fn cases(buffers: &mut Buffers) -> Vec<Case> {
             cases.push(Case { name, list, cdb, start: start.clone(), bytes });
         };
         let mut disc = Maker::with_fragments(records - 1, buffers);
-        disc.write(READABLE);
+        disc.write(RECORDED);
         let start = disc.state.clone();
         add("TEST UNIT READY".into(), cdb::opcode_only(cdb::TEST_UNIT_READY), &start, 0);
         for sectors in [1, 16, 64] {
@@ -95,6 +95,7 @@ pub fn cases(buffers: &mut Buffers) -> Vec<Case> {
         let bytes = 64 * SECTOR_BYTES;
         add("WRITE 64, 4 pending".into(), cdb::write(disc.next(), 64), &disc.state, bytes);
     }
+    cases.extend(reads_of_pending(buffers));
     cases.extend(list_changes(buffers));
     cases
 }
@@ -105,6 +106,23 @@ fn list_of(records: usize) -> String {
         1 => "1 record".into(),
         _ => format!("{records} records"),
     }
+}
+
+/// READs that end in the pending buffer: of the five sectors there, and of 64 across the border.
+fn reads_of_pending(buffers: &mut Buffers) -> Vec<Case> {
+    let mut cases = Vec::new();
+    for records in [1, RECORD_LIMIT] {
+        let mut disc = Maker::with_fragments(records - 1, buffers);
+        disc.write(RECORDED);
+        disc.write(5);
+        for (name, sectors) in [("READ 5, all pending", 5), ("READ 64, 5 pending", 64)] {
+            let cdb = cdb::read(disc.next() - u32::from(sectors), sectors);
+            let (list, start) = (list_of(records), disc.state.clone());
+            let bytes = usize::from(sectors) * SECTOR_BYTES;
+            cases.push(Case { name: name.into(), list, cdb, start, bytes });
+        }
+    }
+    cases
 }
 
 /// RESERVE needs a blank tail, and makes the last record where one is free; so does CLOSE 010 with a

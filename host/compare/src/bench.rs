@@ -10,7 +10,7 @@ pub struct Bench<'a> {
     drive: &'a dyn Drive,
     pub state: State,
     pub medium: Vec<u8>,
-    pending: Vec<u8>,
+    pub pending: Vec<u8>,
 }
 
 impl<'a> Bench<'a> {
@@ -74,6 +74,14 @@ impl<'a> Bench<'a> {
 
     fn held_bytes(&self) -> usize {
         self.state.pending_count() as usize * SECTOR_BYTES
+    }
+
+    /// The pending sectors with their addresses.
+    pub fn pending_sectors(&self) -> impl Iterator<Item = (usize, &[u8])> {
+        let index = (self.state.pending_fragment() as usize).saturating_sub(1);
+        let holder = self.state.record(index);
+        let first = 16 * (holder.start + holder.recorded) as usize;
+        (first..).zip(self.pending[..self.held_bytes()].chunks(SECTOR_BYTES))
     }
 
     /// The same state, pending sectors and recorded sectors.

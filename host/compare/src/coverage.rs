@@ -2,7 +2,7 @@
 
 use crate::cdb::{self, Cdb};
 use crate::event::Event;
-use crate::situations::SITUATIONS;
+use crate::situations;
 use gladhamre::State;
 use std::collections::BTreeMap;
 use std::fmt;
@@ -30,11 +30,11 @@ pub struct Coverage {
 
 /// A count for each of the situations.
 #[derive(Clone, Debug)]
-struct Met([u64; SITUATIONS.len()]);
+struct Met([u64; situations::COUNT]);
 
 impl Default for Met {
     fn default() -> Met {
-        Met([0; SITUATIONS.len()])
+        Met([0; situations::COUNT])
     }
 }
 
@@ -53,7 +53,7 @@ impl Coverage {
         if !(1..=4).contains(&number) {
             self.blocks_recorded += event.answer.recorded;
             self.note_state(event.after);
-            for (count, (_, is_met)) in self.situations.0.iter_mut().zip(SITUATIONS) {
+            for (count, (_, is_met)) in self.situations.0.iter_mut().zip(situations::all()) {
                 *count += u64::from(is_met(event));
             }
         }
@@ -102,8 +102,13 @@ impl Coverage {
 
     /// How often each situation came.
     pub fn situations(&self) -> impl Iterator<Item = (u64, &'static str)> + '_ {
-        let named = self.situations.0.iter().zip(SITUATIONS);
+        let named = self.situations.0.iter().zip(situations::all());
         named.map(|(&count, (name, _))| (count, name))
+    }
+
+    /// How often each of those came in which it counts what is readable.
+    pub fn readable_situations(&self) -> impl Iterator<Item = (u64, &'static str)> + '_ {
+        self.situations().skip(situations::OF_FRAGMENTS.len())
     }
 
     fn answers_of(&self, command: &str) -> String {

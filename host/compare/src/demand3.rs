@@ -3,6 +3,7 @@
 
 use crate::bench::Bench;
 use crate::cdb;
+use crate::event::Event;
 use crate::history::{Ledger, Writes};
 use crate::outline::{Outline, Place};
 use crate::pool::OFFSETS;
@@ -19,6 +20,8 @@ pub struct Tally {
     /// WRITEs tried whole and in parts from the same state, and how many of them were accepted.
     pub tried: u64,
     pub tried_accepted: u64,
+    /// READs sent again whose sectors are pending, all of them or the last.
+    pub pending_reads: u64,
     pub most_records: usize,
 }
 
@@ -27,6 +30,44 @@ struct Turn {
     request: Request,
     answer: Answer,
     reply: Vec<u8>,
+    /// Whether it is a READ that ends in the pending buffer.
+    reads_pending: bool,
+}
+
+/// The commands of the first run, and what must hold by their history.
+struct FirstRun {
+    turns: Vec<Turn>,
+    ledger: Ledger,
+    writes: Writes,
+}
+
+impl FirstRun {
+    fn new(capacity: u32) -> FirstRun {
+        FirstRun { turns: Vec::new(), ledger: Ledger::new(capacity), writes: Writes::new(capacity) }
+    }
+
+    /// Sends a command. A recorded block stays recorded, and a READ gives what was written.
+    fn send(&mut self, bench: &mut Bench, request: Request) -> Result<(), String> {
+        let before = bench.state.clone();
+        let (answer, reply) = bench.command(&request);
+        self.writes.note(&request, &answer, &before);
+        self.writes.check_reply(&request, &reply)?;
+        self.ledger.note(bench)?;
+        let reads_pending = request.twelve().is_some_and(|cdb| {
+            let (medium, pending) = (&bench.medium, &bench.pending);
+            let (before, after) = (&before, &bench.state);
+            let event = Event { cdb: &cdb, answer: &answer, before, after, medium, pending };
+            event.reads_pending()
+        });
+        self.turns.push(Turn { request, answer, reply, reads_pending });
+        Ok(())
+    }
+
+    /// No recorded block has changed, and each holds what the history says.
+    fn check(&self, bench: &Bench) -> Result<(), String> {
+        self.ledger.check(bench)?;
+        self.writes.check(bench)
+    }
 }
 
 /// Checks one random sequence on a disc of that many blocks.
@@ -48,8 +89,8 @@ pub fn check(drive: &dyn Drive, capacity: u32, seed: u64, tally: &mut Tally) -> 
     Ok(())
 }
 
-/// Draws and sends the commands. No recorded block may change, and each holds what the history
-/// says; now and then a WRITE is tried whole and in parts.
+/// Draws and sends the commands, with READs more where sectors are pending; now and then a WRITE is
+/// tried whole and in parts.
 fn first_run(
     bench: &mut Bench,
     random: &mut Random,
@@ -59,31 +100,26 @@ fn first_run(
     let mut generator = Generator::new(random.draw());
     generator.buffers_right = true;
     generator.crowds = random.once_in(crowds_once_in(bench.state.capacity()));
-    let mut ledger = Ledger::new(bench.state.capacity());
-    let mut writes = Writes::new(bench.state.capacity());
-    let mut turns = Vec::new();
+    let mut run = FirstRun::new(bench.state.capacity());
     for (mood, commands) in theme(random, generator.crowds) {
         generator.mood = mood;
         for _ in 0..commands {
             if disturbed && random.once_in(3) {
                 bench.change_stale(random);
             }
-            let request = generator.request(&bench.state, bench.medium.len());
-            let before = bench.state.clone();
-            let (answer, reply) = bench.command(&request);
-            writes.note(&request, &answer, &before);
-            turns.push(Turn { request, answer, reply });
+            if bench.state.pending_count() > 0 && random.once_in(8) {
+                run.send(bench, generator.read(&bench.state, bench.medium.len()))?;
+            }
+            run.send(bench, generator.request(&bench.state, bench.medium.len()))?;
             tally.most_records = tally.most_records.max(bench.state.records().count());
-            ledger.note(bench)?;
             if random.once_in(40) {
                 try_cut(bench, random, tally)?;
             }
         }
-        ledger.check(bench)?;
-        writes.check(bench)?;
+        run.check(bench)?;
     }
-    tally.commands += turns.len() as u64;
-    Ok(turns)
+    tally.commands += run.turns.len() as u64;
+    Ok(run.turns)
 }
 
 /// Sends the same commands again, some accepted WRITEs in parts.
@@ -100,6 +136,7 @@ fn second_run(
         }
         let parts = cut(turn, random);
         let outcome = if parts.is_empty() {
+            tally.pending_reads += u64::from(turn.reads_pending);
             repeat(bench, turn)
         } else {
             tally.writes_cut += 1;

@@ -12,6 +12,9 @@ pub struct Event<'a> {
     pub answer: &'a Answer,
     pub before: &'a State,
     pub after: &'a State,
+    /// The medium and the pending buffer after it.
+    pub medium: &'a [u8],
+    pub pending: &'a [u8],
 }
 
 /// Whether no record is free.

@@ -3,10 +3,13 @@
 
 use crate::cdb::{self, Cdb};
 use crate::mood::{Kind, Mood, KINDS};
-use crate::outline::{Outline, Place};
+use crate::outline::{Holder, Outline, Place};
 use crate::pool::OFFSETS;
 use crate::{Random, Request};
 use gladhamre::State;
+
+/// READs longer than this, in sectors, are rare.
+const LONG_READ: u64 = 100;
 
 /// The most whole blocks that the size of a RESERVE can name.
 const MOST_BLOCKS: u64 = u32::MAX as u64 / 16;
@@ -42,6 +45,19 @@ impl Generator {
         self.random.fill(&mut cdb);
         let kind = self.kind(&outline);
         self.set_fields(kind, &outline, &mut cdb);
+        self.lend(cdb, state, allocated)
+    }
+
+    /// A READ for a drive in that state.
+    pub fn read(&mut self, state: &State, allocated: usize) -> Request {
+        let mut cdb = [0; 12];
+        self.random.fill(&mut cdb);
+        self.set_read(&Outline::new(state), &mut cdb);
+        self.lend(cdb, state, allocated)
+    }
+
+    /// The command block with what is lent for it.
+    fn lend(&mut self, cdb: Cdb, state: &State, allocated: usize) -> Request {
         let mut request = Request::fitting(cdb, state.capacity());
         request.medium_length = request.medium_length.min(allocated);
         request.data_offset = self.random.below(OFFSETS as u64) as usize;
@@ -104,13 +120,41 @@ impl Generator {
 
     fn set_read(&mut self, outline: &Outline, cdb: &mut Cdb) {
         cdb[0] = cdb::READ;
-        let readable = self.place(outline, |place| place.recorded_end > place.first);
-        let (from, sectors) = match readable {
-            Some(place) if !self.random.once_in(3) => self.read_near(&place),
+        let pending = outline.pending().filter(|_| self.random.once_in(2));
+        let recorded = self.place(outline, |place| place.recorded_end > place.first);
+        let (from, sectors) = match (pending, recorded) {
+            (Some(holder), _) => self.read_about_pending(outline, &holder),
+            (None, Some(place)) if !self.random.once_in(3) => self.read_near(&place),
             _ => self.read_anywhere(outline),
         };
         let sectors = if self.random.once_in(30) { 0 } else { sectors };
         cdb::set_run(cdb, from as u32, sectors as u16);
+    }
+
+    /// A run that begins and ends at, beside or among the pending sectors; now and then it comes from
+    /// the fragment before theirs or goes on to the one after.
+    fn read_about_pending(&mut self, outline: &Outline, holder: &Holder) -> (u64, u64) {
+        let Place { first, recorded_end: border, next, .. } = holder.place;
+        let distance = self.random.between(1, 40);
+        let from = match self.random.below(10) {
+            0 => holder.before.map_or(first, |place| place.recorded_end.saturating_sub(1)),
+            1 => border.saturating_sub(1).max(first),
+            2 | 3 => border.saturating_sub(distance).max(first),
+            4 | 5 => border,
+            6 => next - 1,
+            7 => next,
+            _ => self.random.between(border, next - 1),
+        };
+        let end = match self.random.below(10) {
+            0 => holder.after.map_or(outline.sectors, |place| place.first) + 1,
+            1 => border,
+            2 => border + 1,
+            3 | 4 => next,
+            5 | 6 => next + 1,
+            7 => border + 16,
+            _ => self.random.between(from + 1, next),
+        };
+        (from, end.saturating_sub(from).clamp(1, LONG_READ))
     }
 
     /// A run that begins in the recorded part, and often ends next to its end.
@@ -122,7 +166,7 @@ impl Generator {
             _ => self.random.below(recorded),
         };
         let left = recorded - offset;
-        let longest = left.min(if self.random.once_in(50) { 65_534 } else { 100 });
+        let longest = left.min(if self.random.once_in(50) { 65_534 } else { LONG_READ });
         let sectors = match self.random.below(5) {
             0 => 1,
             1 => longest,

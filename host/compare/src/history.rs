@@ -73,8 +73,31 @@ impl Writes {
         }
     }
 
-    /// Every recorded sector has its data, or zeros where none came; in each fragment the recorded
-    /// sectors are those accepted, less those pending, plus those zero-filled.
+    /// What a sector holds once it is readable: its data, or zeros where none came.
+    fn expected(&self, address: usize) -> &'static [u8] {
+        match self.data[address] {
+            Some(offset) => &pool()[offset..][..SECTOR_BYTES],
+            None => &[0; SECTOR_BYTES],
+        }
+    }
+
+    /// Every sector that a READ gave is what was written there.
+    pub fn check_reply(&self, request: &Request, reply: &[u8]) -> Result<(), String> {
+        let from = match request.twelve() {
+            Some(cdb) if cdb[0] == cdb::READ => cdb::run(&cdb).0 as usize,
+            _ => return Ok(()),
+        };
+        for (address, bytes) in (from..).zip(reply.chunks(SECTOR_BYTES)) {
+            if bytes != self.expected(address) {
+                return Err(format!("READ gives sector {address} not as it was written"));
+            }
+        }
+        Ok(())
+    }
+
+    /// Every recorded sector has its data, or zeros where none came, and every pending one its data;
+    /// in each fragment the recorded sectors are those accepted, less those pending, plus those
+    /// zero-filled.
     pub fn check(&self, bench: &Bench) -> Result<(), String> {
         for (index, record) in bench.state.records().enumerate() {
             let own = bench.state.pending_fragment() as usize == index + 1;
@@ -86,11 +109,10 @@ impl Writes {
             }
         }
         let recorded = recorded_blocks(&bench.state);
-        let sectors = bench.medium.chunks_exact(SECTOR_BYTES).zip(&self.data);
-        for (address, (bytes, data)) in sectors.enumerate() {
-            let zeros = [0; SECTOR_BYTES];
-            let expected = data.map_or(&zeros[..], |offset| &pool()[offset..][..SECTOR_BYTES]);
-            if recorded[address / 16] && bytes != expected {
+        let on_medium = bench.medium.chunks_exact(SECTOR_BYTES).enumerate();
+        let on_medium = on_medium.filter(|(address, _)| recorded[address / 16]);
+        for (address, bytes) in on_medium.chain(bench.pending_sectors()) {
+            if bytes != self.expected(address) {
                 return Err(format!("sector {address} is not what was written there"));
             }
         }

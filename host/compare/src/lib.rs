@@ -18,6 +18,7 @@ mod outline;
 mod pair;
 mod pool;
 mod random;
+mod readable;
 mod request;
 pub mod rounds;
 mod situations;

@@ -64,6 +64,13 @@ impl Place {
     }
 }
 
+/// The fragment that has the pending sectors, and its neighbours.
+pub struct Holder {
+    pub place: Place,
+    pub before: Option<Place>,
+    pub after: Option<Place>,
+}
+
 /// A disc's boundaries.
 pub struct Outline {
     /// The sectors of the disc.
@@ -78,6 +85,14 @@ impl Outline {
             sectors: 16 * u64::from(state.capacity()),
             places: state.records().enumerate().map(place).collect(),
         }
+    }
+
+    /// The fragment that has the pending sectors, with the ones before and after it.
+    pub fn pending(&self) -> Option<Holder> {
+        let index = self.places.iter().position(|place| place.pending > 0)?;
+        let before = index.checked_sub(1).map(|index| self.places[index]);
+        let after = self.places.get(index + 1).copied();
+        Some(Holder { place: self.places[index], before, after })
     }
 
     /// The commands that try the limit of records, where at most one is free.

@@ -168,9 +168,14 @@ impl<'a> Pair<'a> {
         self.compare_after(&left, &right, &before, &after)
             .map_err(|what| self.difference(&what, request, &before))?;
         match &request.twelve() {
-            Some(cdb) => {
-                self.coverage.note(&Event { cdb, answer: &left, before: &before, after: &after })
-            }
+            Some(cdb) => self.coverage.note(&Event {
+                cdb,
+                answer: &left,
+                before: &before,
+                after: &after,
+                medium: &self.left.medium,
+                pending: &self.left.pending[..BLOCK_BYTES],
+            }),
             None => self.coverage.note_cut_cdb(left.number),
         }
         self.commands_since_whole += 1;

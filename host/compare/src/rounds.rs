@@ -105,10 +105,16 @@ fn is_closed(state: &State) -> bool {
     state.records().all(|record| record.recorded == record.length)
 }
 
-/// One command, now and then after other stale bytes.
+/// One command, now and then after other stale bytes; now and then a READ first, where sectors are
+/// pending.
 fn step(pair: &mut Pair, generator: &mut Generator) -> Result<(), Difference> {
     if generator.random.once_in(12) {
         pair.change_stale(&mut generator.random);
+    }
+    let state = pair.state();
+    if state.pending_count() > 0 && generator.random.once_in(8) {
+        let request = generator.read(&state, pair.allocated());
+        pair.command(&request, &mut generator.random)?;
     }
     let request = generator.request(&pair.state(), pair.allocated());
     pair.command(&request, &mut generator.random)?;

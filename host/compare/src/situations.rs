@@ -3,13 +3,22 @@
 
 use crate::cdb;
 use crate::event::{is_full, lacks_one, Event};
+use crate::readable::OF_READABLE_SECTORS;
 use gladhamre::RECORD_LIMIT;
 
 /// A situation's name and how it is known.
-type Situation = (&'static str, fn(&Event) -> bool);
+pub type Situation = (&'static str, fn(&Event) -> bool);
 
-/// The situations.
-pub const SITUATIONS: [Situation; 63] = [
+/// How many there are.
+pub const COUNT: usize = OF_FRAGMENTS.len() + OF_READABLE_SECTORS.len();
+
+/// Every situation, those of readable sectors last.
+pub fn all() -> impl Iterator<Item = Situation> {
+    OF_FRAGMENTS.into_iter().chain(OF_READABLE_SECTORS)
+}
+
+/// The situations in which it counts how the fragments are.
+pub const OF_FRAGMENTS: [Situation; 63] = [
     ("WRITE flushes another fragment", |event| event.accepted(cdb::WRITE) && event.flushed()),
     ("WRITE fills its fragment exactly", |event| event.accepted(cdb::WRITE) && event.completed()),
     ("WRITE of length 0 while sectors are pending", |event| {

@@ -147,7 +147,8 @@ fn pending(random: &mut Random, records: &[Record]) -> (u32, u32) {
     if open.is_empty() || random.once_in(3) {
         return (0, 0);
     }
-    (random.between(1, 15) as u32, random.pick(&open))
+    let number = if random.once_in(4) { open[0] } else { random.pick(&open) };
+    (random.between(1, 15) as u32, number)
 }
 
 #[cfg(test)]

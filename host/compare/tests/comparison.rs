@@ -27,11 +27,16 @@ fn compare_with(
     pair.coverage
 }
 
+/// States injected, and that READs of every kind come on them.
 #[test]
 fn sound_states() {
-    compare_with("sound states", EFFORT.injected_blocks, |pair, seed| {
+    let reached = compare_with("sound states", EFFORT.injected_blocks, |pair, seed| {
         rounds::sound_states(pair, seed, EFFORT.sound)
     });
+    for (count, name) in reached.readable_situations() {
+        println!("{count:>12} {name}");
+        assert!(count > 0, "never met: {name}");
+    }
 }
 
 #[test]

@@ -16,6 +16,7 @@ fn check_sequences(drive: &dyn Drive, capacity: u32, count: u64) -> Tally {
     println!("{} on {capacity} blocks: {tally:?}", drive.name());
     assert!(tally.tried_accepted > 0 && tally.tried_accepted < tally.tried);
     assert!(tally.writes_cut > 0 && tally.parts > 2 * tally.writes_cut);
+    assert!(tally.pending_reads > 0);
     tally
 }
 

@@ -50,7 +50,8 @@ fn by_sequences_alone() {
     }
 }
 
-/// The check of demand 3 finds the mistakes that break it.
+/// The check of demand 3 finds the mistakes that break it, and READs that give what nobody wrote
+/// there.
 #[test]
 fn of_whole_sequences() {
     let broken = [
@@ -58,6 +59,11 @@ fn of_whole_sequences() {
         Fault::PendingBytesKept,
         Fault::FlushKeepsStaleBytes,
         Fault::ZeroFilledForgotten,
+        Fault::StaleSectorServed,
+        Fault::PendingServedFromMedium,
+        Fault::FirstSectorFromMedium,
+        Fault::PendingShareFromFront,
+        Fault::PendingInLastFragment,
     ];
     for fault in broken {
         let faulty = Plain { fault: Some(fault) };

@@ -159,6 +159,20 @@ fn next_session(host: &mut Host) {
     assert_eq!((records[2].session, records[2].start, records[2].length), (2, 134, 166));
 }
 
+/// The case of five pending sectors read back, a run of its own.
+#[test]
+fn pending_sectors_read_back() {
+    on_both_drives(|drive| {
+        let host = &mut Host::blank(drive);
+        assert_eq!(host.write(0, data(5, 5)), (ACCEPTED, 0));
+        assert_eq!(host.read(0, 5), (ACCEPTED, data(5, 5).to_vec()));
+        assert_eq!(host.read(0, 6), (0x080000, vec![]));
+        assert_eq!(host.state.sense(), [0x8, 0x00, 0x00]);
+        let capacity = host.send(cdb::opcode_only(cdb::READ_CAPACITY), &[]);
+        assert_eq!(capacity, (ACCEPTED, vec![0, 0, 0, 4, 0, 0, 8, 0], 0));
+    });
+}
+
 #[test]
 fn last_line() {
     on_both_drives(|drive| {

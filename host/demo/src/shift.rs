@@ -16,8 +16,8 @@ const INVALID_FIELD_IN_COMMAND: u32 = 0x052400;
 const INCOMPLETE_TRACK_IN_SESSION: u32 = 0x057203;
 const END_OF_USER_AREA: u32 = 0x056300;
 
-/// The whole shift: the run of all lines but the last, then those of the last line, each a run of
-/// its own.
+/// The whole shift: the run of all lines but the last, then those of the last line and the case of
+/// pending sectors, each a run of its own.
 pub fn runs() -> Vec<Run> {
     let mut runs = vec![Run {
         title: "Document 01's shift on a 300-block disc".into(),
@@ -25,14 +25,15 @@ pub fn runs() -> Vec<Run> {
         lines: first_run(),
         mapped: true,
     }];
-    let last_line = [
+    let others = [
         ("Another blank disc: CLOSE SESSION with e = 171", session_after(171)),
         ("Another blank disc: CLOSE SESSION with e = 172", session_after(172)),
         ("Another blank disc: RESERVE TRACK of 4,768", reserve(4_768)),
         ("Another blank disc: RESERVE TRACK of 4,769", reserve(4_769)),
         ("Another blank disc: RESERVE TRACK of 4,784", reserve(4_784)),
+        ("Another blank disc: 5 pending sectors read back", read_back()),
     ];
-    for (title, lines) in last_line {
+    for (title, lines) in others {
         runs.push(Run { title: title.into(), capacity: CAPACITY, lines, mapped: false });
     }
     runs
@@ -159,4 +160,17 @@ fn reserve(sectors: u32) -> Vec<Line> {
         4_769 => accepted(cdb, 0, &blank).refused(INVALID_FIELD_IN_COMMAND),
         _ => accepted(cdb, 0, &blank).refused(END_OF_USER_AREA),
     }]
+}
+
+/// Pending sectors come back as they were written; the one after them is refused, and 25h names the
+/// last.
+fn read_back() -> Vec<Line> {
+    let blank = [appended(1, 0, 300, 0, 0)];
+    let capacity = vec![0, 0, 0, 4, 0, 0, 0x08, 0];
+    vec![
+        accepted(cdb::write(0, 5), 5, &blank).pending(5),
+        accepted(cdb::read(0, 5), 5, &blank).pending(5).replying(stamped(0, 5)),
+        accepted(cdb::read(0, 6), 5, &blank).pending(5).refused(BLANK_CHECK),
+        accepted(cdb::opcode_only(cdb::READ_CAPACITY), 5, &blank).pending(5).replying(capacity),
+    ]
 }

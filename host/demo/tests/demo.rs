@@ -46,7 +46,7 @@ fn assert_line(text: &str, line: &str) {
 #[test]
 fn shift_is_as_documented() {
     let answers: Vec<usize> = shift::runs().iter().map(|run| run.lines.len()).collect();
-    assert_eq!(answers, [16, 2, 2, 1, 1, 1]);
+    assert_eq!(answers, [16, 2, 2, 1, 1, 1, 4]);
     for run in shift::runs() {
         let (_, wrong, text) = played(&run);
         assert_eq!(wrong, 0, "{text}");
@@ -259,13 +259,15 @@ fn svg_labels(svg: &str, attribute: &str) -> Vec<String> {
     texts.map(|line| line[line.find('>').expect("a tag") + 1..].replace("</text>", "")).collect()
 }
 
-/// The sectors shown as zero-filled are as many as each fragment's F says, and hold zeros.
+/// The sectors shown as zero-filled are as many as each fragment's F says, and hold zeros. They, the
+/// other recorded ones and the pending ones are those that can be read.
 #[test]
 fn zero_filled_sectors_are_those_counted() {
     let mut disc = left_by(&script("cold-store.txt"));
     let blocks = Map::of("a disc", &disc).blocks;
     let records: Vec<_> = disc.state.records().collect();
     assert!(records.iter().any(|record| record.zero_filled > 16));
+    assert_eq!(disc.state.pending_count(), 10);
     for record in records {
         let own = &blocks[record.start as usize..(record.start + record.length) as usize];
         let shown = own.iter().flatten().filter(|&&sector| sector == Sector::ZeroFilled).count();
@@ -273,7 +275,7 @@ fn zero_filled_sectors_are_those_counted() {
     }
     for (address, sector) in blocks.iter().flatten().enumerate() {
         let outcome = disc.send(&cdb::read(address as u32, 1), &[]);
-        let readable = matches!(sector, Sector::Recorded | Sector::ZeroFilled);
+        let readable = matches!(sector, Sector::Recorded | Sector::ZeroFilled | Sector::Pending);
         assert_eq!(outcome.answer.is_ok(), readable, "sector {address}");
         let zeros = outcome.reply.iter().all(|&byte| byte == 0);
         assert!(!readable || zeros == (*sector == Sector::ZeroFilled), "sector {address}");
@@ -346,6 +348,35 @@ fn whole_blocks_are_reserved() {
         " 21  RESERVE TRACK of 33 sectors            refused   7/27/00 write protected                   -      0",
         " 22  RESERVE TRACK of 0 sectors             refused   7/27/00 write protected                   -      0",
         " 23  RESERVE TRACK of 48 sectors            refused   7/27/00 write protected                   -      0",
+    ] {
+        assert_line(&table, line);
+    }
+}
+
+/// A controller reads back what it has just written. The answers are those that the script's comments
+/// say.
+#[test]
+fn pending_sectors_are_read_back() {
+    let mut parts = script::parse(&script("read-back.txt"), Path::new(SCRIPTS)).expect("a script");
+    let (disc, _, table) = played(&Run::of_part(parts.remove(0)));
+    assert_eq!((disc.state.record(0).recorded, disc.state.pending_count()), (2, 0));
+    for line in [
+        "     2A 00 00 00 00 00 00 00 05 00 00 00    1 tail, session 1, blocks 0-255, 0 of 256 recorded, 5 pending",
+        "  2  READ 5 sectors at 0                    accepted  0/00/00 no sense                          5      0",
+        "     28 00 00 00 00 00 00 00 05 00 00 00    1 tail, session 1, blocks 0-255, 0 of 256 recorded, 5 pending",
+        "     reply of 10240 bytes: begins A1 A1 A1 A1 A1 A1 A1 A1, 0 sectors all zero",
+        "  3  READ 6 sectors at 0                    refused   8/00/00 blank check                       5      0",
+        "     reply of 8 bytes: last readable address 4, sectors of 2048 bytes",
+        "  5  WRITE 15 sectors at 5                  accepted  0/00/00 no sense                         20      1",
+        "     28 00 00 00 00 04 00 00 10 00 00 00    1 tail, session 1, blocks 0-255, 1 of 256 recorded, 4 pending",
+        "     reply of 32768 bytes: begins A1 A1 A1 A1 A1 A1 A1 A1, 0 sectors all zero",
+        "  7  READ 5 sectors at 16                   refused   8/00/00 blank check                      20      0",
+        "     reply of 8 bytes: last readable address 19, sectors of 2048 bytes",
+        "     35 00 00 00 00 00 00 00 00 00 00 00    1 tail, session 1, blocks 0-255, 2 of 256 recorded, 12 zero-filled",
+        "     28 00 00 00 00 10 00 00 10 00 00 00    1 tail, session 1, blocks 0-255, 2 of 256 recorded, 12 zero-filled",
+        "     reply of 32768 bytes: begins B2 B2 B2 B2 B2 B2 B2 B2, 12 sectors all zero",
+        "     reply of 8 bytes: last readable address 31, sectors of 2048 bytes",
+        " 12  READ 1 sector at 32                    refused   8/00/00 blank check                      32      0",
     ] {
         assert_line(&table, line);
     }
@@ -434,9 +465,9 @@ fn program_ends_as_it_should() {
     let path = |name: &str| folder.join(name).display().to_string();
     let good = demo(&["--image", &path("shift.svg")]);
     assert!(good.status.success());
-    assert!(String::from_utf8_lossy(&good.stdout).contains("All 23 answers are as document 01"));
+    assert!(String::from_utf8_lossy(&good.stdout).contains("All 27 answers are as document 01"));
     assert!(folder.join("shift.svg").is_file());
-    for name in ["cold-store.txt", "four-rooms.txt", "whole-blocks.txt"] {
+    for name in ["cold-store.txt", "four-rooms.txt", "whole-blocks.txt", "read-back.txt"] {
         let example = format!("{SCRIPTS}/{name}");
         assert!(demo(&[&example, "--image", &path("script.svg")]).status.success());
     }

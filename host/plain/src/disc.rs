@@ -51,16 +51,15 @@ impl Fragment {
         self.kind == Kind::Appended && !self.is_complete()
     }
 
-    /// The last sector of the recorded blocks.
-    pub fn last_recorded_sector(&self) -> Option<Address> {
-        let last = (self.recorded * BLOCK_SECTORS).checked_sub(1)?;
-        Some(self.start.first_sector() + last)
+    /// How many sectors are recorded.
+    pub fn recorded_sectors(&self) -> u64 {
+        self.recorded * BLOCK_SECTORS
     }
 
-    /// Whether every sector of the run is recorded here.
-    pub(crate) fn has_recorded(&self, from: Address, sectors: u64) -> bool {
-        self.start.first_sector() <= from
-            && from + sectors <= self.first_unrecorded().first_sector()
+    /// The last recorded sector.
+    pub fn last_recorded_sector(&self) -> Option<Address> {
+        let last = self.recorded_sectors().checked_sub(1)?;
+        Some(self.start.first_sector() + last)
     }
 }
 
@@ -140,6 +139,18 @@ impl Disc {
     /// How many sectors of the fragment are pending.
     pub(crate) fn pending_in(&self, index: usize) -> u64 {
         self.pending.filter(|pending| pending.index == index).map_or(0, |pending| pending.count)
+    }
+
+    /// How many sectors of the fragment are readable, from its first on: those recorded, then those
+    /// pending.
+    pub(crate) fn readable_sectors(&self, index: usize) -> u64 {
+        self.fragments[index].recorded_sectors() + self.pending_in(index)
+    }
+
+    /// The last readable sector of the fragment.
+    pub(crate) fn last_readable_sector(&self, index: usize) -> Option<Address> {
+        let last = self.readable_sectors(index).checked_sub(1)?;
+        Some(self.fragments[index].start.first_sector() + last)
     }
 
     /// Nothing recorded and nothing pending.

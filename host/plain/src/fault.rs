@@ -16,6 +16,48 @@ pub enum Fault {
     WriteInPart,
     /// A dividing block is readable.
     DividingBlockServed,
+    /// 28h refuses pending sectors.
+    PendingRefused,
+    /// 28h refuses the last pending sector.
+    LastPendingRefused,
+    /// 28h refuses a run that begins on the medium and ends in the pending buffer.
+    BorderRunRefused,
+    /// 28h serves the sector after the pending ones, from the pending buffer.
+    StaleSectorServed,
+    /// 28h serves the pending block to its end, from the pending buffer.
+    PendingBlockServed,
+    /// 28h takes a run that begins readable as far as it is.
+    ReadInPart,
+    /// 28h looks at the first and the last sector of a run alone.
+    ReadTestsEndsAlone,
+    /// 28h looks for the pending sectors in the first fragment.
+    PendingInFirstFragment,
+    /// 28h looks for the pending sectors in the last fragment.
+    PendingInLastFragment,
+    /// 28h takes the pending share of a run from the front of the pending buffer.
+    PendingShareFromFront,
+    /// 28h takes pending sectors from the medium.
+    PendingServedFromMedium,
+    /// 28h takes the first sector of a run from the medium, also where it is pending.
+    FirstSectorFromMedium,
+    /// 28h leaves the pending share out of the reply's count.
+    PendingShareUncounted,
+    /// 28h of pending sectors flushes them.
+    ReadFlushes,
+    /// 28h of pending sectors clears the pending bytes past the count.
+    ReadClearsStaleBytes,
+    /// 25h reports the last recorded address.
+    CapacityIgnoresPending,
+    /// 25h reports the last pending address, also where sectors after it are recorded.
+    CapacityStopsAtPending,
+    /// 25h adds the pending count to the last recorded address, whosever sectors are pending.
+    CapacityAddsPending,
+    /// 25h reports the end of the pending block.
+    CapacityCountsPendingBlock,
+    /// 52h reports the last readable address as the last recorded one.
+    LastRecordedCountsPending,
+    /// 52h reports a fragment with nothing but pending sectors as recorded in part.
+    RecordedFlagCountsPending,
     /// A WRITE leaves the pending bytes past the count.
     PendingBytesKept,
     /// The reply buffer is zeroed past the reply.
@@ -116,11 +158,32 @@ impl Fault {
     }
 
     /// The mistakes that commands on sound states can show.
-    pub const OF_COMMANDS: [Fault; 47] = [
+    pub const OF_COMMANDS: [Fault; 68] = [
         Fault::FlushOnRefusal,
         Fault::FlushFillsFragment,
         Fault::WriteInPart,
         Fault::DividingBlockServed,
+        Fault::PendingRefused,
+        Fault::LastPendingRefused,
+        Fault::BorderRunRefused,
+        Fault::StaleSectorServed,
+        Fault::PendingBlockServed,
+        Fault::ReadInPart,
+        Fault::ReadTestsEndsAlone,
+        Fault::PendingInFirstFragment,
+        Fault::PendingInLastFragment,
+        Fault::PendingShareFromFront,
+        Fault::PendingServedFromMedium,
+        Fault::FirstSectorFromMedium,
+        Fault::PendingShareUncounted,
+        Fault::ReadFlushes,
+        Fault::ReadClearsStaleBytes,
+        Fault::CapacityIgnoresPending,
+        Fault::CapacityStopsAtPending,
+        Fault::CapacityAddsPending,
+        Fault::CapacityCountsPendingBlock,
+        Fault::LastRecordedCountsPending,
+        Fault::RecordedFlagCountsPending,
         Fault::PendingBytesKept,
         Fault::ReplyBufferTouched,
         Fault::ReadRefusalsSwapped,

@@ -4,6 +4,7 @@
 use crate::command::Command;
 use crate::disc::Disc;
 use crate::fault::FORMER_LIMIT;
+use crate::read::Run;
 use crate::reply::{self, Report};
 use crate::{Address, Block, Fault, Kind, Sense, BLOCK_SECTORS, FRAGMENT_LIMIT};
 
@@ -15,7 +16,7 @@ pub(crate) const SESSION_GAP: u64 = 128;
 pub(crate) enum Step {
     Nothing,
     Send(Report),
-    Read { from: Address, sectors: u64 },
+    Read(Run),
     Write { index: usize, sectors: u64 },
     Flush,
     Reserve { index: usize, blocks: u64 },
@@ -54,7 +55,7 @@ impl Disc {
     }
 
     /// 28h: length 0 is accepted wherever it points; 5/21/00 past the disc, then 8/00/00 where a
-    /// sector is not readable.
+    /// sector is neither recorded nor pending.
     fn judge_read(&self, from: Address, sectors: u64) -> Result<Step, Sense> {
         if sectors == 0 {
             return Ok(Step::Nothing);
@@ -63,25 +64,7 @@ impl Disc {
         if passes_end && !self.slips(Fault::ReadRefusalsSwapped) {
             return Err(Sense::ADDRESS_OUT_OF_RANGE);
         }
-        if !self.is_readable(from, sectors) {
-            return Err(Sense::BLANK_CHECK);
-        }
-        Ok(Step::Read { from, sectors })
-    }
-
-    /// Recorded parts never touch each other, so a readable run lies in one of them.
-    fn is_readable(&self, from: Address, sectors: u64) -> bool {
-        self.fragments.iter().any(|fragment| fragment.has_recorded(from, sectors))
-            || (self.slips(Fault::DividingBlockServed) && self.is_dividing(from, sectors))
-    }
-
-    /// Whether the run lies in the block between two fragments of a session.
-    fn is_dividing(&self, from: Address, sectors: u64) -> bool {
-        self.fragments.windows(2).any(|pair| {
-            pair[1].session == pair[0].session
-                && pair[0].end().first_sector() <= from
-                && from + sectors <= pair[1].start.first_sector()
-        })
+        self.readable_run(from, sectors).map(Step::Read).ok_or(Sense::BLANK_CHECK)
     }
 
     /// 2Ah: length 0 is accepted wherever it points, also on a finalized disc; then 7/27/00;

@@ -17,6 +17,7 @@ mod fault;
 mod image;
 mod judge;
 mod perform;
+mod read;
 mod reply;
 mod sound;
 mod units;

@@ -4,7 +4,7 @@ use crate::answer::Accepted;
 use crate::command::Command;
 use crate::disc::{Disc, Pending};
 use crate::judge::{Step, SESSION_GAP};
-use crate::units::{block_stretch, sector_bytes, stretch};
+use crate::units::{block_stretch, sector_bytes};
 use crate::{
     Answer, Block, Fault, Fragment, Kind, Lent, Refusal, Sense, BLOCK_SECTORS, FRAGMENT_LIMIT,
 };
@@ -55,11 +55,7 @@ impl Disc {
                 }
                 Accepted::with_reply(sent.len())
             }
-            Step::Read { from, sectors } => {
-                let run = &lent.medium[stretch(from, sectors)];
-                lent.reply[..run.len()].copy_from_slice(run);
-                Accepted::with_reply(run.len())
-            }
+            Step::Read(run) => Accepted::with_reply(self.read(run, lent)),
             Step::Write { index, sectors } => {
                 Accepted::with_recorded(self.write(index, sectors, lent))
             }
@@ -130,7 +126,7 @@ impl Disc {
 
     /// The pending block's missing sectors become zero and it is recorded. Gives the blocks
     /// recorded, 0 or 1.
-    fn flush(&mut self, lent: &mut Lent) -> u64 {
+    pub(crate) fn flush(&mut self, lent: &mut Lent) -> u64 {
         let Some(Pending { index, count }) = self.pending.take() else {
             return 0;
         };

@@ -41,11 +41,28 @@ pub fn sense(sense: Sense) -> [u8; SENSE_BYTES] {
 
 /// 25h: the last readable address and the length of a sector.
 pub fn capacity(disc: &Disc) -> [u8; CAPACITY_BYTES] {
-    let last = disc.fragments.iter().filter_map(Fragment::last_recorded_sector).max();
     let mut reply = [0; CAPACITY_BYTES];
-    put_four(&mut reply, 0, last.map_or(0, |address| address.0));
+    put_four(&mut reply, 0, last_readable(disc).map_or(0, |address| address.0));
     put_four(&mut reply, 4, SECTOR_BYTES as u64);
     reply
+}
+
+/// The highest readable address of any fragment.
+fn last_readable(disc: &Disc) -> Option<Address> {
+    let of_fragment = |index: usize| disc.last_readable_sector(index);
+    let readable = (0..disc.fragments.len()).filter_map(of_fragment).max();
+    let recorded = disc.fragments.iter().filter_map(Fragment::last_recorded_sector).max();
+    match (disc.fault, disc.pending) {
+        (Some(Fault::CapacityIgnoresPending), Some(_)) => recorded,
+        (Some(Fault::CapacityStopsAtPending), Some(pending)) => of_fragment(pending.index),
+        (Some(Fault::CapacityAddsPending), Some(pending)) => {
+            recorded.map_or(readable, |last| Some(last + pending.count))
+        }
+        (Some(Fault::CapacityCountsPendingBlock), Some(_)) => {
+            readable.map(|last| last.block().first_sector() + (BLOCK_SECTORS - 1))
+        }
+        _ => readable,
+    }
 }
 
 /// 51h: the disc, its sessions and the fragments of the last one.
@@ -101,14 +118,30 @@ pub fn fragment_information(disc: &Disc, index: usize) -> [u8; FRAGMENT_INFORMAT
     put_split(&mut reply, 3, 33, fragment.session);
     reply[5] = 0x04;
     reply[6] = 0x01 | fragment_flags(disc, index);
-    reply[7] = flag(fragment.recorded > 0, 0x02) | flag(!fragment.is_complete(), 0x01);
+    reply[7] = flag(is_recorded(disc, index), 0x02) | flag(!fragment.is_complete(), 0x01);
     put_four(&mut reply, 8, fragment.start.first_sector().0);
     put_four(&mut reply, 12, address(next));
     put_four(&mut reply, 16, free);
     put_four(&mut reply, 20, BLOCK_SECTORS);
     put_four(&mut reply, 24, fragment.length * BLOCK_SECTORS);
-    put_four(&mut reply, 28, address(fragment.last_recorded_sector()));
+    put_four(&mut reply, 28, address(last_recorded(disc, index)));
     reply
+}
+
+/// Whether anything of the fragment is recorded.
+fn is_recorded(disc: &Disc, index: usize) -> bool {
+    match disc.slips(Fault::RecordedFlagCountsPending) {
+        true => disc.readable_sectors(index) > 0,
+        false => disc.fragments[index].recorded > 0,
+    }
+}
+
+/// The last recorded address of the fragment.
+fn last_recorded(disc: &Disc, index: usize) -> Option<Address> {
+    match disc.slips(Fault::LastRecordedCountsPending) {
+        true => disc.last_readable_sector(index),
+        false => disc.fragments[index].last_recorded_sector(),
+    }
 }
 
 /// Reserved and blank.

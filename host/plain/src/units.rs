@@ -31,6 +31,11 @@ impl Address {
     pub fn block(self) -> Block {
         Block(self.0 / BLOCK_SECTORS)
     }
+
+    /// The sectors from here up to another address, none if that one comes first.
+    pub fn sectors_to(self, end: Address) -> u64 {
+        end.0.saturating_sub(self.0)
+    }
 }
 
 impl Add<u64> for Block {

@@ -5,9 +5,12 @@ use plain::{Disc, Lent, BLOCK_BYTES, IMAGE_WORDS, SECTOR_BYTES};
 const CAPACITY: u32 = 300;
 
 /// The commands of document 01's shift and a few more, each with its number.
-const COMMANDS: [([u8; 12], u32); 19] = [
+const COMMANDS: [([u8; 12], u32); 22] = [
     ([0x51, 0, 0, 0, 0, 0, 0, 0, 34, 0, 0, 0], 0),
     ([0x2A, 0, 0, 0, 0, 0, 0, 0, 20, 0, 0, 0], 0),
+    ([0x28, 0, 0, 0, 0, 10, 0, 0, 10, 0, 0, 0], 0),
+    ([0x28, 0, 0, 0, 0, 16, 0, 0, 5, 0, 0, 0], 0x080000),
+    ([0x25, 0, 0, 0, 0, 0, 0, 0, 0, 0, 0, 0], 0),
     ([0x2A, 0, 0, 0, 0, 16, 0, 0, 1, 0, 0, 0], 0x052102),
     ([0x03, 0, 0, 0, 18, 0, 0, 0, 0, 0, 0, 0], 0),
     ([0x35, 0, 0, 0, 0, 0, 0, 0, 0, 0, 0, 0], 0),

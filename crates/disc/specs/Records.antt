@@ -4,9 +4,9 @@ use mathlib.Core.Bool.{Bool, not, cond, _&&_, _||_}
 use mathlib.Core.List.{List}
 use lib.ListN.{length, set}
 use lib.Dec.{eqb, leb}
-use Rattle.disc.specs.Types.{Lba, Sense, Fragment, Disc, Found, Last, TailNext, Address, NoTail}
+use Rattle.disc.specs.Types.{Lba, Sense, Fragment, Disc, Found, Last, Reach, TailNext, Address, NoTail}
 use Rattle.fragments.specs.Fragment.{isTail, nextAfter, holdsRecorded, holdsPending}
-use Rattle.fragments.specs.List.{listed, recordNumbered, lastOf, some, pendingOf, holderOf, takerOf, highestReadable, firstOfSession}
+use Rattle.fragments.specs.List.{listed, recordNumbered, lastOf, some, pendingOf, holderOf, reachAt, takerOf, highestReadable, firstOfSession}
 
 -- the records in use
 abbrev pub records : Disc → List Fragment
@@ -79,6 +79,10 @@ hasBlankTail d = isBlankTail d (lastOf (d .fragments))
 abbrev pub atAddress : Disc → Lba → Found
 atAddress d a = holderOf (d .fragments) a
 
+-- where the recorded sectors of that fragment end, and where its readable ones do
+abbrev pub reachAround : Disc → Lba → Reach
+reachAround d a = reachAt (d .fragments) (d .pending) (d .owner) a
+
 -- the incomplete fragment whose next writable address it is
 abbrev pub writableAt : Disc → Lba → Found
 writableAt d a = takerOf (d .fragments) (d .pending) (d .owner) a
@@ -97,7 +101,7 @@ isReadable d a = isRecorded d a || isPending d a
 
 -- the highest readable address, or 0
 abbrev pub lastReadable : Disc → Lba
-lastReadable d = highestReadable (d .fragments) (d .pending) (d .owner)
+lastReadable d = highestReadable (d .pending) (d .owner) 1 (records d)
 
 -- its session has one record, and that is a blank tail
 abbrev pub isOnlyTail : Disc → Last → Bool

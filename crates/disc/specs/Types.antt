@@ -12,6 +12,7 @@ pub use Rattle.disc.specs.declared.state.Disc.{Disc}
 pub use Rattle.fragments.specs.declared.list.Found.{Found}
 pub use Rattle.fragments.specs.declared.list.Found.the-variants.{Number, Nowhere}
 pub use Rattle.fragments.specs.declared.list.Last.{Last}
+pub use Rattle.fragments.specs.declared.list.Reach.{Reach}
 pub use Rattle.disc.specs.declared.state.TailNext.{TailNext}
 pub use Rattle.disc.specs.declared.state.TailNext.the-variants.{Address, NoTail}
 pub use Rattle.disc.specs.declared.blank.Blank.{Blank}

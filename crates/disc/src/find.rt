@@ -6,9 +6,10 @@ use fragments::Found;
 use fragments::Fragment;
 use fragments::Last;
 use fragments::Lba;
+use fragments::Reach;
 ghost use mathlib.Core.Path.{_≡_};
 ghost use Rattle.fragments.specs.List.{lastOf, firstOfSession};
-ghost use Rattle.disc.specs.Records.{used, isListed, numbered, pendingIn, isBlank, nextWritable, tailNext, atAddress, writableAt, records, isBlankTail, isOnlyTail};
+ghost use Rattle.disc.specs.Records.{used, isListed, numbered, pendingIn, isBlank, nextWritable, tailNext, atAddress, reachAround, writableAt, records, isBlankTail, isOnlyTail};
 
 impl Disc {
     // How many records are in use, which is the last one's number.
@@ -80,6 +81,14 @@ impl Disc {
     {
         let records = self.fragments;
         fragments::at_address(records, address)
+    }
+
+    // Where the recorded sectors of the fragment that an address lies in end, and where its readable ones do; both 0 where there is none.
+    pub fn reach_around(self, address: Lba) -> Reach
+        ensures { λ r. ⌜ r ≡ reachAround self address ⌝ }
+    {
+        let records = self.fragments;
+        fragments::reach_at(records, self.pending, self.owner, address)
     }
 
     // The incomplete fragment whose next writable address it is.

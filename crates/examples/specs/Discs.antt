@@ -15,8 +15,8 @@ use Rattle.decisions.specs.Plan.{noPlan}
 use Rattle.decisions.specs.Decision.{accepting}
 use Rattle.fragments.specs.Fragment.{fragment}
 use Rattle.fragments.specs.Address.{lba}
-use Rattle.fragments.specs.List.{limit, listed, lastOf, firstOfSession, highestRecorded, find, some, every, sumRecorded}
-use Rattle.disc.specs.Records.{records, used, isListed, numbered, lastRecord, withSense, pendingIn, isBlank, nextWritable, tailNext, atAddress, writableAt, isRecorded, isPending, isReadable, lastReadable, hasBlankTail, blankTailOnly, isBlankDisc}
+use Rattle.fragments.specs.List.{limit, listed, lastOf, firstOfSession, highestReadable, find, some, every, sumRecorded}
+use Rattle.disc.specs.Records.{records, used, isListed, numbered, lastRecord, withSense, pendingIn, isBlank, nextWritable, tailNext, atAddress, writableAt, reachAround, isRecorded, isPending, isReadable, lastReadable, hasBlankTail, blankTailOnly, isBlankDisc}
 use Rattle.disc.specs.Apply.{withPending, affected, changed, decided}
 use Rattle.disc.specs.Blank.{inRange, blank, made}
 use Rattle.disc.specs.Sound.{usedFirst, firstAtZero, followsFrom, inOrder, endsWithin, recordedWithin, zeroedWithin, incompleteLast, tailLast, tailOrFull, pendingNamed, finalizedComplete, sound, allowedState}
@@ -70,7 +70,8 @@ pub asked-of-a-list :
 unfolding listed find firstOfSession
 asked-of-a-list = (refl, refl, refl, refl, refl, refl, refl, refl, refl, refl)
 
--- by address: which sectors are recorded, pending, readable; the last readable one. Sectors 32 and 96 lie in dividing blocks, 112 in the tail
+-- by address: which sectors are recorded, pending, readable; the last readable one. Sectors 32 and 96 lie in dividing blocks, 112 in the
+-- tail; then where the readable sectors around an address end
 pub sectors-of-a-list :
     (map (λ a. isRecorded listing (lba a)) (31 ∷ 32 ∷ 48 ∷ 63 ∷ 64 ∷ 68 ∷ 69 ∷ 96 ∷ 112 ∷ [])
     ≡ (true ∷ false ∷ true ∷ true ∷ false ∷ false ∷ false ∷ false ∷ false ∷ []))
@@ -79,8 +80,9 @@ pub sectors-of-a-list :
     × (map (λ a. isReadable listing (lba a)) (31 ∷ 32 ∷ 48 ∷ 63 ∷ 64 ∷ 68 ∷ 69 ∷ 96 ∷ 112 ∷ [])
     ≡ (true ∷ false ∷ true ∷ true ∷ true ∷ true ∷ false ∷ false ∷ false ∷ []))
     × (lastReadable listing .0 ≡ 68)
-unfolding listed some highestRecorded
-sectors-of-a-list = (refl, refl, refl, refl)
+    × (map (λ a. reachAround listing (lba a) .readable .0) (0 ∷ 32 ∷ 48 ∷ 95 ∷ 96 ∷ 112 ∷ []) ≡ (32 ∷ 0 ∷ 69 ∷ 69 ∷ 0 ∷ 112 ∷ []))
+unfolding listed some find highestReadable
+sectors-of-a-list = (refl, refl, refl, refl, refl)
 
 -- a blank disc, one with a block written, one with a sector pending, one with a blank tail after a fragment, one with a blank tail alone in
 -- session 2, one with none there

@@ -8,7 +8,7 @@ use mathlib.Core.List.{List, [], _∷_, map}
 use Rattle.examples.specs.Types.{Reserved, Appended, Disc, Nothing, Send, Transfer}
 use Rattle.fragments.specs.Address.{lba}
 use Rattle.fragments.specs.Fragment.{fragment}
-use Rattle.fragments.specs.List.{listed, some, find, sumRecorded, highestRecorded}
+use Rattle.fragments.specs.List.{listed, some, find, sumRecorded, highestReadable}
 use Rattle.protocol.specs.Answer.{noSense, number}
 use Rattle.disc.specs.Blank.{blank}
 use Rattle.disc.specs.Records.{lastReadable}
@@ -76,6 +76,6 @@ table =
 
 pub read-back : map asItIs table ≡ table
 unfolding
-    asItIs asReadIs blank listed some find sumRecorded highestRecorded accepted accept refuse flush flushPlan
+    asItIs asReadIs blank listed some find sumRecorded highestReadable accepted accept refuse flush flushPlan
     allReadable mediumShare sending read flushOthers flushOthersPlan gather writeTo writeFound write
 read-back = refl

@@ -10,7 +10,7 @@ use Rattle.protocol.specs.Answer.{sense, number, isRefusalSense, allowedSense}
 use Rattle.protocol.specs.Command.{decode}
 use Rattle.fragments.specs.Fragment.{fragment}
 use Rattle.disc.specs.Records.{nextWritable, records, used, lastRecord, hasTail}
-use Rattle.fragments.specs.List.{listed, some, every, find, sumRecorded, highestRecorded, firstOfSession}
+use Rattle.fragments.specs.List.{listed, some, every, find, sumRecorded, highestReadable, firstOfSession}
 use Rattle.disc.specs.Sound.{usedFirst, firstAtZero, followsFrom, inOrder, endsWithin, recordedWithin, zeroedWithin, incompleteLast, tailLast, tailOrFull, pendingNamed, finalizedComplete, sound, allowedState}
 use Rattle.disc.specs.Blank.{blank}
 use Rattle.protocol.specs.Lengths.{dataLength, replyRoom, lengthsFit}
@@ -122,7 +122,7 @@ table =
 pub shift : run (blank 300) (map (λ l. l .command) table) ≡ map (λ l. l .expected) table
 unfolding
     shown run blank judge judgeCommand perform decode dataLength replyRoom lengthsFit accepted accept refuse refuseLink
-    isRefusalSense allowedSense listed some every find sumRecorded highestRecorded firstOfSession
+    isRefusalSense allowedSense listed some every find sumRecorded highestReadable firstOfSession
     usedFirst firstAtZero followsFrom inOrder endsWithin recordedWithin zeroedWithin incompleteLast tailLast tailOrFull pendingNamed
     finalizedComplete sound allowedState
     flush flushPlan synchronizeCache allReadable mediumShare sending read flushOthers flushOthersPlan gather writeTo writeFound write

@@ -10,7 +10,7 @@ use Rattle.protocol.specs.Answer.{sense, isRefusalSense, allowedSense}
 use Rattle.disc.specs.Blank.{blank}
 use Rattle.protocol.specs.Command.{decode}
 use Rattle.fragments.specs.Fragment.{fragment, unusedRecord}
-use Rattle.fragments.specs.List.{limit, listed, some, every, find, sumRecorded, highestRecorded, firstOfSession}
+use Rattle.fragments.specs.List.{limit, listed, some, every, find, sumRecorded, highestReadable, firstOfSession}
 use Rattle.disc.specs.Sound.{usedFirst, firstAtZero, followsFrom, inOrder, endsWithin, recordedWithin, zeroedWithin, incompleteLast, tailLast, tailOrFull, pendingNamed, finalizedComplete, sound, allowedState}
 use Rattle.protocol.specs.Lengths.{dataLength, replyRoom, lengthsFit}
 use Rattle.disc.specs.Verdict.{accepted, accept, refuse, refuseLink}
@@ -471,7 +471,7 @@ runs =
 pub tour : map (λ (r : Run). played (r .disc) (r .lines)) runs ≡ map (λ (r : Run). map (λ (l : Line). l .expected) (r .lines)) runs
 unfolding
     shown played blank judge judgeCommand perform decode dataLength replyRoom lengthsFit accepted accept refuse refuseLink
-    isRefusalSense allowedSense listed some every find sumRecorded highestRecorded firstOfSession
+    isRefusalSense allowedSense listed some every find sumRecorded highestReadable firstOfSession
     usedFirst firstAtZero followsFrom inOrder endsWithin recordedWithin zeroedWithin incompleteLast tailLast tailOrFull pendingNamed
     finalizedComplete sound allowedState
     flush flushPlan synchronizeCache allReadable mediumShare sending read flushOthers flushOthersPlan gather writeTo writeFound write

@@ -7,8 +7,8 @@ use mathlib.Core.List.{List, [], _∷_, _++_, map}
 use lib.ListN.{length, take, replicate}
 use Rattle.examples.specs.Types.{Sense, Fragment, Reserved, Appended, Disc, Found, Number, Nowhere, Accepted, Link, Drive, CommandBlockLength, MediumSize, UnsoundState, TransferLength, BlankCheck, Read, Write, RequestSense, ReadCapacity, SynchronizeCache, ReadDiscInformation, ReadTrackInformation, Keep, Settle, Reserve, Close, Grow, Effect, Skip, Record, Nothing, Send, Gather, Fill, Entry, Decision}
 use Rattle.fragments.specs.Address.{sectorsIn, wholeBlocks, leftOver, missing, block, lba, firstSector, passes, sectorsBefore}
-use Rattle.fragments.specs.Fragment.{fragment, unusedRecord, isReserved, complete, isTail, isIncompleteReserved, end, nextFragmentStart, nextSessionStart, nextAfter, firstUnrecorded, lastRecorded, lastPending, reservedAt, shortenedRecord}
-use Rattle.fragments.specs.List.{limit, listed, recordNumbered, lastOf, holderOf, takerOf, pendingOf, firstOfSession, highestRecorded, highestReadable, some, find}
+use Rattle.fragments.specs.Fragment.{fragment, unusedRecord, isReserved, complete, isTail, isIncompleteReserved, end, nextFragmentStart, nextSessionStart, nextAfter, firstUnrecorded, lastRecorded, lastReadable, reservedAt, shortenedRecord}
+use Rattle.fragments.specs.List.{limit, listed, recordNumbered, lastOf, holderOf, takerOf, pendingOf, firstOfSession, reachAt, highestReadable, some, find}
 use Rattle.protocol.specs.Answer.{sense, noSense, senseNumber, refusalSense, driveRefusals, allowedSense, isRefusalSense, number}
 use Rattle.protocol.specs.Lengths.{dataLength, replyRoom, lengthsFit}
 use Rattle.protocol.specs.Reply.{report, noReply}
@@ -54,9 +54,9 @@ kinds = refl
 
 pub places :
     (nextFragmentStart (end first) .0 ∷ nextSessionStart (end first) .0 ∷ firstSector (end second) .0 ∷ nextAfter 5 second .0
-    ∷ firstSector (firstUnrecorded second) .0 ∷ lastRecorded second .0 ∷ lastRecorded third .0 ∷ lastPending 5 second .0 ∷ lastPending 0 second .0
-    ∷ unusedRecord .length ∷ [])
-    ≡ (3 ∷ 130 ∷ 2128 ∷ 2117 ∷ 2112 ∷ 2111 ∷ 0 ∷ 2116 ∷ 0 ∷ 0 ∷ [])
+    ∷ firstSector (firstUnrecorded second) .0 ∷ lastRecorded second .0 ∷ lastRecorded third .0 ∷ lastReadable 5 second .0 ∷ lastReadable 0 second .0 ∷ lastReadable 5 third .0
+    ∷ lastReadable 0 third .0 ∷ unusedRecord .length ∷ [])
+    ≡ (3 ∷ 130 ∷ 2128 ∷ 2117 ∷ 2112 ∷ 2111 ∷ 0 ∷ 2116 ∷ 2111 ∷ 2148 ∷ 0 ∷ 0 ∷ [])
 places = refl
 
 -- of the list: three records, the third is last; sector 2127 lies in the second, 2128 in none; with 5 sectors pending in the second
@@ -71,12 +71,20 @@ pub walks :
     ∷ found (holderOf list (lba 2127)) ∷ found (holderOf list (lba 2128)) ∷ found (takerOf list 5 2 (lba 2117))
     ∷ found (takerOf list 5 2 (lba 2112)) ∷ found (takerOf list 5 2 (lba 2144)) ∷ found (takerOf list 5 2 (lba 32))
     ∷ pendingOf 5 2 2 ∷ pendingOf 5 2 3 ∷ firstOfSession 1 1 (listed list) ∷ firstOfSession 2 1 (listed list)
-    ∷ firstOfSession 3 1 (listed list) ∷ highestReadable list 0 0 .0 ∷ highestReadable list 5 2 .0 ∷ highestReadable list 5 3 .0
-    ∷ highestReadable (fragment 1 0 4 1 0 Reserved ∷ fragment 1 5 4 2 0 Appended ∷ []) 5 1 .0 ∷ highestReadable (third ∷ []) 0 0 .0
-    ∷ highestReadable (third ∷ []) 3 1 .0 ∷ [])
+    ∷ firstOfSession 3 1 (listed list) ∷ highestReadable 0 0 1 (listed list) .0 ∷ highestReadable 5 2 1 (listed list) .0
+    ∷ highestReadable 5 3 1 (listed list) .0 ∷ highestReadable 5 1 1 (fragment 1 0 4 1 0 Reserved ∷ fragment 1 5 4 2 0 Appended ∷ []) .0
+    ∷ highestReadable 0 0 1 (third ∷ []) .0 ∷ highestReadable 3 1 1 (third ∷ []) .0 ∷ [])
     ≡ (3 ∷ 3 ∷ 134 ∷ 1 ∷ 0 ∷ 2 ∷ 0 ∷ 2 ∷ 0 ∷ 3 ∷ 0 ∷ 5 ∷ 0 ∷ 1 ∷ 2 ∷ 4 ∷ 2111 ∷ 2116 ∷ 2148 ∷ 111 ∷ 0 ∷ 2146 ∷ [])
-unfolding listed find firstOfSession highestRecorded
+unfolding listed find firstOfSession highestReadable
 walks = refl
+
+-- of the fragment that an address lies in, with 5 sectors pending in the second: where its recorded sectors end and where its readable ones
+-- do; both 0 in a dividing block and past the list
+pub reaches :
+    map (λ a. reachAt list 5 2 (lba a) .recorded .0 ∷ reachAt list 5 2 (lba a) .readable .0 ∷ []) (0 ∷ 31 ∷ 32 ∷ 2080 ∷ 2127 ∷ 2128 ∷ 2144 ∷ 4800 ∷ [])
+    ≡ ((32 ∷ 32 ∷ []) ∷ (32 ∷ 32 ∷ []) ∷ (0 ∷ 0 ∷ []) ∷ (2112 ∷ 2117 ∷ []) ∷ (2112 ∷ 2117 ∷ []) ∷ (0 ∷ 0 ∷ []) ∷ (2144 ∷ 2144 ∷ []) ∷ (0 ∷ 0 ∷ []) ∷ [])
+unfolding listed find
+reaches = refl
 
 -- by number: from 1, unused ones after those in use and past the end; under 0 stands the first
 pub numbers :

@@ -69,9 +69,9 @@ holds a f = leb (firstSector (f .start) .0) (a .0) && ltb (a .0) (firstSector (e
 abbrev pub lastRecorded : Fragment → Lba
 lastRecorded f = cond (eqb (f .recorded) 0) (lba 0) (lba (firstSector (firstUnrecorded f) .0 - 1))
 
--- the last of so many sectors pending in the fragment, or 0
-abbrev pub lastPending : ℕ → Fragment → Lba
-lastPending pending f = cond (eqb pending 0) (lba 0) (lba (nextAfter pending f .0 - 1))
+-- its last readable one with so many sectors pending in it, or 0
+abbrev pub lastReadable : ℕ → Fragment → Lba
+lastReadable pending f = cond (eqb (f .recorded) 0 && eqb pending 0) (lba 0) (lba (nextAfter pending f .0 - 1))
 
 -- where the fragment after one that ends here starts: after the dividing block in the same session,
 -- after Closure and Intro, 64 blocks each, in the next one

@@ -4,9 +4,9 @@ use mathlib.Core.Bool.{Bool, true, false, cond, _&&_, _||_}
 use mathlib.Core.List.{List, [], _∷_}
 use lib.ListN.{length, getD}
 use lib.Dec.{eqb}
-use Rattle.fragments.specs.Types.{Lba, Fragment, Found, Number, Nowhere, Last}
-use Rattle.fragments.specs.Address.{lba, later}
-use Rattle.fragments.specs.Fragment.{unusedRecord, unused, takes, holds, lastRecorded, lastPending}
+use Rattle.fragments.specs.Types.{Lba, Fragment, Found, Number, Nowhere, Last, Reach}
+use Rattle.fragments.specs.Address.{lba, firstSector, later}
+use Rattle.fragments.specs.Fragment.{unusedRecord, unused, firstUnrecorded, nextAfter, takes, holds, lastReadable}
 
 -- how many fragments a disc can have, the tail included
 abbrev pub limit : ℕ
@@ -56,14 +56,24 @@ pendingOf pending owner n = cond (eqb owner n) pending 0
 abbrev pub takerOf : List Fragment → ℕ → ℕ → Lba → Found
 takerOf fs pending owner a = find (λ n f. takes a (pendingOf pending owner n) f) 1 (listed fs)
 
--- the highest recorded address of a list of records, or 0
-unfoldable pub highestRecorded : List Fragment → Lba
-highestRecorded [] = lba 0
-highestRecorded (f ∷ fs) = later (lastRecorded f) (highestRecorded fs)
+-- no sector is readable
+abbrev pub noReach : Reach
+noReach = record { recorded = lba 0; readable = lba 0 }
 
--- the highest one recorded or pending, or 0
-abbrev pub highestReadable : List Fragment → ℕ → ℕ → Lba
-highestReadable fs pending owner = later (highestRecorded (listed fs)) (lastPending pending (recordNumbered fs owner))
+-- where the recorded sectors of the fragment that an address lies in end, and where its readable ones do; both 0 where there is none
+abbrev pub reachFound : List Fragment → ℕ → ℕ → Found → Reach
+reachFound fs pending owner (Number n) =
+    let f = recordNumbered fs n in
+    record { recorded = firstSector (firstUnrecorded f); readable = nextAfter (pendingOf pending owner n) f }
+reachFound fs pending owner Nowhere = noReach
+
+abbrev pub reachAt : List Fragment → ℕ → ℕ → Lba → Reach
+reachAt fs pending owner a = reachFound fs pending owner (holderOf fs a)
+
+-- the highest readable address of any fragment of a list, or 0; n is the number of the first
+unfoldable pub highestReadable : ℕ → ℕ → ℕ → List Fragment → Lba
+highestReadable pending owner n [] = lba 0
+highestReadable pending owner n (f ∷ fs) = later (lastReadable (pendingOf pending owner n) f) (highestReadable pending owner (n + 1) fs)
 
 -- the number of a session's first record; n is the number of the first in the list
 unfoldable pub firstOfSession : ℕ → ℕ → List Fragment → ℕ

@@ -8,3 +8,4 @@ pub use Rattle.fragments.specs.declared.fragment.Fragment.{Fragment}
 pub use Rattle.fragments.specs.declared.list.Found.{Found}
 pub use Rattle.fragments.specs.declared.list.Found.the-variants.{Number, Nowhere}
 pub use Rattle.fragments.specs.declared.list.Last.{Last}
+pub use Rattle.fragments.specs.declared.list.Reach.{Reach}

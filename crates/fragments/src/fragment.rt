@@ -5,7 +5,7 @@ use crate::address::WideBlock;
 ghost use mathlib.Core.Path.{_≡_};
 ghost use mathlib.Core.Bool.{_&&_};
 ghost use Rattle.fragments.specs.Address.{wide, firstSector};
-ghost use Rattle.fragments.specs.Fragment.{unusedRecord, reservedAt, shortenedRecord, end, firstUnrecorded, complete, isReserved, isTail, isIncompleteReserved, nextFragmentStart, nextSessionStart, nextAfter, takes, holds, lastRecorded, lastPending};
+ghost use Rattle.fragments.specs.Fragment.{unusedRecord, reservedAt, shortenedRecord, end, firstUnrecorded, complete, isReserved, isTail, isIncompleteReserved, nextFragmentStart, nextSessionStart, nextAfter, takes, holds, lastRecorded, lastReadable};
 
 // Blocks between two fragments: the dividing block in a session, Closure and Intro between sessions.
 const DIVIDING: u64 = 1;
@@ -122,7 +122,7 @@ impl Fragment {
     }
 
     // The address of the first sector that is not recorded.
-    pub fn recorded_end(self) -> Lba
+    pub(crate) fn recorded_end(self) -> Lba
         ensures { λ r. ⌜ r ≡ firstSector (firstUnrecorded self) ⌝ }
     {
         self.start.sector_after(self.recorded)
@@ -179,11 +179,11 @@ impl Fragment {
         Lba(self.recorded_end().0 - 1)
     }
 
-    // The address of the last of the sectors pending in the fragment, or 0.
-    pub(crate) fn last_pending(self, pending: u8) -> Lba
-        ensures { λ r. ⌜ r ≡ lastPending pending self ⌝ }
+    // The address of the last readable sector, with so many sectors pending in the fragment, or 0.
+    pub(crate) fn last_readable(self, pending: u8) -> Lba
+        ensures { λ r. ⌜ r ≡ lastReadable pending self ⌝ }
     {
-        if pending == 0 {
+        if (self.recorded == 0) & (pending == 0) {
             return Lba(0);
         }
         Lba(self.next_writable(pending).0 - 1)

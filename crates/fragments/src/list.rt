@@ -6,7 +6,7 @@ ghost use Prim.Native.Nat.{_-_};
 ghost use lib.ListN.{length};
 ghost use Rattle.fragments.specs.Address.{later};
 ghost use Rattle.fragments.specs.Fragment.{isIncompleteReserved};
-ghost use Rattle.fragments.specs.List.{listed, recordNumbered, lastOf, pendingOf, holderOf, takerOf, firstOfSession, highestRecorded, highestReadable, some};
+ghost use Rattle.fragments.specs.List.{listed, recordNumbered, lastOf, pendingOf, holderOf, takerOf, firstOfSession, noReach, reachAt, highestReadable, some};
 
 // How many records a disc has.
 pub const LIMIT: usize = 160;
@@ -21,6 +21,24 @@ pub enum Found {
 pub struct Last {
     pub number: usize,
     pub fragment: Fragment,
+}
+
+// Where a fragment's recorded sectors end, and where its readable ones do.
+pub struct Reach {
+    pub recorded: Lba,
+    pub readable: Lba,
+}
+
+impl Reach {
+    // No sector is readable.
+    fn none() -> Reach
+        ensures { λ r. ⌜ r ≡ noReach ⌝ }
+    {
+        Reach {
+            recorded: Lba(0),
+            readable: Lba(0),
+        }
+    }
 }
 
 // How many records are in use, which is the last one's number.
@@ -97,6 +115,27 @@ pub fn pending_of(pending: u8, owner: u8, number: usize) -> u8
     0
 }
 
+// Where the recorded sectors of the fragment that an address lies in end, and where its readable ones do, with so many sectors pending in the
+// fragment with the number `owner`; both 0 where there is none.
+pub fn reach_at(fragments: [Fragment; LIMIT], pending: u8, owner: u8, address: Lba) -> Reach
+    ensures { λ r. ⌜ r ≡ reachAt fragments pending owner address ⌝ }
+{
+    let mut i: usize = 0;
+    while i < LIMIT {
+        let f = fragments[i];
+        if f.length == 0 {
+            return Reach::none();
+        }
+        if f.holds(address) {
+            let recorded = f.recorded_end();
+            let readable = f.next_writable(pending_of(pending, owner, i + 1));
+            return Reach { recorded, readable };
+        }
+        i += 1;
+    }
+    Reach::none()
+}
+
 // The incomplete fragment whose next writable address it is, with so many sectors pending in the fragment with the number `owner`.
 pub fn writable_at(fragments: [Fragment; LIMIT], pending: u8, owner: u8, address: Lba) -> Found
     ensures { λ r. ⌜ r ≡ takerOf fragments pending owner address ⌝ }
@@ -161,9 +200,9 @@ fn later(a: Lba, b: Lba) -> Lba
     a
 }
 
-// The highest recorded address, or 0.
-fn highest_recorded(fragments: [Fragment; LIMIT]) -> Lba
-    ensures { λ r. ⌜ r ≡ highestRecorded (listed fragments) ⌝ }
+// The highest readable address, or 0, with so many sectors pending in the fragment with the number `owner`.
+pub fn highest_readable(fragments: [Fragment; LIMIT], pending: u8, owner: u8) -> Lba
+    ensures { λ r. ⌜ r ≡ highestReadable pending owner 1 (listed fragments) ⌝ }
 {
     let mut highest = Lba(0);
     let mut i: usize = 0;
@@ -172,17 +211,8 @@ fn highest_recorded(fragments: [Fragment; LIMIT]) -> Lba
         if f.length == 0 {
             return highest;
         }
-        highest = later(highest, f.last_recorded());
+        highest = later(highest, f.last_readable(pending_of(pending, owner, i + 1)));
         i += 1;
     }
     highest
-}
-
-// The highest readable address, or 0: the highest recorded one, or the last of those pending in the fragment with the number `owner`.
-pub fn highest_readable(fragments: [Fragment; LIMIT], pending: u8, owner: u8) -> Lba
-    ensures { λ r. ⌜ r ≡ highestReadable fragments pending owner ⌝ }
-{
-    let recorded = highest_recorded(fragments);
-    let f = record_numbered(fragments, owner as usize);
-    later(recorded, f.last_pending(pending))
 }

@@ -1,6 +1,6 @@
 -- Cases of the theorems: two controllers that send the same log, and what they and a reader see. Each is drawn from a statement
 -- alone and not from its proof (proofs/Laws/Cases), so a statement that is weaker no longer gives it.
-use Prim.Native.Nat.{ℕ, _+_, _*_, _≤_, _<_}
+use Prim.Native.Nat.{ℕ, _+_, _-_, _*_, _≤_, _<_}
 use mathlib.Core.Bool.{true, false}
 use mathlib.Core.Path.{_≡_}
 use mathlib.Core.List.{List, [], _∷_, _++_, map}
@@ -8,6 +8,7 @@ use lib.ListN.{length, getD, replicate}
 use Rattle.fragments.specs.Address.{lba}
 use Rattle.disc.specs.Blank.{blank}
 use Rattle.disc.specs.Records.{isRecorded, isPending}
+use Rattle.outcomes.specs.Recorded.{among}
 use Rattle.drive.specs.Bytes.{zeros}
 use Rattle.drive.specs.Step.{Drive, drive, Request, request, Result}
 use Rattle.drive.specs.Alike.{recordedByte, pendingSectors, Alike}
@@ -192,6 +193,9 @@ pub record Requested (l : Log) (x : ℕ) (before ts : List Turn) (s : Drive) (c 
   pub flushed : past ts s .recorded 1 ≡ true
   pub beyond : past ts s .recorded 2 ≡ false
   pub late : past ts s .held ≡ 3
+  -- sector 34 is the last of them, 35 is not held
+  pub lastHeld : among (past ts s .next - past ts s .held) (past ts s .held) 34 ≡ true
+  pub pastHeld : among (past ts s .next - past ts s .held) (past ts s .held) 35 ≡ false
   -- what came from outside was stale bytes alone, and every sequence of which that is so is covered
   pub outside : StaleChanges ts s beginning
   pub covered : (us : List Turn) → StaleChanges us s beginning → Admissible us s

@@ -5,10 +5,11 @@ use mathlib.Core.Bool.{true, false}
 use native.Mathlib.Omega.{arith}
 use borrow.Author.Tests.{ltb-true, ltb-false, lt-ltb, le-ltb, ne-eqb, eqb-false}
 use lib.Dec.{eqb, ltb}
-use Rattle.commands.specs.Types.{Lba, Disc, Number, Nowhere, DriveRefusal, AddressOutOfRange, BlankCheck, Skip, Send, Verdict}
-use Rattle.fragments.specs.Address.{lba, sectorsIn, leftOver, firstSector, sectorsBefore}
+use Rattle.commands.specs.Types.{Lba, Disc, Found, Number, Nowhere, DriveRefusal, AddressOutOfRange, BlankCheck, Skip, Transfer, Send, Verdict}
+use Rattle.fragments.specs.Address.{lba, sectorsIn, leftOver, firstSector, passes, sectorsBefore}
 use Rattle.fragments.specs.Fragment.{firstUnrecorded}
-use Rattle.disc.specs.Records.{nextWritable, used, numbered, atAddress, isRecorded, isReadable}
+use Rattle.fragments.specs.List.{reachFound}
+use Rattle.disc.specs.Records.{nextWritable, used, numbered, atAddress, reachAround, isRecorded, isReadable}
 use Rattle.disc.specs.Rules.{at, Sound}
 use Rattle.decisions.specs.Plan.{noPlan, plan}
 use Rattle.disc.specs.Verdict.{accept, refuse}
@@ -71,6 +72,10 @@ share-recorded d a (suc n) (suc k) h =
     let l : suc k < 1 + mediumShare d (lba (a .0 + 1)) n = rw t at h in
     rw y (share-recorded d (lba (a .0 + 1)) n k (omega (arith, l))))
     (λ t. absurd (let l : suc k < 0 = rw t at h in omega arith))
+
+-- what the code sends of a run, from where its recorded sectors end
+abbrev pub sendingBefore : Lba → ℕ → Lba → Transfer
+sendingBefore a n end = let m = sectorsBefore a n end in Send a m (leftOver (a .0 + m)) (n - m)
 
 -- what is sent of a readable run: recorded sectors of the medium, then sectors of the pending buffer below the pending count, each the one
 -- of its address
@@ -211,10 +216,10 @@ module _ (d : Disc) (a : Lba) (n : ℕ) (z : n ≡ 0 → ⊥) (h : a .0 + n ≤ 
       cond-no (eqb n 0) _ _ (ne-eqb _ _ z)
       ∙ (cond-no (ltb (sectorsIn (d .capacity)) (a .0 + n)) _ _ (le-ltb _ _ h) ∙ cond-no (allReadable d a n) _ _ r)
 
-  -- the code's tests: the fragment that the address lies in, and where its readable sectors end
+  -- the code's tests: where the recorded sectors of the fragment that the address lies in end, and where its readable ones do
   module _ (s : Sound d) where
-    pub read-nowhere : atAddress d a ≡ Nowhere → refuse d BlankCheck ≡ read d a n
-    read-nowhere e =
+    nowhere-read : atAddress d a ≡ Nowhere → refuse d BlankCheck ≡ read d a n
+    nowhere-read e =
         sym
         (read-blank
         (by-cases (allReadable d a n)
@@ -235,13 +240,12 @@ module _ (d : Disc) (a : Lba) (n : ℕ) (z : n ≡ 0 → ⊥) (h : a .0 + n ≤ 
           let k : suc (number - 1) ≡ number = omega (arith, here .from) in
           ap (λ (m : ℕ). nextWritable d m (numbered d number) .0) k
 
-      pub read-short : ltb (nextWritable d number (numbered d number) .0) (a .0 + n) ≡ true → refuse d BlankCheck ≡ read d a n
-      read-short t =
+      short-read : nextWritable d number (numbered d number) .0 < a .0 + n → refuse d BlankCheck ≡ read d a n
+      short-read past =
           sym
           (read-blank
           (by-cases (allReadable d a n)
           (λ r.
-          let past = ltb-true (nextWritable d number (numbered d number) .0) (a .0 + n) t in
           absurd
           (one-fragment d s a n (omega (arith, z))
           (λ i l from to.
@@ -250,14 +254,32 @@ module _ (d : Disc) (a : Lba) (n : ℕ) (z : n ≡ 0 → ⊥) (h : a .0 + n ≤ 
           omega (arith, k, to, past, reaches)) r))
           (λ r. r)))
 
-      pub read-found :
-          ltb (nextWritable d number (numbered d number) .0) (a .0 + n) ≡ false
-          → accept d d noReply
-          (plan Skip
-          (let m = sectorsBefore a n (firstSector (firstUnrecorded (numbered d number))) in Send a m (leftOver (a .0 + m)) (n - m)))
-          ≡ read d a n
+      found-read :
+          a .0 + n ≤ nextWritable d number (numbered d number) .0
+          → accept d d noReply (plan Skip (sendingBefore a n (firstSector (firstUnrecorded (numbered d number))))) ≡ read d a n
       unfolding sending
-      read-found t =
-          let to : a .0 + n ≤ reach d (number - 1) = omega (arith, ltb-false (nextWritable d number (numbered d number) .0) (a .0 + n) t, reaches) in
+      found-read within =
+          let to : a .0 + n ≤ reach d (number - 1) = omega (arith, within, reaches) in
           let r = run-readable d s a n (number - 1) index-listed (here .first) to in
           sym (read-sent r ∙ rw (share-before d s a n (number - 1) index-listed (here .first) to))
+
+    -- by what the search finds
+    read-short-at :
+        (x : Found) → atAddress d a ≡ x → reachFound (d .fragments) (d .pending) (d .owner) x .readable .0 < a .0 + n → refuse d BlankCheck ≡ read d a n
+    read-short-at (Number number) e past = short-read number e past
+    read-short-at Nowhere e past = nowhere-read e
+
+    read-found-at :
+        (x : Found) → atAddress d a ≡ x
+        → (let w = reachFound (d .fragments) (d .pending) (d .owner) x in
+        a .0 + n ≤ w .readable .0 → accept d d noReply (plan Skip (sendingBefore a n (w .recorded))) ≡ read d a n)
+    read-found-at (Number number) e within = found-read number e within
+    read-found-at Nowhere e within = absurd (omega (arith, within, z))
+
+    pub read-short : passes a n (reachAround d a .readable) ≡ true → refuse d BlankCheck ≡ read d a n
+    read-short t = read-short-at (atAddress d a) refl (ltb-true (reachAround d a .readable .0) (a .0 + n) t)
+
+    pub read-found :
+        passes a n (reachAround d a .readable) ≡ false
+        → accept d d noReply (plan Skip (sendingBefore a n (reachAround d a .recorded))) ≡ read d a n
+    read-found t = read-found-at (atAddress d a) refl (ltb-false (reachAround d a .readable .0) (a .0 + n) t)

@@ -1,5 +1,5 @@
 -- The list of records: its length, the records in use, tests of every record, and one step along it.
-use Prim.Native.Nat.{ℕ, zero, suc, _+_, _≤_, _<_}
+use Prim.Native.Nat.{ℕ, zero, suc, _+_, _-_, _≤_, _<_}
 use mathlib.Core.Path.{_≡_, refl, sym, _∙_, ap}
 use mathlib.Core.Bool.{Bool, true, false, _&&_}
 use mathlib.Core.List.{List, [], _∷_, map}
@@ -11,8 +11,8 @@ use lib.ListN.{length, getD, set, drop, drop-of-length-le, length-map}
 use lib.Seq.{drop-cons}
 use Rattle.fragments.specs.Types.{Fragment, Number, Nowhere}
 use Rattle.fragments.specs.Address.{lba, later}
-use Rattle.fragments.specs.Fragment.{unusedRecord, lastRecorded}
-use Rattle.fragments.specs.List.{limit, listed, every, some, find, sumRecorded, highestRecorded, firstOfSession}
+use Rattle.fragments.specs.Fragment.{unusedRecord, lastReadable}
+use Rattle.fragments.specs.List.{limit, listed, every, some, find, sumRecorded, recordNumbered, pendingOf, highestReadable, firstOfSession}
 use Rattle.fragments.proofs.Laws.Bool.{and-left, and-right, and-both, or-left, or-right, or-cases, contradiction, by-cases}
 
 -- a record's number stays below AAh, which is the lead-out's in a table of contents, and so below FFh, which 52h takes for the tail
@@ -151,15 +151,16 @@ module _ (fs : List Fragment) (i : ℕ) (d : Fragment) (h : i < length fs) where
   unfolding firstOfSession
   session-on s n e t = rw (listed-drop-on e) (rw (ne-eqb _ _ t))
 
-  pub highest-off : getD fs i d .length ≡ 0 → highestRecorded (listed (drop i fs)) ≡ lba 0
-  unfolding highestRecorded
-  highest-off e = rw (listed-drop-off e)
+  pub highest-off : (p o n : ℕ) → getD fs i d .length ≡ 0 → highestReadable p o n (listed (drop i fs)) ≡ lba 0
+  unfolding highestReadable
+  highest-off p o n e = rw (listed-drop-off e)
 
   pub highest-on :
-      (getD fs i d .length ≡ 0 → ⊥)
-      → highestRecorded (listed (drop i fs)) ≡ later (lastRecorded (getD fs i d)) (highestRecorded (listed (drop (i + 1) fs)))
-  unfolding highestRecorded
-  highest-on e = rw (listed-drop-on e)
+      (p o n : ℕ) → (getD fs i d .length ≡ 0 → ⊥)
+      → highestReadable p o n (listed (drop i fs))
+      ≡ later (lastReadable (pendingOf p o n) (getD fs i d)) (highestReadable p o (n + 1) (listed (drop (i + 1) fs)))
+  unfolding highestReadable
+  highest-on p o n e = rw (listed-drop-on e)
 
 pub listed-drop-end : (fs : List Fragment) (i : ℕ) → length fs ≤ i → listed (drop i fs) ≡ []
 unfolding listed
@@ -220,9 +221,20 @@ pub session-end : (fs : List Fragment) (i s n : ℕ) → length fs ≤ i → fir
 unfolding firstOfSession
 session-end fs i s n h = rw (listed-drop-end fs i h)
 
-pub highest-end : (fs : List Fragment) (i : ℕ) → length fs ≤ i → highestRecorded (listed (drop i fs)) ≡ lba 0
-unfolding highestRecorded
-highest-end fs i h = rw (listed-drop-end fs i h)
+pub highest-end : (fs : List Fragment) (i p o n : ℕ) → length fs ≤ i → highestReadable p o n (listed (drop i fs)) ≡ lba 0
+unfolding highestReadable
+highest-end fs i p o n h = rw (listed-drop-end fs i h)
+
+-- the record that a search has come to, by its number
+same-at : (fs : List Fragment) (i : ℕ) (d e : Fragment) → i < length fs → getD fs i d ≡ getD fs i e
+same-at [] i d e h = absurd (omega arith)
+same-at (f ∷ fs) zero d e h = refl
+same-at (f ∷ fs) (suc i) d e h = same-at fs i d e (omega arith)
+
+pub here-numbered : (fs : List Fragment) (i : ℕ) (d : Fragment) → i < length fs → recordNumbered fs (i + 1) ≡ getD fs i d
+here-numbered fs i d h =
+    let k : i + 1 - 1 ≡ i = omega arith in
+    ap (λ (j : ℕ). getD fs j unusedRecord) k ∙ same-at fs i unusedRecord d h
 
 -- a test that some record in use passes, one step along the list
 module _ (p : Fragment → Bool) (fs : List Fragment) (i : ℕ) (d : Fragment) (h : i < length fs) where

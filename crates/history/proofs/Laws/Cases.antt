@@ -15,7 +15,7 @@ use Rattle.disc.proofs.Laws.Blank.{range-most}
 use Rattle.fragments.proofs.Laws.Bool.{and-left, contradiction}
 use Rattle.protocol.specs.Command.{decode}
 use Rattle.fragments.specs.Fragment.{fragment, holdsRecorded}
-use Rattle.disc.specs.Records.{pendingIn, records, numbered, isRecorded, atAddress}
+use Rattle.disc.specs.Records.{pendingIn, records, numbered, isRecorded, isPending, atAddress}
 use Rattle.fragments.specs.List.{listed, some, every, find, sumRecorded}
 use Rattle.disc.specs.Sound.{usedFirst, firstAtZero, followsFrom, inOrder, endsWithin, recordedWithin, zeroedWithin, incompleteLast, tailLast, tailOrFull, pendingNamed, finalizedComplete, sound, allowedState}
 use Rattle.protocol.specs.Lengths.{dataLength, replyRoom, lengthsFit}
@@ -194,6 +194,7 @@ record Computed (c : ℕ) : Type 0 where
       (numbered (listOf c earliestShapes) 1 .recorded ≡ 0) × (numbered (listOf c earliestShapes) 1 .zeroed ≡ 0) × (pendingIn (listOf c earliestShapes) 1 ≡ 5)
   held : (listOf c earlyShapes .pending ≡ 2) × (listOf c newerShapes .pending ≡ 3)
   beyond : isRecorded (listOf c newerShapes) (lba 32) ≡ false
+  held-last : (isPending (listOf c newerShapes) (lba 34) ≡ true) × (isPending (listOf c newerShapes) (lba 35) ≡ false)
   size : listOf c newerShapes .capacity ≡ c
   first : extentOf (listOf c newerShapes) 1 .first ≡ 0
   earlyPlaces :
@@ -234,6 +235,7 @@ computed = (
     firstFigures = (refl, refl, refl);
     held = (refl, refl);
     beyond = refl;
+    held-last = (refl, refl);
     size = refl;
     first = refl;
     earlyPlaces = (refl, refl, refl);
@@ -254,6 +256,7 @@ computed = (
     firstFigures = (refl, refl, refl);
     held = (refl, refl);
     beyond = refl;
+    held-last = (refl, refl);
     size = refl;
     first = refl;
     earlyPlaces = (refl, refl, refl);
@@ -763,6 +766,12 @@ module _ (c : ℕ) (m : Computed c) (back : ReadBack) (count : KeptAsListed) (hi
             ∙ (ap (λ (d : Disc). isRecorded d (lba 32)) last-disc ∙ m .beyond);
         late =
             sym (history .pending c disc₁ start₁ turns₁ admissible₁) ∙ (ap (λ (d : Disc). d .pending) last-disc ∙ m .held .1);
+        lastHeld =
+            sym (history .waiting c disc₁ start₁ turns₁ admissible₁ 34)
+            ∙ (ap (λ (d : Disc). isPending d (lba 34)) last-disc ∙ m .held-last .0);
+        pastHeld =
+            sym (history .waiting c disc₁ start₁ turns₁ admissible₁ 35)
+            ∙ (ap (λ (d : Disc). isPending d (lba 35)) last-disc ∙ m .held-last .1);
         outside = history .stale c disc₁ start₁ turns₁ admissible₁;
         covered = history .admissible c disc₁ start₁;
         apart = history .apart c disc₁ start₁ turns₁ admissible₁;

@@ -7,7 +7,7 @@ use mathlib.Core.List.{List, [], _∷_, _++_, map}
 use lib.ListN.{length, take, replicate}
 use Rattle.examples.specs.Types.{Sense, Fragment, Reserved, Appended, Disc, Found, Number, Nowhere, Accepted, Link, Drive, CommandBlockLength, MediumSize, UnsoundState, TransferLength, BlankCheck, Read, Write, RequestSense, ReadCapacity, SynchronizeCache, ReadDiscInformation, ReadTrackInformation, Keep, Settle, Reserve, Close, Grow, Effect, Skip, Record, Nothing, Send, Gather, Fill, Entry, Decision}
 use Rattle.fragments.specs.Address.{sectorsIn, wholeBlocks, leftOver, missing, block, lba, firstSector, passes, sectorsBefore}
-use Rattle.fragments.specs.Fragment.{fragment, unusedRecord, isReserved, complete, isTail, isIncompleteReserved, end, nextFragmentStart, nextSessionStart, nextAfter, firstUnrecorded, lastRecorded, lastReadable, reservedAt, shortenedRecord}
+use Rattle.fragments.specs.Fragment.{fragment, unusedRecord, isReserved, complete, isTail, isIncompleteReserved, end, nextFragmentStart, nextSessionStart, nextAfter, firstUnrecorded, lastRecorded, lastReadableOf, reservedAt, shortenedRecord}
 use Rattle.fragments.specs.List.{limit, listed, recordNumbered, lastOf, holderOf, takerOf, pendingOf, firstOfSession, reachAt, highestReadable, some, find}
 use Rattle.protocol.specs.Answer.{sense, noSense, senseNumber, refusalSense, driveRefusals, allowedSense, isRefusalSense, number}
 use Rattle.protocol.specs.Lengths.{dataLength, replyRoom, lengthsFit}
@@ -54,8 +54,8 @@ kinds = refl
 
 pub places :
     (nextFragmentStart (end first) .0 ∷ nextSessionStart (end first) .0 ∷ firstSector (end second) .0 ∷ nextAfter 5 second .0
-    ∷ firstSector (firstUnrecorded second) .0 ∷ lastRecorded second .0 ∷ lastRecorded third .0 ∷ lastReadable 5 second .0 ∷ lastReadable 0 second .0 ∷ lastReadable 5 third .0
-    ∷ lastReadable 0 third .0 ∷ unusedRecord .length ∷ [])
+    ∷ firstSector (firstUnrecorded second) .0 ∷ lastRecorded second .0 ∷ lastRecorded third .0 ∷ lastReadableOf 5 second .0 ∷ lastReadableOf 0 second .0 ∷ lastReadableOf 5 third .0
+    ∷ lastReadableOf 0 third .0 ∷ unusedRecord .length ∷ [])
     ≡ (3 ∷ 130 ∷ 2128 ∷ 2117 ∷ 2112 ∷ 2111 ∷ 0 ∷ 2116 ∷ 2111 ∷ 2148 ∷ 0 ∷ 0 ∷ [])
 places = refl
 

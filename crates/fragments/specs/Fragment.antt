@@ -70,8 +70,8 @@ abbrev pub lastRecorded : Fragment → Lba
 lastRecorded f = cond (eqb (f .recorded) 0) (lba 0) (lba (firstSector (firstUnrecorded f) .0 - 1))
 
 -- its last readable one with so many sectors pending in it, or 0
-abbrev pub lastReadable : ℕ → Fragment → Lba
-lastReadable pending f = cond (eqb (f .recorded) 0 && eqb pending 0) (lba 0) (lba (nextAfter pending f .0 - 1))
+abbrev pub lastReadableOf : ℕ → Fragment → Lba
+lastReadableOf pending f = cond (eqb (f .recorded) 0 && eqb pending 0) (lba 0) (lba (nextAfter pending f .0 - 1))
 
 -- where the fragment after one that ends here starts: after the dividing block in the same session,
 -- after Closure and Intro, 64 blocks each, in the next one

@@ -6,7 +6,7 @@ use lib.ListN.{length, getD}
 use lib.Dec.{eqb}
 use Rattle.fragments.specs.Types.{Lba, Fragment, Found, Number, Nowhere, Last, Reach}
 use Rattle.fragments.specs.Address.{lba, firstSector, later}
-use Rattle.fragments.specs.Fragment.{unusedRecord, unused, firstUnrecorded, nextAfter, takes, holds, lastReadable}
+use Rattle.fragments.specs.Fragment.{unusedRecord, unused, firstUnrecorded, nextAfter, takes, holds, lastReadableOf}
 
 -- how many fragments a disc can have, the tail included
 abbrev pub limit : ℕ
@@ -73,7 +73,7 @@ reachAt fs pending owner a = reachFound fs pending owner (holderOf fs a)
 -- the highest readable address of any fragment of a list, or 0; n is the number of the first
 unfoldable pub highestReadable : ℕ → ℕ → ℕ → List Fragment → Lba
 highestReadable pending owner n [] = lba 0
-highestReadable pending owner n (f ∷ fs) = later (lastReadable (pendingOf pending owner n) f) (highestReadable pending owner (n + 1) fs)
+highestReadable pending owner n (f ∷ fs) = later (lastReadableOf (pendingOf pending owner n) f) (highestReadable pending owner (n + 1) fs)
 
 -- the number of a session's first record; n is the number of the first in the list
 unfoldable pub firstOfSession : ℕ → ℕ → List Fragment → ℕ

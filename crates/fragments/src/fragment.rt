@@ -5,7 +5,7 @@ use crate::address::WideBlock;
 ghost use mathlib.Core.Path.{_≡_};
 ghost use mathlib.Core.Bool.{_&&_};
 ghost use Rattle.fragments.specs.Address.{wide, firstSector};
-ghost use Rattle.fragments.specs.Fragment.{unusedRecord, reservedAt, shortenedRecord, end, firstUnrecorded, complete, isReserved, isTail, isIncompleteReserved, nextFragmentStart, nextSessionStart, nextAfter, takes, holds, lastRecorded, lastReadable};
+ghost use Rattle.fragments.specs.Fragment.{unusedRecord, reservedAt, shortenedRecord, end, firstUnrecorded, complete, isReserved, isTail, isIncompleteReserved, nextFragmentStart, nextSessionStart, nextAfter, takes, holds, lastRecorded, lastReadableOf};
 
 // Blocks between two fragments: the dividing block in a session, Closure and Intro between sessions.
 const DIVIDING: u64 = 1;
@@ -181,7 +181,7 @@ impl Fragment {
 
     // The address of the last readable sector, with so many sectors pending in the fragment, or 0.
     pub(crate) fn last_readable(self, pending: u8) -> Lba
-        ensures { λ r. ⌜ r ≡ lastReadable pending self ⌝ }
+        ensures { λ r. ⌜ r ≡ lastReadableOf pending self ⌝ }
     {
         if (self.recorded == 0) & (pending == 0) {
             return Lba(0);

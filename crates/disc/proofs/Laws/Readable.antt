@@ -2,18 +2,19 @@
 use Prim.Native.Nat.{ℕ, zero, suc, _+_, _-_, _*_, _/_, _≤_, _<_}
 use mathlib.Core.Path.{_≡_, refl, sym, _∙_, ap}
 use mathlib.Core.Bool.{true, _&&_}
+use mathlib.Core.List.{List, [], _∷_}
 use native.Mathlib.Omega.{arith}
-use borrow.Author.Tests.{leb-true, le-leb, ltb-true, ltb-false, lt-ltb, eqb-true, eqb-false}
+use borrow.Author.Tests.{leb-true, leb-false, le-leb, ltb-true, ltb-false, lt-ltb, eq-eqb, eqb-true, eqb-false}
 use lib.Dec.{eqb, leb, ltb}
-use lib.ListN.{getD, replicate}
+use lib.ListN.{length, getD, replicate}
 use Rattle.disc.specs.Types.{Lba, Fragment, Disc, Number, Nowhere}
 use Rattle.disc.specs.Blank.{blank}
 use Rattle.fragments.specs.Address.{lba, firstSector}
-use Rattle.fragments.specs.Fragment.{unusedRecord, end, complete, firstUnrecorded, nextAfter, holdsRecorded, holds}
-use Rattle.fragments.specs.List.{limit}
-use Rattle.disc.specs.Records.{pendingIn, nextWritable, records, used, numbered, atAddress, isRecorded, isPending, isReadable}
+use Rattle.fragments.specs.Fragment.{unusedRecord, end, complete, firstUnrecorded, nextAfter, lastReadableOf, holdsRecorded, holds}
+use Rattle.fragments.specs.List.{limit, pendingOf, highestReadable}
+use Rattle.disc.specs.Records.{pendingIn, nextWritable, records, used, numbered, atAddress, isRecorded, isPending, isReadable, lastReadable}
 use Rattle.disc.specs.Rules.{at, Sound}
-use Rattle.fragments.proofs.Laws.Bool.{and-left, and-right, and-both, by-cases, or-left, or-right, or-cases, same-test, contradiction}
+use Rattle.fragments.proofs.Laws.Bool.{and-left, and-right, and-both, by-cases, cond-yes, cond-no, or-left, or-right, or-cases, same-test, contradiction}
 use Rattle.fragments.proofs.Laws.Numbers.{equal-cases}
 use Rattle.fragments.proofs.Laws.List.{listed-at, some-cases, at-some, find-hit, find-none}
 use Rattle.disc.proofs.Laws.Sound.{none-pending, other-pending, own-pending, disjoint, writable-within}
@@ -256,3 +257,90 @@ module _ (d : Disc) (a : ℕ) where
 
     pub nowhere-unrecorded : atAddress d (lba a) ≡ Nowhere → isRecorded d (lba a) ≡ true → ⊥
     nowhere-unrecorded e t = nowhere-unreadable e (or-left (isPending d (lba a)) t)
+
+-- the highest readable address of a list: no record's last readable one is above it, and above 0 it is one of them
+highest-most :
+    (p o n : ℕ) (fs : List Fragment) (i : ℕ) → i < length fs
+    → lastReadableOf (pendingOf p o (n + i)) (getD fs i unusedRecord) .0 ≤ highestReadable p o n fs .0
+unfolding highestReadable
+highest-most p o n [] i h = absurd (omega arith)
+highest-most p o n (f ∷ fs) zero h =
+    let same : n + 0 ≡ n = omega arith in
+    rw same (omega arith)
+highest-most p o n (f ∷ fs) (suc i) h =
+    let same : n + suc i ≡ n + 1 + i = omega arith in
+    let rest = highest-most p o (n + 1) fs i (omega arith) in
+    rw same (omega (arith, rest))
+
+highest-is :
+    {P : Type 0} (p o n : ℕ) (fs : List Fragment)
+    → ((i : ℕ) → i < length fs → lastReadableOf (pendingOf p o (n + i)) (getD fs i unusedRecord) .0 ≡ highestReadable p o n fs .0 → P)
+    → 1 ≤ highestReadable p o n fs .0 → P
+unfolding highestReadable
+highest-is p o n [] k h = absurd (omega (arith, h))
+highest-is p o n (f ∷ fs) k h =
+    let here = lastReadableOf (pendingOf p o n) f .0 in
+    let rest = highestReadable p o (n + 1) fs .0 in
+    by-cases (leb rest here)
+    (λ t.
+    let same : n + 0 ≡ n = omega arith in
+    k 0 (omega arith) (rw same (let most = leb-true rest here t in omega (arith, most))))
+    (λ t.
+    let less = leb-false rest here t in
+    highest-is p o (n + 1) fs
+    (λ i l e. let same : n + suc i ≡ n + 1 + i = omega arith in k (suc i) (omega arith) (rw same (omega (arith, e, less)))) (omega (arith, h, less)))
+
+-- 25h: every readable address is at most the last readable one, which is readable itself where any is
+module _ (d : Disc) (s : Sound d) where
+  -- a record's last readable address: 0 without any, else the one before its readable sectors' end
+  last-cases :
+      {P : Type 0} (i : ℕ) → (lastReadableOf (pendingIn d (suc i)) (at d i) .0 ≡ 0 → reach d i ≡ firstSector (at d i .start) .0 → P)
+      → (lastReadableOf (pendingIn d (suc i)) (at d i) .0 ≡ reach d i - 1 → firstSector (at d i .start) .0 < reach d i → P) → P
+  last-cases i none some =
+      let w = at d i .recorded in
+      let p = pendingIn d (suc i) in
+      let test = eqb w 0 && eqb p 0 in
+      let last = lba (reach d i - 1) in
+      by-cases test
+      (λ t.
+      let unrecorded = eqb-true w 0 (and-left (eqb w 0) (eqb p 0) t) in
+      let free = eqb-true p 0 (and-right (eqb w 0) (eqb p 0) t) in
+      none (ap (λ (b : Lba). b .0) (cond-yes test (lba 0) last t)) (omega (arith, unrecorded, free)))
+      (λ t.
+      some (ap (λ (b : Lba). b .0) (cond-no test (lba 0) last t))
+      (equal-cases w 0
+      (λ unrecorded.
+      equal-cases p 0 (λ free. absurd (contradiction (and-both (eq-eqb w 0 unrecorded) (eq-eqb p 0 free)) t)) (λ held. omega (arith, held)))
+      (λ recorded. omega (arith, recorded))))
+
+  -- the same with the numbers that the walk along the list has
+  record-last :
+      (i : ℕ) → i < used d
+      → lastReadableOf (pendingOf (d .pending) (d .owner) (1 + i)) (getD (records d) i unusedRecord) ≡ lastReadableOf (pendingIn d (suc i)) (at d i)
+  record-last i l =
+      let number : 1 + i ≡ suc i = omega arith in
+      ap (λ (k : ℕ). lastReadableOf (pendingIn d k) (getD (records d) i unusedRecord)) number
+      ∙ ap (lastReadableOf (pendingIn d (suc i))) (listed-at (d .fragments) i unusedRecord l)
+
+  pub last-most : (a : Lba) → isReadable d a ≡ true → a .0 ≤ lastReadable d .0
+  last-most a t =
+      readable-cases d s a
+      (λ i l from below.
+      let most = highest-most (d .pending) (d .owner) 1 (records d) i l in
+      let here = ap (λ (b : Lba). b .0) (record-last i l) in
+      last-cases i
+      (λ e none. absurd (omega (arith, none, from, below)))
+      (λ e some. omega (arith, e, here, most, below))) t
+
+  pub last-readable : (a : Lba) → isReadable d a ≡ true → isReadable d (lastReadable d) ≡ true
+  last-readable a t =
+      equal-cases (lastReadable d .0) 0
+      (λ z. let same : a .0 ≡ lastReadable d .0 = omega (arith, z, last-most a t) in rw (← same) t)
+      (λ z.
+      highest-is (d .pending) (d .owner) 1 (records d)
+      (λ i l e.
+      let here = ap (λ (b : Lba). b .0) (record-last i l) in
+      last-cases i
+      (λ f none. absurd (omega (arith, z, e, here, f)))
+      (λ f some. at-readable d s (lastReadable d) i l (omega (arith, e, here, f, some)) (omega (arith, e, here, f, some))))
+      (omega (arith, z)))

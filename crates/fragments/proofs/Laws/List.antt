@@ -11,7 +11,7 @@ use lib.ListN.{length, getD, set, drop, drop-of-length-le, length-map}
 use lib.Seq.{drop-cons}
 use Rattle.fragments.specs.Types.{Fragment, Number, Nowhere}
 use Rattle.fragments.specs.Address.{lba, later}
-use Rattle.fragments.specs.Fragment.{unusedRecord, lastReadable}
+use Rattle.fragments.specs.Fragment.{unusedRecord, lastReadableOf}
 use Rattle.fragments.specs.List.{limit, listed, every, some, find, sumRecorded, recordNumbered, pendingOf, highestReadable, firstOfSession}
 use Rattle.fragments.proofs.Laws.Bool.{and-left, and-right, and-both, or-left, or-right, or-cases, contradiction, by-cases}
 
@@ -158,7 +158,7 @@ module _ (fs : List Fragment) (i : ℕ) (d : Fragment) (h : i < length fs) where
   pub highest-on :
       (p o n : ℕ) → (getD fs i d .length ≡ 0 → ⊥)
       → highestReadable p o n (listed (drop i fs))
-      ≡ later (lastReadable (pendingOf p o n) (getD fs i d)) (highestReadable p o (n + 1) (listed (drop (i + 1) fs)))
+      ≡ later (lastReadableOf (pendingOf p o n) (getD fs i d)) (highestReadable p o (n + 1) (listed (drop (i + 1) fs)))
   unfolding highestReadable
   highest-on p o n e = rw (listed-drop-on e)
 

@@ -19,8 +19,8 @@ unfoldable pub mediumShare : Disc → Lba → ℕ → ℕ
 mediumShare d a zero = 0
 mediumShare d a (suc n) = cond (isRecorded d a) (1 + mediumShare d (lba (a .0 + 1)) n) 0
 
--- of n readable sectors from an address on, those come from the medium; the others, which are pending, from the pending buffer, where a
--- sector has the place that it has in its block
+-- of n readable sectors from an address on, the medium's share comes from the medium; the others are pending, and come from the pending
+-- buffer, from the place on that the first of them has in its block
 unfoldable pub sending : Disc → Lba → ℕ → Transfer
 sending d a n = let m = mediumShare d a n in Send a m (leftOver (a .0 + m)) (n - m)
 

@@ -14,8 +14,7 @@ ghost use Rattle.disc.specs.Ready.{Ready};
 ghost use Rattle.disc.specs.Apply.{decided};
 ghost use Rattle.commands.specs.Read.{read};
 
-// READ: sends the run. Readable sectors end at the next writable address of the fragment that has them: those before are recorded ones, on the
-// medium, and then the pending ones.
+// READ: sends the run. A fragment's readable sectors are its recorded ones, on the medium, and after them those pending in it.
 pub(crate) fn read(disc: Disc, address: Lba, sectors: u32) -> Decision
     requires { ⌜ Ready disc ⌝ }
     ensures { λ r. ⌜ decided disc r ≡ read disc address sectors ⌝ }
@@ -27,24 +26,19 @@ pub(crate) fn read(disc: Disc, address: Lba, sectors: u32) -> Decision
         return Decision::refused(DriveRefusal::AddressOutOfRange);
     }
     let reach = disc.reach_around(address);
-    let readable = reach.readable;
-    if address.passes(sectors, readable) {
+    let readable_end = reach.readable;
+    if address.passes(sectors, readable_end) {
         return Decision::refused(DriveRefusal::BlankCheck);
     }
-    let end = reach.recorded;
-    let recorded = address.sectors_before(sectors, end);
+    let recorded_end = reach.recorded;
+    let recorded = address.sectors_before(sectors, recorded_end);
     let pending = sectors - recorded;
     let place = Lba(address.0 + recorded as u64).place();
     let transfer = Transfer::Send {
         address,
-        sectors: recorded,
+        recorded,
         place,
         pending,
     };
-    Decision::accepted(
-        Effect::Keep,
-        0,
-        Reply::none(),
-        Plan::new(Flush::Skip, transfer),
-    )
+    Decision::accepted(Effect::Keep, 0, Reply::none(), Plan::new(Flush::Skip, transfer))
 }

@@ -16,7 +16,7 @@ pub enum Transfer {
     // Readable sectors go to the reply: recorded ones from the medium, then pending ones from a place in the pending buffer on.
     Send {
         address: Lba,
-        sectors: u32,
+        recorded: u32,
         place: u32,
         pending: u32,
     },

@@ -38,10 +38,10 @@ impl Transfer {
         match self {
             Transfer::Send {
                 address,
-                sectors,
+                recorded,
                 place: _,
                 pending: _,
-            } => stretch_within(address.0, sectors, medium),
+            } => stretch_within(address.0, recorded, medium),
             _ => &medium[0..0],
         }
     }
@@ -53,7 +53,7 @@ impl Transfer {
         match self {
             Transfer::Send {
                 address: _,
-                sectors: _,
+                recorded: _,
                 place,
                 pending,
             } => stretch_within(place as u64, pending, buffer),

@@ -9,7 +9,7 @@ use fragments::Lba;
 use fragments::Reach;
 ghost use mathlib.Core.Path.{_≡_};
 ghost use Rattle.fragments.specs.List.{lastOf, firstOfSession};
-ghost use Rattle.disc.specs.Records.{used, isListed, numbered, pendingIn, isBlank, nextWritable, tailNext, atAddress, reachAround, writableAt, records, isBlankTail, isOnlyTail};
+ghost use Rattle.disc.specs.Records.{used, isListed, numbered, pendingIn, isBlank, nextWritable, tailNext, atAddress, reachAround, lastReadable, writableAt, records, isBlankTail, isOnlyTail};
 
 impl Disc {
     // How many records are in use, which is the last one's number.
@@ -89,6 +89,14 @@ impl Disc {
     {
         let records = self.fragments;
         fragments::reach_at(records, self.pending, self.owner, address)
+    }
+
+    // The highest readable address, or 0.
+    pub fn last_readable(self) -> Lba
+        ensures { λ r. ⌜ r ≡ lastReadable self ⌝ }
+    {
+        let records = self.fragments;
+        fragments::highest_readable(records, self.pending, self.owner)
     }
 
     // The incomplete fragment whose next writable address it is.

@@ -53,7 +53,7 @@ pub(crate) fn send(
     match transfer {
         Transfer::Send {
             address: _,
-            sectors: _,
+            recorded: _,
             place: _,
             pending: _,
         } => send_run(transfer, medium, pending, reply),

@@ -25,7 +25,9 @@ pub struct Last {
 
 // Where a fragment's recorded sectors end, and where its readable ones do.
 pub struct Reach {
+    // The address after the last recorded sector.
     pub recorded: Lba,
+    // The address after the last readable one.
     pub readable: Lba,
 }
 

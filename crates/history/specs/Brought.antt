@@ -66,7 +66,8 @@ broughtIn a (suc n) ws = length (broughtTo a ws) + broughtIn (a + 1) n ws
 pub record ReadBack : Type 0 where
   -- no two accepted WRITEs brought anything to one address
   pub once : (c : ℕ) (s : Drive) → Start c s → (ts : List Turn) → Admissible ts s → (a : ℕ) → length (broughtTo a (writes ts s)) ≤ 1
-  -- every sector of an accepted READ is what an accepted WRITE brought to its address; every other one is zeros, and none brought anything
+  -- every sector of an accepted READ, recorded or pending, is what an accepted WRITE brought to its address, or zeros where none brought
+  -- anything
   pub back :
       (c : ℕ) (s : Drive) → Start c s → (ts : List Turn) → Admissible ts s → (t : Turn) → Alike (final ts s) (found t (final ts s))
       → (a : Lba) (n : ℕ) → decode (t .request .cdb) ≡ Read a n → result t (final ts s) .answer ≡ Accepted

@@ -69,15 +69,15 @@ nextThirteen l = l .four ++ (l .five ++ [])
 abbrev pub writing : ℕ → ℕ → List ℕ → Request
 writing a n x = request (writeCdb a n) x []
 
--- 52h number 1, READ of 16 sectors, READ of some and 35h, with a reply buffer that is full of some byte
+-- 52h number 1, READ of some sectors and of 16, and 35h, with a reply buffer that is full of some byte
 abbrev pub asking : ℕ → Request
 asking x = request (0x52 ∷ 1 ∷ 0 ∷ 0 ∷ 0 ∷ 1 ∷ 0 ∷ 0 ∷ 36 ∷ 0 ∷ 0 ∷ 0 ∷ []) [] (replicate 36 x)
 
-abbrev pub reading : ℕ → ℕ → Request
-reading a x = request (0x28 ∷ 0 ∷ 0 ∷ 0 ∷ 0 ∷ a ∷ 0 ∷ 0 ∷ 16 ∷ 0 ∷ 0 ∷ 0 ∷ []) [] (replicate 32768 x)
-
 abbrev pub readingSome : ℕ → ℕ → ℕ → Request
 readingSome a n x = request (0x28 ∷ 0 ∷ 0 ∷ 0 ∷ 0 ∷ a ∷ 0 ∷ 0 ∷ n ∷ 0 ∷ 0 ∷ 0 ∷ []) [] (replicate (2048 * n) x)
+
+abbrev pub reading : ℕ → ℕ → Request
+reading a x = readingSome a 16 x
 
 abbrev pub flushing : Request
 flushing = request (0x35 ∷ 0 ∷ 0 ∷ 0 ∷ 0 ∷ 0 ∷ 0 ∷ 0 ∷ 0 ∷ 0 ∷ 0 ∷ 0 ∷ []) [] []
@@ -157,16 +157,17 @@ pub record Reader (l : Log) (x : ℕ) (first ts : List Turn) (s : Drive) (c : Ch
   -- after the flush sector 17 is the last one of the log, and sector 18 zeros that nobody wrote
   pub last : sectorAt 1 (afterAll ts s (after c (reading 16 x)) .reply) ≡ sectorAt 12 (nextThirteen l)
   pub zeroed : sectorAt 2 (afterAll ts s (after c (reading 16 x)) .reply) ≡ zeros 2048
-  -- sectors 17 and 31 are recorded; 32, which is pending, is not, and holds what the last WRITE brought
+  -- sectors 17 and 31 are recorded, 32 is not; 34 is pending, 35 is not; 33 holds what the last WRITE brought
   pub log : isRecorded (final ts s .disc) (lba 17) ≡ true
   pub padding : isRecorded (final ts s .disc) (lba 31) ≡ true
   pub beyond : isRecorded (final ts s .disc) (lba 32) ≡ false
   pub waiting : isPending (final ts s .disc) (lba 34) ≡ true
   pub ended : isPending (final ts s .disc) (lba 35) ≡ false
   pub held : sectorAt 1 (final ts s .pending) ≡ sectorAt 1 (l .six)
-  -- READ 31 of 4 is accepted, over the border and up to the last pending sector; READ 31 of 5 is not
+  -- READ 31 of 4 is accepted, over the border and up to the last pending sector; READ 31 of 5 is not, but refused by 8/00/00
   pub accepted : afterAll ts s (after c (readingSome 31 4 x)) .answer ≡ Accepted
   pub beyondLast : afterAll ts s (after c (readingSome 31 5 x)) .answer ≡ Accepted → ⊥
+  pub refused : afterAll ts s (after c (readingSome 31 5 x)) .answer ≡ byDrive BlankCheck
   -- no request is refused by L2 or L3
   pub served :
       (r : Request) (q : LinkRefusal) → afterAll ts s (after c r) .answer ≡ Link q → (q ≡ MediumSize → ⊥) × (q ≡ UnsoundState → ⊥)
@@ -183,6 +184,9 @@ pub record Requested (l : Log) (x : ℕ) (before ts : List Turn) (s : Drive) (c 
   -- sector 7 is the one that the second WRITE brought there, and nobody brought anything to sector 20
   pub brought : sectorAt 7 (afterAll ts s (after c (reading 0 x)) .reply) ≡ sectorAt 2 (nextThirteen l)
   pub none : sectorAt 4 (afterAll ts s (after c (reading 16 x)) .reply) ≡ zeros 2048
+  -- sectors 33 and 34, which are pending, are those that the last WRITE brought there
+  pub waiting : sectorAt 1 (afterAll ts s (after c (readingSome 32 3 x)) .reply) ≡ sectorAt 1 (l .six)
+  pub waitingLast : sectorAt 2 (afterAll ts s (after c (readingSome 32 3 x)) .reply) ≡ sectorAt 2 (l .six)
   -- nobody brings a second sector to an address
   pub once : length (broughtTo 7 (writes ts s)) ≤ 1
   -- 21 sectors lie in the fragment as it is listed; the account has as many

@@ -2,7 +2,7 @@
 -- what is read is what was written.
 use Prim.Native.Nat.{ℕ, _+_, _-_, _≤_, _<_}
 use mathlib.Core.Path.{_≡_}
-use mathlib.Core.Bool.{true}
+use mathlib.Core.Bool.{true, false}
 use mathlib.Core.Logic.{_⊎_}
 use mathlib.Core.List.{List}
 use Rattle.fragments.specs.Address.{lba, sectorsIn, leftOver}
@@ -11,7 +11,7 @@ use Rattle.disc.specs.Records.{pendingIn, numbered, isRecorded, isPending}
 use Rattle.drive.specs.Step.{Drive}
 use Rattle.drive.specs.Alike.{Alike}
 use Rattle.drive.specs.Requests.{ReadOf}
-use Rattle.history.specs.Types.{Lba, Disc, LinkRefusal, CommandBlockLength, TransferLength, Accepted, Link, Read}
+use Rattle.history.specs.Types.{Lba, Disc, LinkRefusal, CommandBlockLength, TransferLength, Accepted, Link, Drive as byDrive, BlankCheck, Read}
 use Rattle.history.specs.Sequence.{Start, Turn, found, result, final, Admissible}
 use Rattle.history.specs.Account.{Account, account, sectorAt, contentAt, recordedAt, pendingAt, readableAt}
 
@@ -44,12 +44,17 @@ pub record KeptAccount : Type 0 where
   pub held :
       (c : ℕ) (s : Drive) → Start c s → (ts : List Turn) → Admissible ts s → (a : ℕ) → pendingAt ts s a ≡ true
       → sectorAt (leftOver a) (final ts s .pending) ≡ contentAt ts s a
-  -- a READ of 1 up within the disc is accepted exactly when every sector of it is readable by the history, whatever stale bytes hold
+  -- a READ of 1 up is accepted exactly when every sector of it is readable by the history, whatever stale bytes hold
   pub readable :
       (c : ℕ) (s : Drive) → Start c s → (ts : List Turn) → Admissible ts s → (t : Turn) → Alike (final ts s) (found t (final ts s))
-      → (a : Lba) (n : ℕ) → ReadOf (t .request) a n → 1 ≤ n → a .0 + n ≤ sectorsIn (final ts s .disc .capacity)
+      → (a : Lba) (n : ℕ) → ReadOf (t .request) a n → 1 ≤ n
       → (((i : ℕ) → i < n → readableAt ts s (a .0 + i) ≡ true) → result t (final ts s) .answer ≡ Accepted)
       × (result t (final ts s) .answer ≡ Accepted → (i : ℕ) → i < n → readableAt ts s (a .0 + i) ≡ true)
+  -- and within the disc every other one is refused by 8/00/00
+  pub blank :
+      (c : ℕ) (s : Drive) → Start c s → (ts : List Turn) → Admissible ts s → (t : Turn) → Alike (final ts s) (found t (final ts s))
+      → (a : Lba) (n : ℕ) → ReadOf (t .request) a n → a .0 + n ≤ sectorsIn (final ts s .disc .capacity)
+      → (i : ℕ) → i < n → readableAt ts s (a .0 + i) ≡ false → result t (final ts s) .answer ≡ byDrive BlankCheck
   -- every sector of an accepted READ, recorded or pending, is what the history put at its address
   pub back :
       (c : ℕ) (s : Drive) → Start c s → (ts : List Turn) → Admissible ts s → (t : Turn) → Alike (final ts s) (found t (final ts s))

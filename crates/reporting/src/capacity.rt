@@ -10,7 +10,6 @@ ghost use Rattle.reporting.specs.Reports.{readCapacity};
 pub fn read_capacity(disc: Disc) -> Decision
     ensures { λ r. ⌜ decided disc r ≡ readCapacity disc ⌝ }
 {
-    let records = disc.fragments;
-    let last = fragments::highest_readable(records, disc.pending, disc.owner);
+    let last = disc.last_readable();
     Decision::unchanged(Reply::of_capacity(last))
 }

@@ -74,7 +74,7 @@ share-recorded d a (suc n) (suc k) h =
     (λ t. absurd (let l : suc k < 0 = rw t at h in omega arith))
 
 -- what the code sends of a run, from where its recorded sectors end
-abbrev pub sendingBefore : Lba → ℕ → Lba → Transfer
+abbrev sendingBefore : Lba → ℕ → Lba → Transfer
 sendingBefore a n end = let m = sectorsBefore a n end in Send a m (leftOver (a .0 + m)) (n - m)
 
 -- what is sent of a readable run: recorded sectors of the medium, then sectors of the pending buffer below the pending count, each the one
@@ -103,7 +103,7 @@ module _ (d : Disc) (s : Sound d) where
       e
 
   -- so a readable run that begins in a fragment ends in it
-  pub run-ends :
+  run-ends :
       (a : Lba) (n i : ℕ) → i < used d → a .0 < reach d i → allReadable d a n ≡ true → a .0 + n ≤ reach d i
   run-ends a n i l below e =
       by-cases (ltb (reach d i) (a .0 + n))
@@ -114,14 +114,14 @@ module _ (d : Disc) (s : Sound d) where
       (λ h. ltb-false (reach d i) (a .0 + n) h)
 
   -- a run of one sector up is readable exactly where one record has it whole before the end of its readable sectors
-  pub one-fragment :
+  one-fragment :
       {P : Type 0} (a : Lba) (n : ℕ) → 1 ≤ n
       → ((i : ℕ) → i < used d → firstSector (at d i .start) .0 ≤ a .0 → a .0 + n ≤ reach d i → P) → allReadable d a n ≡ true → P
   one-fragment a n h k e =
       let z : a .0 + 0 ≡ a .0 = omega arith in
       readable-cases d s a (λ i l from below. k i l from (run-ends a n i l below e)) (rw z at (all-readable-at d a n e 0 (omega arith)))
 
-  pub run-readable :
+  run-readable :
       (a : Lba) (n i : ℕ) → i < used d → firstSector (at d i .start) .0 ≤ a .0 → a .0 + n ≤ reach d i → allReadable d a n ≡ true
   run-readable a n i l from to =
       at-all-readable d a n (λ k m. at-readable d s (lba (a .0 + k)) i l (omega (arith, from)) (omega (arith, m, to)))
@@ -147,7 +147,7 @@ module _ (d : Disc) (s : Sound d) where
         } in
         located-recorded d (a .0 + k) s (suc i) w ∙ rw number (ap (ltb (a .0 + k)) (omega arith))
 
-    pub share-before : mediumShare d a n ≡ share
+    share-before : mediumShare d a n ≡ share
     share-before =
         share-is d a n share (omega arith)
         (λ k h. run-recorded k (omega (arith, h)) ∙ lt-ltb (a .0 + k) recordedEnd (omega (arith, h)))
@@ -158,7 +158,7 @@ module _ (d : Disc) (s : Sound d) where
     run-owner h =
         equal-cases (d .owner) (suc i) (λ e. e) (λ e. absurd (omega (arith, h, to, other-pending d (suc i) e)))
 
-    pub run-shared : Shared d a n share (leftOver (a .0 + share)) (n - share)
+    run-shared : Shared d a n share (leftOver (a .0 + share)) (n - share)
     run-shared =
         record {
           whole = omega arith;

@@ -9,7 +9,7 @@ use lib.Dec.{eqb, leb, ltb}
 use lib.ListN.{length, getD, replicate}
 use Rattle.disc.specs.Types.{Lba, Fragment, Disc, Number, Nowhere}
 use Rattle.disc.specs.Blank.{blank}
-use Rattle.fragments.specs.Address.{lba, firstSector}
+use Rattle.fragments.specs.Address.{lba, sectorsIn, firstSector}
 use Rattle.fragments.specs.Fragment.{unusedRecord, end, complete, firstUnrecorded, nextAfter, lastReadableOf, holdsRecorded, holds}
 use Rattle.fragments.specs.List.{limit, pendingOf, highestReadable}
 use Rattle.disc.specs.Records.{pendingIn, nextWritable, records, used, numbered, atAddress, isRecorded, isPending, isReadable, lastReadable}
@@ -156,6 +156,10 @@ module _ (d : Disc) (s : Sound d) where
       or-right (isRecorded d a)
       (waits-pending d a (at d i) (owner-index i same) (record { from = high; below = omega (arith, below, own) })))
       (λ e. absurd (omega (arith, below, high, other-pending d (suc i) (eqb-false (d .owner) (suc i) e)))))
+
+  -- so it lies within the disc
+  pub readable-inside : (a : Lba) → isReadable d a ≡ true → a .0 < sectorsIn (d .capacity)
+  readable-inside a t = readable-cases a (λ i l from below. omega (arith, below, reach-within i l, s .ends i l)) t
 
 -- the fragment that an address lies in
 module _ (d : Disc) (a : ℕ) where

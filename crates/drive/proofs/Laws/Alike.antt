@@ -206,19 +206,18 @@ module _
     reply-alike =
         sent-alike (v .plan .transfer) (v .reply) m n p q
         (λ a l i k e.
-        let w = decided-sends d v a l i k (j .decided) e in
+        decided-sends d v a l i k (j .decided) e
+        (λ count w.
         let fits : (2048 * (a .0 + l) ≤ length m) × (i + k ≤ 16) = rw e at (j .fits .transfer) in (
           agree-run m n (2048 * a .0) (2048 * l) (omega (arith, fits .0)) hm
-              (λ x from below.
-              same x
-              (let at : a .0 + (x / 2048 - a .0) ≡ x / 2048 = omega arith in
-              rw at at (w .shares .recorded (x / 2048 - a .0) (omega arith)))),
+          (λ x from below.
+          same x
+          (let at : a .0 + (x / 2048 - a .0) ≡ x / 2048 = omega arith in
+          rw at at (w .recorded (x / 2048 - a .0) (omega arith)))),
           equal-cases k 0 (λ z. rw z)
-              (λ z.
-              let most = w .shares .held z in
-              let few = w .shares .few in
-              stretch-alike p q (d .pending) i k (omega (arith, j .block, few)) (omega (arith, other-block, few)) most held),
-        ))
+          (λ z.
+          stretch-alike p q (d .pending) i k (omega (arith, j .block, w .few)) (omega (arith, other-block, w .few)) (w .held z) held),
+        )))
 
     -- the media after the flush, and then after the transfer
     flushed-alike :

@@ -1,7 +1,7 @@
 -- What a READ answers: recorded and pending sectors, and a refusal where a sector is neither.
 use Prim.Native.Nat.{ℕ, _+_, _-_, _*_, _≤_, _<_}
 use mathlib.Core.Path.{_≡_, sym, ap, _∙_}
-use mathlib.Core.Bool.{true, cond}
+use mathlib.Core.Bool.{true, false, cond}
 use mathlib.Core.List.{List, _++_}
 use native.Mathlib.Omega.{arith}
 use borrow.Author.Tests.{ltb-true, ltb-false}
@@ -11,16 +11,18 @@ use lib.Seq.{length-take-le}
 use Rattle.fragments.specs.Address.{lba, sectorsIn, leftOver}
 use Rattle.protocol.specs.Command.{decode}
 use Rattle.commands.specs.Judge.{judge, perform}
-use Rattle.commands.specs.Read.{mediumShare, sending, read}
+use Rattle.commands.specs.Read.{allReadable, mediumShare, sending, read}
 use Rattle.disc.specs.Records.{isRecorded, isReadable}
+use Rattle.disc.specs.Verdict.{refuse}
 use Rattle.decisions.specs.Run.{stretch}
-use Rattle.fragments.proofs.Laws.Bool.{by-cases, cond-yes, cond-no}
+use Rattle.fragments.proofs.Laws.Bool.{by-cases, contradiction, cond-yes, cond-no}
 use Rattle.disc.proofs.Laws.Rules.{sound-rules}
 use Rattle.commands.proofs.Laws.Judge.{allowed-ready}
-use Rattle.commands.proofs.Laws.Read.{at-all-readable, Shared, shared}
+use Rattle.disc.proofs.Laws.Readable.{readable-inside}
+use Rattle.commands.proofs.Laws.Read.{all-readable-at, at-all-readable, read-blank, Shared, shared}
 use Rattle.outcomes.proofs.Laws.Accepts.{read-accepted, accepted-read, read-sends}
 use Rattle.outcomes.proofs.Laws.Judge.{judge-reads, perform-read, decided-performed}
-use Rattle.drive.specs.Types.{Lba, Read, Accepted, Transfer, Verdict}
+use Rattle.drive.specs.Types.{Lba, Read, Accepted, Drive as byDrive, BlankCheck, Transfer, Verdict}
 use Rattle.drive.specs.Reply.{sentBytes}
 use Rattle.drive.specs.Step.{Drive, Request, verdictOn, carriedOut, step}
 use Rattle.drive.specs.Requests.{ReadOf}
@@ -35,15 +37,28 @@ read-verdict s q a n w k =
     ∙ (ap (λ (l : ℕ). judge (s .disc) (q .cdb) l (length (q .buffer))) (w .payload)
     ∙ judge-reads (s .disc) (q .cdb) (length (q .buffer)) a n (w .cdb) (w .command) (k .range) (k .allowed) (w .room))
 
--- a READ of 1 up within the disc is accepted exactly when every sector that it touches is readable
-module _ (s : Drive) (q : Request) (a : Lba) (n : ℕ) (w : ReadOf q a n) (k : Served s) (z : n ≡ 0 → ⊥) (within : a .0 + n ≤ sectorsIn (s .disc .capacity)) where
+-- a READ of 1 up is accepted exactly when every sector that it touches is readable; within the disc it is refused by 8/00/00 else
+module _ (s : Drive) (q : Request) (a : Lba) (n : ℕ) (w : ReadOf q a n) (k : Served s) (z : n ≡ 0 → ⊥) where
+  readable-within : ((i : ℕ) → i < n → isReadable (s .disc) (lba (a .0 + i)) ≡ true) → a .0 + n ≤ sectorsIn (s .disc .capacity)
+  readable-within h =
+      let sound = sound-rules (s .disc) (allowed-ready (s .disc) (k .range) (k .allowed) .sound) in
+      let last = readable-inside (s .disc) sound (lba (a .0 + (n - 1))) (h (n - 1) (omega (arith, z))) in
+      omega (arith, last, z)
+
   pub readable-accepted : ((i : ℕ) → i < n → isReadable (s .disc) (lba (a .0 + i)) ≡ true) → step s q .answer ≡ Accepted
   unfolding step carriedOut
-  readable-accepted h = ap (λ (v : Verdict). v .answer) (read-verdict s q a n w k) ∙ read-accepted (s .disc) a n z within h
+  readable-accepted h =
+      ap (λ (v : Verdict). v .answer) (read-verdict s q a n w k) ∙ read-accepted (s .disc) a n z (readable-within h) h
 
-  pub accepted-readable : step s q .answer ≡ Accepted → (i : ℕ) → i < n → isReadable (s .disc) (lba (a .0 + i)) ≡ true
-  unfolding step carriedOut
-  accepted-readable e = accepted-read (s .disc) a n z (sym (ap (λ (v : Verdict). v .answer) (read-verdict s q a n w k)) ∙ e) .1
+  pub blank-refused :
+      a .0 + n ≤ sectorsIn (s .disc .capacity) → (i : ℕ) → i < n → isReadable (s .disc) (lba (a .0 + i)) ≡ false
+      → step s q .answer ≡ byDrive BlankCheck
+  unfolding step carriedOut refuse
+  blank-refused within i l t =
+      ap (λ (v : Verdict). v .answer)
+      (read-verdict s q a n w k
+      ∙ read-blank (s .disc) a n z within
+      (by-cases (allReadable (s .disc) a n) (λ e. absurd (contradiction (all-readable-at (s .disc) a n e i l) t)) (λ e. e)))
 
 -- a sector of the drive: the medium's where it is recorded, else that of the pending buffer at its place in the block
 abbrev pub sectorOf : Drive → ℕ → List ℕ
@@ -82,7 +97,7 @@ module _
         (at-all-readable (s .disc) a n read-readable)
 
     -- sends the medium's sectors, then those of the pending buffer
-    read-reply : step s q .reply ≡ stretch (a .0) share (s .medium) ++ stretch (leftOver (a .0 + share)) (n - share) (s .pending)
+    pub read-reply : step s q .reply ≡ stretch (a .0) share (s .medium) ++ stretch (leftOver (a .0 + share)) (n - share) (s .pending)
     unfolding step carriedOut sending sentBytes
     read-reply =
         ap (λ (v : Verdict). sentBytes (v .plan .transfer) (v .reply) (s .medium) (s .pending)) performed

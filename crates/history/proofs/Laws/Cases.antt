@@ -167,8 +167,8 @@ early-shapes s l x j =
     ∷ shape (writeCdb 5 13) (thirteen-length l i) 0 ∷ []
 
 -- a READ after them, and a WRITE after RESERVE 48
-abbrev lateShapes : ℕ → List Shape
-lateShapes a = newerShapes ++ (shape (reading a 0 .cdb) 0 32768 ∷ [])
+abbrev lateShapes : ℕ → ℕ → List Shape
+lateShapes a n = newerShapes ++ (shape (readingSome a n 0 .cdb) 0 (2048 * n) ∷ [])
 
 abbrev wholeShapes : ℕ → ℕ → List Shape
 wholeShapes p n = shape (reserving .cdb) 0 0 ∷ shape (writeCdb 0 p) n 0 ∷ []
@@ -184,7 +184,9 @@ accountOf c ts hs = accountBy 1 ts hs (blank c) opened
 record Computed (c : ℕ) : Type 0 where
   range : inRange c ≡ true
   answered : decisions newerShapes (blank c) ≡ newerAnswers
-  lateAnswered : (decisions (lateShapes 0) (blank c) ≡ newerAnswers ++ (Accepted ∷ [])) × (decisions (lateShapes 16) (blank c) ≡ newerAnswers ++ (Accepted ∷ []))
+  lateAnswered :
+      (decisions (lateShapes 0 16) (blank c) ≡ newerAnswers ++ (Accepted ∷ [])) × (decisions (lateShapes 16 16) (blank c) ≡ newerAnswers ++ (Accepted ∷ []))
+      × (decisions (lateShapes 32 3) (blank c) ≡ newerAnswers ++ (Accepted ∷ []))
   partly : decisions (wholeShapes 49 100352) (blank c) ≡ Accepted ∷ byDrive EndOfUserArea ∷ []
   wholly : decisions (wholeShapes 48 98304) (blank c) ≡ Accepted ∷ Accepted ∷ []
   newerList : records (listOf c newerShapes) ≡ fragment 1 0 c 2 14 Appended ∷ []
@@ -226,7 +228,7 @@ computed = (
   record {
     range = refl;
     answered = refl;
-    lateAnswered = (refl, refl);
+    lateAnswered = (refl, refl, refl);
     partly = refl;
     wholly = refl;
     newerList = refl;
@@ -247,7 +249,7 @@ computed = (
   record {
     range = refl;
     answered = refl;
-    lateAnswered = (refl, refl);
+    lateAnswered = (refl, refl, refl);
     partly = refl;
     wholly = refl;
     newerList = refl;
@@ -510,25 +512,25 @@ fits c m demand f x y z one two three j =
       wholly = yes .0 (ap (λ (l : List Answer). getD l 1 Accepted) taken) (ap (λ (l : List Answer). getD l 0 Accepted) taken);
     }
 
-abbrev late : ℕ → Log → ℕ → (ℕ → Change) → List Given
-late a l x j = newer l x j ++ (after (j 7) (reading a x) ∷ [])
+abbrev late : ℕ → ℕ → Log → ℕ → (ℕ → Change) → List Given
+late a n l x j = newer l x j ++ (after (j 7) (readingSome a n x) ∷ [])
 
-late-shapes : (s : Drive) (a : ℕ) (l : Log) (x : ℕ) (j : ℕ → Change) → shapes (given (late a l x j) s) ≡ lateShapes a
+late-shapes : (s : Drive) (a n : ℕ) (l : Log) (x : ℕ) (j : ℕ → Change) → shapes (given (late a n l x j) s) ≡ lateShapes a n
 unfolding given
-late-shapes s a l x j =
+late-shapes s a n l x j =
     λ i.
     shape (writeCdb 0 5) (five-length l i) 0 ∷ shape (asking 0 .cdb) 0 (length-replicate {A = ℕ} 36 x i)
     ∷ shape (writeCdb 5 13) (thirteen-length l i) 0 ∷ shape (reading 2 0 .cdb) 0 (length-replicate {A = ℕ} 32768 x i)
     ∷ shape (flushing .cdb) 0 0 ∷ shape (reading 32 0 .cdb) 0 (length-replicate {A = ℕ} 32768 x i) ∷ shape (writeCdb 32 3) (l .sixLength i) 0
-    ∷ shape (reading a 0 .cdb) 0 (length-replicate {A = ℕ} 32768 x i) ∷ []
+    ∷ shape (readingSome a n 0 .cdb) 0 (length-replicate {A = ℕ} (2048 * n) x i) ∷ []
 
 late-answers :
-    (c : ℕ) → Computed c → (f : Flash c) (a : ℕ) (l : Log) (x : ℕ) (j : ℕ → Change)
-    → decisions (lateShapes a) (blank c) ≡ newerAnswers ++ (Accepted ∷ [])
-    → getD (answers (given (late a l x j) (blankOver c f)) (blankOver c f)) 7 Accepted ≡ Accepted
-late-answers c m f a l x j e =
+    (c : ℕ) → Computed c → (f : Flash c) (a n : ℕ) (l : Log) (x : ℕ) (j : ℕ → Change)
+    → decisions (lateShapes a n) (blank c) ≡ newerAnswers ++ (Accepted ∷ [])
+    → getD (answers (given (late a n l x j) (blankOver c f)) (blankOver c f)) 7 Accepted ≡ Accepted
+late-answers c m f a n l x j e =
     let s = blankOver c f in
-    let known = known-answers c s (flash-start c f (m .range)) (given (late a l x j) s) (given-admissible (late a l x j) s) (lateShapes a) (late-shapes s a l x j) in
+    let known = known-answers c s (flash-start c f (m .range)) (given (late a n l x j) s) (given-admissible (late a n l x j) s) (lateShapes a n) (late-shapes s a n l x j) in
     ap (λ (r : List Answer). getD r 7 Accepted) (known ∙ e)
 
 -- L2 and L3 are neither L1 nor L4
@@ -582,7 +584,7 @@ module _ (c : ℕ) (m : Computed c) (kept : KeptAccount) (f : Flash c) (l : Log)
   unfolding given final answers replies decode
   read-late a h =
       kept .back c disc₀ start₀ logTurns log-admissible (turn (after (j 7) (reading 16 x)) logEnd) (turn-alike (after (j 7) (reading 16 x)) logEnd) (lba 16) 16 refl
-      (late-answers c m f 16 l x j (m .lateAnswered .1)) a h
+      (late-answers c m f 16 16 l x j (m .lateAnswered .1)) a h
 
   early-known : (a : ℕ) → atAddress (listOf c earlyShapes) (lba a) ≡ Number 1 → contentAt earlyTurns disc₀ a ≡ accountOf c earlyTurns earlyShapes .content a
   early-known a e = known-content c disc₀ start₀ earlyTurns early-admissible earlyShapes (early-shapes disc₀ l x j) a 1 e
@@ -615,15 +617,15 @@ module _ (c : ℕ) (m : Computed c) (kept : KeptAccount) (f : Flash c) (l : Log)
       record { cdb = refl; command = e; payload = refl; room = omega (arith, size) }
 
   log-reads :
-      (n : ℕ) → decode (readingSome 31 n x .cdb) ≡ Read (lba 31) n → 1 ≤ n → n ≤ 5
+      (n : ℕ) → decode (readingSome 31 n x .cdb) ≡ Read (lba 31) n → 1 ≤ n
       → (((i : ℕ) → i < n → readableAt logTurns disc₀ (31 + i) ≡ true) → afterAll logTurns disc₀ (after (j 7) (readingSome 31 n x)) .answer ≡ Accepted)
       × (afterAll logTurns disc₀ (after (j 7) (readingSome 31 n x)) .answer ≡ Accepted → (i : ℕ) → i < n → readableAt logTurns disc₀ (31 + i) ≡ true)
-  log-reads n e some few =
+  log-reads n e some =
       let g = after (j 7) (readingSome 31 n x) in
-      let size = ap (λ (d : Disc). d .capacity) (known-disc c disc₀ start₀ logTurns log-admissible newerShapes (newer-shapes disc₀ l x j)) ∙ m .size in
-      let least = leb-true 256 c (and-left (leb 256 c) (leb c 143444) (m .range)) in
       kept .readable c disc₀ start₀ logTurns log-admissible (turn g logEnd) (turn-alike g logEnd) (lba 31) n (some-read n e) some
-      (omega (arith, size, least, few))
+
+  log-size : logEnd .disc .capacity ≡ c
+  log-size = ap (λ (d : Disc). d .capacity) (known-disc c disc₀ start₀ logTurns log-admissible newerShapes (newer-shapes disc₀ l x j)) ∙ m .size
 
   up-to-last : (i : ℕ) → i < 4 → readableAt logTurns disc₀ (31 + i) ≡ true
   up-to-last zero h = log-readable 31 (m .newerPlaces .2)
@@ -672,8 +674,13 @@ module _ (c : ℕ) (m : Computed c) (kept : KeptAccount) (f : Flash c) (l : Log)
         held =
             kept .held c disc₀ start₀ logTurns log-admissible 33 (log-waiting 33 (m .newerPlaces .4))
             ∙ (log-known 33 (m .newerPlaces .4) ∙ m .newerContent disc₀ l x j .2);
-        accepted = log-reads 4 four-read (omega arith) (omega arith) .0 up-to-last;
-        beyondLast = λ t. contradiction (log-reads 5 five-read (omega arith) (omega arith) .1 t 4 (omega arith)) (log-readable 35 (m .newerPlaces .6));
+        accepted = log-reads 4 four-read (omega arith) .0 up-to-last;
+        beyondLast = λ t. contradiction (log-reads 5 five-read (omega arith) .1 t 4 (omega arith)) (log-readable 35 (m .newerPlaces .6));
+        refused =
+            let g = after (j 7) (readingSome 31 5 x) in
+            let least = leb-true 256 c (and-left (leb 256 c) (leb c 143444) (m .range)) in
+            kept .blank c disc₀ start₀ logTurns log-admissible (turn g logEnd) (turn-alike g logEnd) (lba 31) 5 (some-read 5 five-read)
+            (omega (arith, log-size, least)) 4 (omega arith) (log-readable 35 (m .newerPlaces .6));
         served =
             λ r q e.
             let w = kept .lengths c disc₀ start₀ logTurns log-admissible (turn (after (j 7) r) logEnd) (turn-alike (after (j 7) r) logEnd) q e in
@@ -717,21 +724,41 @@ module _ (c : ℕ) (m : Computed c) (back : ReadBack) (count : KeptAsListed) (hi
       let us = given (later l x j) (result w (final ts disc₁) .after) in
       back .later c disc₁ start₁ ts w us admissible₁ (lba 5) 13 refl (newer-answer c m disc₁ start₁ l x j 2)
       (turn (after (j 7) (reading 0 x)) end₁) (turn-alike (after (j 7) (reading 0 x)) end₁) (lba 0) 16 refl
-      (late-answers c m f 0 l x j (m .lateAnswered .0)) 2 7 (omega arith) (omega arith) refl
+      (late-answers c m f 0 16 l x j (m .lateAnswered .0)) 2 7 (omega arith) (omega arith) refl
+
+  -- the sectors of accepted WRITEs, by the answers
+  bring : List Answer → List Written
+  bring r =
+      acceptedWrite (getD r 0 Accepted) (writing 0 5 (firstFive l)) ++ (acceptedWrite (getD r 1 Accepted) (asking x)
+      ++ (acceptedWrite (getD r 2 Accepted) (writing 5 13 (nextThirteen l)) ++ (acceptedWrite (getD r 3 Accepted) (reading 2 x)
+      ++ (acceptedWrite (getD r 4 Accepted) flushing ++ (acceptedWrite (getD r 5 Accepted) (reading 32 x)
+      ++ (acceptedWrite (getD r 6 Accepted) (writing 32 3 (l .six)) ++ []))))))
 
   none₁ : sectorAt 4 (afterAll turns₁ disc₁ (after (j 7) (reading 16 x)) .reply) ≡ zeros 2048
-  unfolding given final answers replies decode writes acceptedWrite writeOf broughtTo sole
+  unfolding given final answers replies decode writes acceptedWrite writeOf broughtTo sole bring
   none₁ =
       back .back c disc₁ start₁ turns₁ admissible₁ (turn (after (j 7) (reading 16 x)) end₁) (turn-alike (after (j 7) (reading 16 x)) end₁) (lba 16) 16 refl
-      (late-answers c m f 16 l x j (m .lateAnswered .1)) 4 (omega arith)
-      ∙ ap (λ (r : List Answer). sole (broughtTo 20 (bring (getD r 0 Accepted) (getD r 1 Accepted) (getD r 2 Accepted) (getD r 3 Accepted) (getD r 4 Accepted) (getD r 5 Accepted) (getD r 6 Accepted))))
-      (newer-answers c m disc₁ start₁ l x j)
-    where
-      bring : Answer → Answer → Answer → Answer → Answer → Answer → Answer → List Written
-      bring a b o d e p q =
-          acceptedWrite a (writing 0 5 (firstFive l)) ++ (acceptedWrite b (asking x) ++ (acceptedWrite o (writing 5 13 (nextThirteen l))
-          ++ (acceptedWrite d (reading 2 x) ++ (acceptedWrite e flushing ++ (acceptedWrite p (reading 32 x)
-          ++ (acceptedWrite q (writing 32 3 (l .six)) ++ []))))))
+      (late-answers c m f 16 16 l x j (m .lateAnswered .1)) 4 (omega arith)
+      ∙ ap (λ (r : List Answer). sole (broughtTo 20 (bring r))) (newer-answers c m disc₁ start₁ l x j)
+
+  -- pending sectors, by the last WRITE and by all of them
+  waiting₁ : sectorAt 1 (afterAll turns₁ disc₁ (after (j 7) (readingSome 32 3 x)) .reply) ≡ sectorAt 1 (l .six)
+  unfolding given final answers replies decode
+  waiting₁ =
+      let front = front₁ ++ (write₁ ∷ after (j 3) (reading 2 x) ∷ after (j 4) flushing ∷ after (j 5) (reading 32 x) ∷ []) in
+      let ts = given front disc₁ in
+      let w = turn (after (j 6) (writing 32 3 (l .six))) (final ts disc₁) in
+      let g = after (j 7) (readingSome 32 3 x) in
+      back .later c disc₁ start₁ ts w [] admissible₁ (lba 32) 3 refl (newer-answer c m disc₁ start₁ l x j 6)
+      (turn g end₁) (turn-alike g end₁) (lba 32) 3 refl (late-answers c m f 32 3 l x j (m .lateAnswered .2)) 1 1 (omega arith) (omega arith) refl
+
+  waiting-last₁ : sectorAt 2 (afterAll turns₁ disc₁ (after (j 7) (readingSome 32 3 x)) .reply) ≡ sectorAt 2 (l .six)
+  unfolding given final answers replies decode writes acceptedWrite writeOf broughtTo sole bring
+  waiting-last₁ =
+      let g = after (j 7) (readingSome 32 3 x) in
+      back .back c disc₁ start₁ turns₁ admissible₁ (turn g end₁) (turn-alike g end₁) (lba 32) 3 refl
+      (late-answers c m f 32 3 l x j (m .lateAnswered .2)) 2 (omega arith)
+      ∙ ap (λ (r : List Answer). sole (broughtTo 34 (bring r))) (newer-answers c m disc₁ start₁ l x j)
 
   last-disc : end₁ .disc ≡ listOf c newerShapes
   last-disc = known-disc c disc₁ start₁ turns₁ admissible₁ newerShapes (newer-shapes disc₁ l x j)
@@ -750,6 +777,8 @@ module _ (c : ℕ) (m : Computed c) (back : ReadBack) (count : KeptAsListed) (hi
       record {
         brought = brought₁;
         none = none₁;
+        waiting = waiting₁;
+        waitingLast = waiting-last₁;
         once = back .once c disc₁ start₁ turns₁ admissible₁ 7;
         listed =
             ap (λ (d : Disc). broughtInto (extentOf d 1) (writes turns₁ disc₁)) last-disc

@@ -1,7 +1,7 @@
 -- The account and the drive over whole sequences: the kept count, and what is read is what was written.
 use Prim.Native.Nat.{ℕ, suc, zero, _+_, _-_, _*_, _/_, _≤_, _<_}
 use mathlib.Core.Path.{_≡_, refl, sym, ap, _∙_, subst}
-use mathlib.Core.Bool.{Bool, true, _||_}
+use mathlib.Core.Bool.{Bool, true, false, _||_}
 use mathlib.Core.List.{List, [], _∷_, _++_}
 use native.Mathlib.Omega.{arith}
 use borrow.Author.Tests.{leb-true, leb-false, ltb-true}
@@ -34,9 +34,9 @@ use Rattle.drive.proofs.Laws.Agree.{agree-run}
 use Rattle.drive.proofs.Laws.Bytes.{run-in-run, run-in-front, sector-front, sector-after}
 use Rattle.drive.proofs.Laws.Alike.{step-link, step-refused}
 use Rattle.drive.proofs.Laws.Cut.{Served, served-after, served-alike}
-use Rattle.drive.proofs.Laws.Reads.{readable-accepted, accepted-readable, sectorOf, read-readable, read-sector}
+use Rattle.drive.proofs.Laws.Reads.{readable-accepted, blank-refused, sectorOf, read-readable, read-sector}
 use Rattle.drive.proofs.Laws.Step.{verdict-decided, verdict-judges, lent-medium, lent-pending, judgement}
-use Rattle.history.specs.Types.{Lba, Fragment, Disc, Found, Number, Nowhere, Answer, Accepted, Link, Drive as byDrive, Read, Verdict}
+use Rattle.history.specs.Types.{Lba, Fragment, Disc, Found, Number, Nowhere, Answer, Accepted, Link, Drive as byDrive, BlankCheck, Read, Verdict}
 use Rattle.history.specs.Sequence.{Start, Turn, found, result, final, Admissible}
 use Rattle.history.specs.Account.{Account, opened, extentOf, credited, noted, accountFrom, account, sectorAt, contentIn, recordedIn, waitsIn, contentAt, recordedAt, pendingAt, readableAt}
 use Rattle.history.specs.Kept.{Keeps, KeptAccount}
@@ -312,15 +312,21 @@ module _ (c : ℕ) (s : Drive) (start : Start c s) (ts : List Turn) (h : Admissi
     here-served = served-alike reached here alike point-served
 
     point-readable :
-        (a : Lba) (n : ℕ) → ReadOf (t .request) a n → 1 ≤ n → a .0 + n ≤ sectorsIn (reached .disc .capacity)
+        (a : Lba) (n : ℕ) → ReadOf (t .request) a n → 1 ≤ n
         → (((i : ℕ) → i < n → readableAt ts s (a .0 + i) ≡ true) → result t reached .answer ≡ Accepted)
         × (result t reached .answer ≡ Accepted → (i : ℕ) → i < n → readableAt ts s (a .0 + i) ≡ true)
-    point-readable a n w some within =
+    point-readable a n w some =
         let q = t .request in
         let z : n ≡ 0 → ⊥ = λ none. omega (arith, none, some) in (
-          λ all. readable-accepted here q a n w here-served z within (λ i l. by-history (a .0 + i) ∙ all i l),
-          λ accepted i l. sym (by-history (a .0 + i)) ∙ accepted-readable here q a n w here-served z within accepted i l,
+          λ all. readable-accepted here q a n w here-served z (λ i l. by-history (a .0 + i) ∙ all i l),
+          λ accepted i l. sym (by-history (a .0 + i)) ∙ read-readable here q a n (w .command) accepted z i l,
         )
+
+    point-blank :
+        (a : Lba) (n : ℕ) → ReadOf (t .request) a n → a .0 + n ≤ sectorsIn (reached .disc .capacity) → (i : ℕ) → i < n
+        → readableAt ts s (a .0 + i) ≡ false → result t reached .answer ≡ byDrive BlankCheck
+    point-blank a n w within i l none =
+        blank-refused here (t .request) a n w here-served (λ z. omega (arith, z, l)) within i l (by-history (a .0 + i) ∙ none)
 
     content-found :
         (a : ℕ) (x : Found) → atAddress (reached .disc) (lba a) ≡ x → isReadable (reached .disc) (lba a) ≡ true
@@ -360,5 +366,6 @@ kept-account =
       held = λ c s start ts h a. held-found c s start ts h a (atAddress (final ts s .disc) (lba a)) refl;
       lengths = only-lengths-refused;
       readable = λ c s start ts h t alike a n w. point-readable c s start ts h t alike a n w;
+      blank = λ c s start ts h t alike a n w. point-blank c s start ts h t alike a n w;
       back = λ c s start ts h t alike a n e accepted i l. point-back c s start ts h t alike a n e accepted i l;
     }

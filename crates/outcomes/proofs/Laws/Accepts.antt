@@ -167,13 +167,9 @@ write-most d a n r =
     cond-cases (λ (v : Verdict). v .recorded ≤ 1 + n / 16) (d .finalized) _ _ (λ f. omega arith)
     (λ f. found-most d a n r (writableAt d a) refl))
 
--- an accepted READ sends its sectors, and a READ of 0 none
+-- an accepted READ of 1 up sends its sectors
 pub read-sends : (d : Disc) (a : Lba) (n : ℕ) → read d a n .answer ≡ Accepted → (n ≡ 0 → ⊥) → read d a n .plan .transfer ≡ sending d a n
 unfolding accept accepted
 read-sends d a n e z =
     let h = accepted-read d a n z e in
     ap (λ (v : Verdict). v .plan .transfer) (read-done d a n z (h .0) (h .1))
-
-pub read-none : (d : Disc) (a : Lba) → read d a 0 ≡ accept d d noReply noPlan
-unfolding read
-read-none d a = refl

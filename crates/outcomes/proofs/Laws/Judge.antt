@@ -34,9 +34,9 @@ use Rattle.fragments.proofs.Laws.Bool.{cond-cases, and-both, same-test, or-left
 use Rattle.disc.proofs.Laws.Rules.{sound-rules}
 use Rattle.disc.proofs.Laws.Onward.{Onward, same-onward, onward-sum}
 use Rattle.outcomes.proofs.Laws.Recorded.{Records, nothing-records}
-use Rattle.outcomes.proofs.Laws.Plan.{Placed, placed-none, placed-fresh, Sending, moved-sends}
+use Rattle.outcomes.proofs.Laws.Plan.{Placed, placed-none, placed-fresh, moved-sends}
 use Rattle.disc.proofs.Laws.Readable.{recorded-onward, recorded-held, held-recorded}
-use Rattle.commands.proofs.Laws.Read.{read-cases}
+use Rattle.commands.proofs.Laws.Read.{Shared, read-cases}
 use Rattle.outcomes.proofs.Laws.Accepts.{write-most}
 use Rattle.outcomes.proofs.Laws.Outcome.{Outcome, refused, same-outcome, sent-outcome, unchanged-outcome, outcome-rise, synchronize-outcome, write-outcome, reserve-outcome, close-outcome, outcome-ready, outcome-answer, outcome-refused, outcome-accepted, outcome-capacity, outcome-onward, outcome-placed, done, outcome-pending}
 
@@ -248,8 +248,9 @@ module _ {c : Command} {n m : ℕ} (d : Disc) where
       placed-fresh d c (perform d c .plan) a (sound-rules d (allowed-ready d r s .sound)) (outcome-placed d c _ (allowed-outcome d c r s)) t k
 
   -- only a READ sends, sectors that are all readable: recorded ones of the medium, pending ones of the pending buffer
-  pub decided-sends : (v : Verdict) (a : Lba) (k i p : ℕ) → Decided d c n m v → v .plan .transfer ≡ Send a k i p → Sending d c a k i p
-  decided-sends v a k i p w e = moved-sends d c a k i p (rw e at (decided-placed v w .moved))
+  pub decided-sends :
+      {P : Type 0} (v : Verdict) (a : Lba) (k i p : ℕ) → Decided d c n m v → v .plan .transfer ≡ Send a k i p → ((l : ℕ) → Shared d a l k i p → P) → P
+  decided-sends v a k i p w e f = moved-sends d c a k i p f (rw e at (decided-placed v w .moved))
 
   -- the sectors that are pending then
   pub decided-pending : (v : Verdict) → Decided d c n m v → Pending d (v .plan) (v .disc)

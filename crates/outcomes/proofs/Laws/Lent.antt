@@ -1,4 +1,4 @@
--- What the plan of a decision asks of the lent buffers is there; a plan that sends a run hands out the recorded run of its block.
+-- What the plan of a decision asks of the lent buffers is there; what a plan sends of the medium is the recorded run of its block.
 use Prim.Native.Nat.{ℕ, _*_, _^_, _≤_, _<_}
 use mathlib.Core.Path.{_≡_}
 use mathlib.Core.Bool.{true}
@@ -47,7 +47,7 @@ transfer-fits :
     → TransferFits k n t × RunFits m t
 unfolding dataLength replyRoom
 transfer-fits d c t k n m r e l nothing = (tt, tt)
-transfer-fits d c t k n m r e l (sends a x y i j q h v w) =
+transfer-fits d c t k n m r e l (sends a x y i j q h w) =
     let room = reply-fits c n m l in
     let whole : 2048 * x ≤ m = rw q at room in
     ((omega (arith, e, h, w .whole), w .within), omega (arith, whole, w .whole))
@@ -82,7 +82,7 @@ pub judge-fits :
     (d : Disc) (b : List ℕ) (k n m : ℕ) → k ≡ 32768 * d .capacity → Fits k n m (judge d b n m)
 judge-fits d b k n m e = decided-fits d k (judge d b n m) e (judge-decided d b n m)
 
--- a plan that sends is a READ's, so on a medium of whole blocks the recorded run of its block is what it sends
+-- a plan that sends is a READ's, so on a medium of whole blocks the recorded run of its block is what it sends of that
 decided-run :
     {n m : ℕ} (d : Disc) (b medium : List ℕ) (a : Lba) (k i p : ℕ) (v : Verdict) → length b ≡ 12 → length medium ≡ 32768 * d .capacity
     → Decided d (decode b) n m v → v .plan .transfer ≡ Send a k i p → recordedRun d b medium ≡ stretch (a .0) k medium

@@ -60,7 +60,7 @@ pub data Flushed (d : Disc) : Flush → Type 0 where
 pub data Moved (d : Disc) (c : Command) : Transfer → Type 0 where
   nothing : Moved d c Nothing
   sends :
-      (a : Lba) (n m i k : ℕ) → c ≡ Read a n → a .0 + n ≤ sectorsIn (d .capacity) → allReadable d a n ≡ true → Shared d a n m i k
+      (a : Lba) (n m i k : ℕ) → c ≡ Read a n → a .0 + n ≤ sectorsIn (d .capacity) → Shared d a n m i k
       → Moved d c (Send a m i k)
   gathers :
       (a : Lba) (b : Block) (held n : ℕ) → c ≡ Write a n → held < 16 → Unrecorded d (b .0) ((held + n) / 16) → Moved d c (Gather b held n)
@@ -78,7 +78,7 @@ pub placed-send :
     (d : Disc) (a : Lba) (n : ℕ) → Sound d → (n ≡ 0 → ⊥) → a .0 + n ≤ sectorsIn (d .capacity) → allReadable d a n ≡ true
     → Placed d (Read a n) (plan Skip (sending d a n))
 unfolding sending
-placed-send d a n s z h t = record { flushed = skips; moved = sends a n _ _ _ refl h t (shared d s a n z t) }
+placed-send d a n s z h t = record { flushed = skips; moved = sends a n _ _ _ refl h (shared d s a n z t) }
 
 flush-placed : (d : Disc) → Ready d → Flushed d (flushPlan d)
 unfolding flushPlan
@@ -136,16 +136,9 @@ placed-fill d c n r from to =
           });
     }
 
--- what a plan that sends has after it
-pub record Sending (d : Disc) (c : Command) (a : Lba) (m i k : ℕ) : Type 0 where
-  pub count : ℕ
-  pub command : c ≡ Read a count
-  pub within : a .0 + count ≤ sectorsIn (d .capacity)
-  pub readable-all : allReadable d a count ≡ true
-  pub shares : Shared d a count m i k
-
-pub moved-sends : (d : Disc) (c : Command) (a : Lba) (m i k : ℕ) → Moved d c (Send a m i k) → Sending d c a m i k
-moved-sends d c a m i k (sends x n y j l q h t w) = record { count = n; command = q; within = h; readable-all = t; shares = w }
+-- what a plan sends is shared out so
+pub moved-sends : {P : Type 0} (d : Disc) (c : Command) (a : Lba) (m i k : ℕ) → ((n : ℕ) → Shared d a n m i k → P) → Moved d c (Send a m i k) → P
+moved-sends d c a m i k p (sends x n y j l q h w) = p n w
 
 -- no block that a plan records has a recorded sector
 flush-fresh : (d : Disc) (f : Flush) (a : Lba) → Sound d → Flushed d f → flushes f (a .0 / 16) ≡ true → isRecorded d a ≡ true → ⊥
@@ -161,7 +154,7 @@ among-fresh d b n a s u t r =
 transfer-fresh : (d : Disc) (c : Command) (t : Transfer) (a : Lba) → Sound d → Moved d c t → transfers t (a .0 / 16) ≡ true → isRecorded d a ≡ true → ⊥
 unfolding transfers
 transfer-fresh d c t a s nothing k r = contradiction k refl
-transfer-fresh d c t a s (sends x n m i j q h l w) k r = contradiction k refl
+transfer-fresh d c t a s (sends x n m i j q h w) k r = contradiction k refl
 transfer-fresh d c t a s (gathers x b held n q few u) k r = among-fresh d (b .0) ((held + n) / 16) a s u k r
 transfer-fresh d c t a s (fills b n u) k r = among-fresh d (b .0) n a s u k r
 

@@ -25,12 +25,12 @@ use Rattle.fragments.proofs.Laws.Bool.{and-left, and-right, by-cases, cond-no}
 use Rattle.commands.proofs.Laws.Read.{share-recorded, read-cases}
 use Rattle.outcomes.proofs.Laws.Plan.{Moved, nothing, sends, gathers, fills}
 
--- what a plan sends lies in a medium of whole blocks
+-- what a plan sends of the medium lies in a medium of whole blocks
 pub moved-within :
     (d : Disc) (c : Command) (t : Transfer) (medium : List ℕ) → length medium ≡ 32768 * d .capacity → Moved d c t → sentWithin t medium ≡ sent t medium
 unfolding sentWithin sent
 moved-within d c t medium l nothing = refl
-moved-within d c t medium l (sends a n m i k q h r w) =
+moved-within d c t medium l (sends a n m i k q h w) =
     cond-no (ltb (length medium) (2048 * (a .0 + m))) [] (stretch (a .0) m medium)
     (le-ltb (length medium) (2048 * (a .0 + m)) (omega (arith, l, h, w .whole)))
 moved-within d c t medium l (gathers a b p n q few u) = refl
@@ -79,7 +79,7 @@ other-medium d b medium h =
     (λ e. absurd (h (served-medium d (length b) (length medium) e)))
     (λ e. rw e)
 
--- what is decided with the lengths that the block asks for sends the recorded run: a link refusal sends nothing
+-- what is decided with the lengths that the block asks for sends the recorded run of the medium: a link refusal sends nothing
 pub asked-run :
     (d : Disc) (b medium : List ℕ) → length medium ≡ 32768 * d .capacity
     → sentWithin (judgeAsAsked d b .plan .transfer) medium ≡ recordedRun d b medium

@@ -46,12 +46,13 @@ impl FirstRun {
         FirstRun { turns: Vec::new(), ledger: Ledger::new(capacity), writes: Writes::new(capacity) }
     }
 
-    /// Sends a command. A recorded block stays recorded, and a READ gives what was written.
+    /// Sends a command. A recorded block stays recorded, and a READ gives readable sectors alone, as
+    /// they were written.
     fn send(&mut self, bench: &mut Bench, request: Request) -> Result<(), String> {
         let before = bench.state.clone();
         let (answer, reply) = bench.command(&request);
         self.writes.note(&request, &answer, &before);
-        self.writes.check_reply(&request, &reply)?;
+        self.writes.check_reply(&request, &reply, &before)?;
         self.ledger.note(bench)?;
         let reads_pending = request.twelve().is_some_and(|cdb| {
             let (medium, pending) = (&bench.medium, &bench.pending);
@@ -63,7 +64,8 @@ impl FirstRun {
         Ok(())
     }
 
-    /// No recorded block has changed, and each holds what the history says.
+    /// No recorded block has changed, and recorded and pending sectors hold what the history says and
+    /// are as many.
     fn check(&self, bench: &Bench) -> Result<(), String> {
         self.ledger.check(bench)?;
         self.writes.check(bench)
@@ -287,4 +289,58 @@ fn some_write(bench: &Bench, random: &mut Random) -> Request {
     let mut request = Request::fitting(cdb, bench.state.capacity());
     request.data_offset = random.below(OFFSETS as u64) as usize;
     request
+}
+
+#[cfg(test)]
+mod tests {
+    use super::FirstRun;
+    use crate::bench::Bench;
+    use crate::cdb::{self, Cdb};
+    use crate::{Plain, Random, Request};
+    use plain::Fault;
+
+    /// Commands to a blank disc over zeros, where a sector that a READ must not give looks like one
+    /// filled up with zeros.
+    fn send(fault: Option<Fault>, cdbs: &[Cdb]) -> Result<(), String> {
+        let capacity = 256;
+        let drive = Plain { fault };
+        let mut bench = Bench::blank(&drive, capacity, &mut Random::new(1))?;
+        bench.medium.fill(0);
+        bench.pending.fill(0);
+        let mut run = FirstRun::new(capacity);
+        for cdb in cdbs {
+            run.send(&mut bench, Request::fitting(*cdb, capacity))?;
+        }
+        run.check(&bench)
+    }
+
+    /// Without the mistake the commands pass; with it the READ of this sector is found.
+    fn finds(fault: Fault, sector: usize, cdbs: &[Cdb]) {
+        assert_eq!(send(None, cdbs), Ok(()));
+        let what = format!("READ gives sector {sector}, neither recorded nor pending");
+        assert_eq!(send(Some(fault), cdbs), Err(what));
+    }
+
+    #[test]
+    fn zeros_past_the_pending_sectors_are_found() {
+        finds(Fault::StaleSectorServed, 5, &[cdb::write(0, 5), cdb::read(0, 6)]);
+        finds(Fault::StaleSectorServed, 21, &[cdb::write(0, 21), cdb::read(21, 1)]);
+        finds(Fault::PendingBlockServed, 21, &[cdb::write(0, 21), cdb::read(0, 32)]);
+    }
+
+    #[test]
+    fn zeros_of_a_dividing_block_are_found() {
+        let close = cdb::close(cdb::FRAGMENT, 1);
+        let cdbs = [cdb::write(0, 5), close, cdb::write(32, 16), cdb::read(16, 1)];
+        finds(Fault::DividingBlockServed, 16, &cdbs);
+        let cdbs = [cdb::reserve(16), cdb::write(32, 5), cdb::read(16, 16)];
+        finds(Fault::DividingBlockServed, 16, &cdbs);
+    }
+
+    #[test]
+    fn zeros_that_fill_up_a_block_are_taken() {
+        let flush = cdb::opcode_only(cdb::SYNCHRONIZE_CACHE);
+        let cdbs = [cdb::write(0, 5), flush, cdb::read(0, 16), cdb::read(15, 1)];
+        assert_eq!(send(None, &cdbs), Ok(()));
+    }
 }

@@ -73,22 +73,32 @@ impl Writes {
         }
     }
 
-    /// What a sector holds once it is readable: its data, or zeros where none came.
-    fn expected(&self, address: usize) -> &'static [u8] {
-        match self.data[address] {
-            Some(offset) => &pool()[offset..][..SECTOR_BYTES],
-            None => &[0; SECTOR_BYTES],
+    /// What a readable sector holds: its data, or the zeros that filled up its block, which is
+    /// recorded then. A sector without either is not readable.
+    fn expected(&self, address: usize, recorded: &[bool]) -> Option<&'static [u8]> {
+        match *self.data.get(address)? {
+            Some(offset) => Some(&pool()[offset..][..SECTOR_BYTES]),
+            None => recorded[address / 16].then_some(&[0; SECTOR_BYTES]),
         }
     }
 
-    /// Every sector that a READ gave is what was written there.
-    pub fn check_reply(&self, request: &Request, reply: &[u8]) -> Result<(), String> {
+    /// Every sector that a READ gave is readable and what was written there.
+    pub fn check_reply(
+        &self,
+        request: &Request,
+        reply: &[u8],
+        before: &State,
+    ) -> Result<(), String> {
         let from = match request.twelve() {
             Some(cdb) if cdb[0] == cdb::READ => cdb::run(&cdb).0 as usize,
             _ => return Ok(()),
         };
+        let recorded = recorded_blocks(before);
         for (address, bytes) in (from..).zip(reply.chunks(SECTOR_BYTES)) {
-            if bytes != self.expected(address) {
+            let Some(expected) = self.expected(address, &recorded) else {
+                return Err(format!("READ gives sector {address}, neither recorded nor pending"));
+            };
+            if bytes != expected {
                 return Err(format!("READ gives sector {address} not as it was written"));
             }
         }
@@ -112,7 +122,7 @@ impl Writes {
         let on_medium = bench.medium.chunks_exact(SECTOR_BYTES).enumerate();
         let on_medium = on_medium.filter(|(address, _)| recorded[address / 16]);
         for (address, bytes) in on_medium.chain(bench.pending_sectors()) {
-            if bytes != self.expected(address) {
+            if self.expected(address, &recorded) != Some(bytes) {
                 return Err(format!("sector {address} is not what was written there"));
             }
         }

@@ -10,52 +10,52 @@ use std::ops::Range;
 /// The situations.
 pub const OF_READABLE_SECTORS: [Situation; 59] = [
     ("READ from the medium before pending sectors of the only fragment", |event| {
-        event.reads_medium() && event.holder_is(Holder::Only)
+        event.reads_medium() && event.holder_is(Position::Only)
     }),
     ("READ from the medium before pending sectors of the first fragment", |event| {
-        event.reads_medium() && event.holder_is(Holder::First)
+        event.reads_medium() && event.holder_is(Position::First)
     }),
     ("READ from the medium before pending sectors of a middle fragment", |event| {
-        event.reads_medium() && event.holder_is(Holder::Middle)
+        event.reads_medium() && event.holder_is(Position::Middle)
     }),
     ("READ from the medium before pending sectors of the last fragment", |event| {
-        event.reads_medium() && event.holder_is(Holder::Last)
+        event.reads_medium() && event.holder_is(Position::Last)
     }),
     ("READ from the pending buffer in the only fragment", |event| {
-        event.reads_buffer() && event.holder_is(Holder::Only)
+        event.reads_buffer() && event.holder_is(Position::Only)
     }),
     ("READ from the pending buffer in the first fragment", |event| {
-        event.reads_buffer() && event.holder_is(Holder::First)
+        event.reads_buffer() && event.holder_is(Position::First)
     }),
     ("READ from the pending buffer in a middle fragment", |event| {
-        event.reads_buffer() && event.holder_is(Holder::Middle)
+        event.reads_buffer() && event.holder_is(Position::Middle)
     }),
     ("READ from the pending buffer in the last fragment", |event| {
-        event.reads_buffer() && event.holder_is(Holder::Last)
+        event.reads_buffer() && event.holder_is(Position::Last)
     }),
     ("READ across the border in the only fragment", |event| {
-        event.reads_across() && event.holder_is(Holder::Only)
+        event.reads_across() && event.holder_is(Position::Only)
     }),
     ("READ across the border in the first fragment", |event| {
-        event.reads_across() && event.holder_is(Holder::First)
+        event.reads_across() && event.holder_is(Position::First)
     }),
     ("READ across the border in a middle fragment", |event| {
-        event.reads_across() && event.holder_is(Holder::Middle)
+        event.reads_across() && event.holder_is(Position::Middle)
     }),
     ("READ across the border in the last fragment", |event| {
-        event.reads_across() && event.holder_is(Holder::Last)
+        event.reads_across() && event.holder_is(Position::Last)
     }),
     ("READ a sector past the pending ones of the only fragment", |event| {
-        event.reads_one_past() && event.holder_is(Holder::Only)
+        event.reads_one_past() && event.holder_is(Position::Only)
     }),
     ("READ a sector past the pending ones of the first fragment", |event| {
-        event.reads_one_past() && event.holder_is(Holder::First)
+        event.reads_one_past() && event.holder_is(Position::First)
     }),
     ("READ a sector past the pending ones of a middle fragment", |event| {
-        event.reads_one_past() && event.holder_is(Holder::Middle)
+        event.reads_one_past() && event.holder_is(Position::Middle)
     }),
     ("READ a sector past the pending ones of the last fragment", |event| {
-        event.reads_one_past() && event.holder_is(Holder::Last)
+        event.reads_one_past() && event.holder_is(Position::Last)
     }),
     ("READ up to the border", |event| {
         event.reads_medium() && event.run().end == event.pending_run().start
@@ -119,17 +119,17 @@ pub const OF_READABLE_SECTORS: [Situation; 59] = [
             && event.address() != event.pending_run().start
             && event.before.records().any(|record| recorded_end(&record) == event.address())
     }),
-    ("READ over a dividing block, from a recorded sector to a recorded one", |event| {
+    ("READ from one fragment to another, from a recorded sector to a recorded one", |event| {
         event.reads(BLANK_CHECK)
             && event.is_recorded(event.run().start)
             && event.is_recorded(event.run().end - 1)
     }),
-    ("READ over a dividing block, from a recorded sector to a pending one", |event| {
+    ("READ from one fragment to another, from a recorded sector to a pending one", |event| {
         event.reads(BLANK_CHECK)
             && event.is_recorded(event.run().start)
             && event.pending_run().contains(&(event.run().end - 1))
     }),
-    ("READ over a dividing block, from a pending sector to a recorded one", |event| {
+    ("READ from one fragment to another, from a pending sector to a recorded one", |event| {
         event.reads(BLANK_CHECK)
             && event.pending_run().contains(&event.run().start)
             && event.is_recorded(event.run().end - 1)
@@ -217,9 +217,9 @@ pub const OF_READABLE_SECTORS: [Situation; 59] = [
 
 const BLANK_CHECK: u32 = 0x080000;
 
-/// Which of the fragments has the pending sectors.
+/// Where in the list the fragment with the pending sectors stands.
 #[derive(PartialEq)]
-enum Holder {
+enum Position {
     Only,
     First,
     Middle,
@@ -264,14 +264,14 @@ impl Event<'_> {
         start..start + u64::from(self.before.pending_count())
     }
 
-    fn holder_is(&self, holder: Holder) -> bool {
+    fn holder_is(&self, position: Position) -> bool {
         let found = match (self.before.pending_fragment() as usize, self.before.records().count()) {
-            (1, 1) => Holder::Only,
-            (1, _) => Holder::First,
-            (number, count) if number == count => Holder::Last,
-            _ => Holder::Middle,
+            (1, 1) => Position::Only,
+            (1, _) => Position::First,
+            (number, count) if number == count => Position::Last,
+            _ => Position::Middle,
         };
-        found == holder
+        found == position
     }
 
     /// A READ answered so, from a readable sector of the fragment with the pending sectors on.

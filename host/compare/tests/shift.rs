@@ -1,5 +1,5 @@
-//! Document 01's "A shift on a 300-block disc", line by line, with the sectors' bytes, on both
-//! drives.
+//! Document 01's "A shift on a 300-block disc", line by line, with the sectors' bytes, and document
+//! 02's case of pending sectors read back, on both drives.
 
 use compare::{cdb, pool, Drive, Linked, Plain};
 use gladhamre::{Lent, Record, State, BLOCK_BYTES, SECTOR_BYTES, STATE_WORDS};

@@ -40,5 +40,10 @@ pub(crate) fn read(disc: Disc, address: Lba, sectors: u32) -> Decision
         place,
         pending,
     };
-    Decision::accepted(Effect::Keep, 0, Reply::none(), Plan::new(Flush::Skip, transfer))
+    Decision::accepted(
+        Effect::Keep,
+        0,
+        Reply::none(),
+        Plan::new(Flush::Skip, transfer),
+    )
 }

@@ -210,13 +210,13 @@ module _
         (λ count w.
         let fits : (2048 * (a .0 + l) ≤ length m) × (i + k ≤ 16) = rw e at (j .fits .transfer) in (
           agree-run m n (2048 * a .0) (2048 * l) (omega (arith, fits .0)) hm
-          (λ x from below.
-          same x
-          (let at : a .0 + (x / 2048 - a .0) ≡ x / 2048 = omega arith in
-          rw at at (w .recorded (x / 2048 - a .0) (omega arith)))),
+              (λ x from below.
+              same x
+              (let at : a .0 + (x / 2048 - a .0) ≡ x / 2048 = omega arith in
+              rw at at (w .recorded (x / 2048 - a .0) (omega arith)))),
           equal-cases k 0 (λ z. rw z)
-          (λ z.
-          stretch-alike p q (d .pending) i k (omega (arith, j .block, w .few)) (omega (arith, other-block, w .few)) (w .held z) held),
+              (λ z.
+              stretch-alike p q (d .pending) i k (omega (arith, j .block, w .few)) (omega (arith, other-block, w .few)) (w .held z) held),
         )))
 
     -- the media after the flush, and then after the transfer

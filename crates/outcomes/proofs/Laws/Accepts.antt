@@ -15,7 +15,7 @@ use Rattle.disc.specs.Records.{nextWritable, pendingIn, records, used, numbered
 use Rattle.fragments.specs.List.{find}
 use Rattle.disc.specs.Rules.{at}
 use Rattle.disc.specs.Ready.{Ready}
-use Rattle.decisions.specs.Plan.{noPlan, plan}
+use Rattle.decisions.specs.Plan.{plan}
 use Rattle.disc.specs.Verdict.{accepted, accept, refuse}
 use Rattle.protocol.specs.Reply.{noReply}
 use Rattle.commands.specs.Read.{allReadable, sending, read}

@@ -1,9 +1,9 @@
 -- A fragment with sectors stays where it is, and records within the blocks that it had: every accepted command.
-use Prim.Native.Nat.{ℕ, _+_, _-_, _*_, _≤_, _<_}
+use Prim.Native.Nat.{ℕ, suc, _+_, _-_, _*_, _≤_, _<_}
 use mathlib.Core.Path.{_≡_, refl, sym, ap, _∙_, subst}
 use mathlib.Core.Bool.{true, false, not, _&&_, _||_}
 use native.Mathlib.Omega.{arith}
-use borrow.Author.Tests.{eqb-true, eqb-false, leb-true, leb-false, ltb-false, not-false}
+use borrow.Author.Tests.{eqb-false, leb-true, leb-false, ltb-false, not-false}
 use lib.Dec.{eqb, leb, ltb}
 use Rattle.fragments.specs.Address.{lba, firstSector}
 use Rattle.fragments.specs.Fragment.{end, complete, nextSessionStart, shortenedRecord}
@@ -21,11 +21,12 @@ use Rattle.commands.specs.Reserve.{splitTail, reserve}
 use Rattle.commands.specs.Close.{filledRecord, appendTail, closeIncomplete, closeFragment, hasIncompleteReserved, closeTail, openSession, closeSession, finalized, finalize, close}
 use Rattle.reporting.specs.Reports.{requestSense, readCapacity, readDiscInformation, readTrackInformation, trackVerdict, trackFound, trackNumbered}
 use Rattle.commands.specs.Judge.{testUnitReady, perform}
-use Rattle.fragments.proofs.Laws.Bool.{by-cases, cond-yes, cond-no, cond-cases}
+use Rattle.fragments.proofs.Laws.Bool.{by-cases, cond-cases}
 use Rattle.fragments.proofs.Laws.Numbers.{equal-cases}
 use Rattle.disc.proofs.Laws.Records.{listed-number}
 use Rattle.disc.proofs.Laws.Rules.{sound-rules}
-use Rattle.disc.proofs.Laws.Sound.{none-pending, incomplete-room, pending-in-few}
+use Rattle.disc.proofs.Laws.Sound.{none-pending, other-pending}
+use Rattle.disc.proofs.Laws.Readable.{reach-within}
 use Rattle.disc.proofs.Laws.Grow.{Grown}
 use Rattle.commands.proofs.Laws.Flush.{flush-grows, flush-pending, flush-sound, flush-used}
 use Rattle.commands.proofs.Laws.Write.{writable-found, others-sound}
@@ -50,23 +51,17 @@ pub record InPlace (d e : Disc) (n : ℕ) : Type 0 where
 -- the sectors of a fragment of a sound list lie in it
 pub taken-within : (d : Disc) (n : ℕ) → Sound d → 1 ≤ n → taken d n ≤ 16 * numbered d n .length
 taken-within d n s one =
-    let recorded : numbered d n .recorded ≤ numbered d n .length =
-    by-cases (leb n (used d)) (λ t. s .recorded (n - 1) (let l = leb-true n (used d) t in omega arith))
+    let number : suc (n - 1) ≡ n = omega (arith, one) in
+    by-cases (leb n (used d))
     (λ t.
-    let none = s .unused (n - 1) (let l = leb-false n (used d) t in omega arith) in
-    omega (arith, ap (λ (f : Fragment). f .recorded) none)) in
-    by-cases (eqb (d .owner) n)
-    (λ e.
-    let own = cond-yes (eqb (d .owner) n) (d .pending) 0 e in
-    equal-cases (d .pending) 0
-    (λ z. omega (arith, own, z, recorded))
-    (λ z.
-    let o = s .owned z in
-    let same = eqb-true (d .owner) n e in
-    let room = incomplete-room d s (d .owner - 1) (omega (arith, o .number, o .listed)) (o .incomplete) in
-    let size : numbered d n .recorded < numbered d n .length = rw same at room in
-    omega (arith, size, pending-in-few d s n)))
-    (λ e. omega (arith, cond-no (eqb (d .owner) n) (d .pending) 0 e, recorded))
+    let listed = leb-true n (used d) t in
+    omega (arith, reach-within d s (n - 1) (omega (arith, listed, one)), ap (pendingIn d) number))
+    (λ t.
+    let past = leb-false n (used d) t in
+    let none = ap (λ (f : Fragment). f .recorded) (s .unused (n - 1) (omega (arith, past))) in
+    let idle : pendingIn d n ≡ 0 =
+    equal-cases (d .pending) 0 (λ z. none-pending d n z) (λ z. other-pending d n (λ e. omega (arith, e, past, s .owned z .listed))) in
+    omega (arith, none, idle))
 
 -- records that stay where they are and as long as they are
 record SamePlaces (d e : Disc) : Type 0 where

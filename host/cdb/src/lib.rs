@@ -21,9 +21,12 @@ pub const READ_DISC_INFORMATION: u8 = 0x51;
 pub const READ_FRAGMENT_INFORMATION: u8 = 0x52;
 pub const RESERVE: u8 = 0x53;
 pub const CLOSE: u8 = 0x5B;
+/// READ (12) and WRITE (12): the same commands with a length of four bytes.
+pub const READ_12: u8 = 0xA8;
+pub const WRITE_12: u8 = 0xAA;
 
 /// Every listed opcode.
-pub const OPCODES: [u8; 10] = [
+pub const OPCODES: [u8; 12] = [
     TEST_UNIT_READY,
     REQUEST_SENSE,
     READ_CAPACITY,
@@ -34,6 +37,8 @@ pub const OPCODES: [u8; 10] = [
     READ_FRAGMENT_INFORMATION,
     RESERVE,
     CLOSE,
+    READ_12,
+    WRITE_12,
 ];
 
 /// Functions of CLOSE.
@@ -62,6 +67,18 @@ pub fn read(address: u32, sectors: u16) -> Cdb {
 pub fn write(address: u32, sectors: u16) -> Cdb {
     let mut cdb = opcode_only(WRITE);
     set_run(&mut cdb, address, sectors);
+    cdb
+}
+
+pub fn read_12(address: u32, sectors: u32) -> Cdb {
+    let mut cdb = opcode_only(READ_12);
+    set_run_12(&mut cdb, address, sectors);
+    cdb
+}
+
+pub fn write_12(address: u32, sectors: u32) -> Cdb {
+    let mut cdb = opcode_only(WRITE_12);
+    set_run_12(&mut cdb, address, sectors);
     cdb
 }
 
@@ -94,10 +111,16 @@ pub fn read_fragment_information(by: u8, value: u32, allocation: u16) -> Cdb {
     cdb
 }
 
-/// Address and length of READ and WRITE.
+/// Address and length of READ and WRITE, 28h and 2Ah.
 pub fn set_run(cdb: &mut Cdb, address: u32, sectors: u16) {
     set_value(cdb, address);
     set_allocation(cdb, sectors);
+}
+
+/// Address and length of READ (12) and WRITE (12).
+pub fn set_run_12(cdb: &mut Cdb, address: u32, sectors: u32) {
+    set_value(cdb, address);
+    cdb[6..10].copy_from_slice(&sectors.to_be_bytes());
 }
 
 /// The size of RESERVE.
@@ -120,30 +143,57 @@ pub fn set_allocation(cdb: &mut Cdb, allocation: u16) {
     cdb[7..9].copy_from_slice(&allocation.to_be_bytes());
 }
 
-/// Address and length, as WRITE and READ have them.
-pub fn run(cdb: &Cdb) -> (u32, u16) {
-    let address = u32::from_be_bytes([cdb[2], cdb[3], cdb[4], cdb[5]]);
-    (address, u16::from_be_bytes([cdb[7], cdb[8]]))
+/// Whether it is a READ, of either form.
+pub fn is_read(cdb: &Cdb) -> bool {
+    matches!(cdb[0], READ | READ_12)
+}
+
+/// Whether it is a WRITE, of either form.
+pub fn is_write(cdb: &Cdb) -> bool {
+    matches!(cdb[0], WRITE | WRITE_12)
+}
+
+/// An address or a number, from bytes 2 to 5.
+pub fn value(cdb: &Cdb) -> u32 {
+    u32::from_be_bytes([cdb[2], cdb[3], cdb[4], cdb[5]])
+}
+
+/// A length in bytes 7 and 8.
+pub fn allocation(cdb: &Cdb) -> u16 {
+    u16::from_be_bytes([cdb[7], cdb[8]])
+}
+
+/// The length of a READ or a WRITE, in sectors: of four bytes in the forms (12), of two in the others.
+pub fn sectors(cdb: &Cdb) -> u32 {
+    match cdb[0] {
+        READ_12 | WRITE_12 => u32::from_be_bytes([cdb[6], cdb[7], cdb[8], cdb[9]]),
+        _ => allocation(cdb).into(),
+    }
+}
+
+/// Address and length of a READ or a WRITE.
+pub fn run(cdb: &Cdb) -> (u32, u32) {
+    (value(cdb), sectors(cdb))
 }
 
 /// The bytes of data that the longest WRITE takes.
-pub const LONGEST_DATA: usize = u16::MAX as usize * SECTOR_BYTES;
+pub const LONGEST_DATA: usize = u32::MAX as usize * SECTOR_BYTES;
 
 /// How many bytes of data the command block asks for.
 pub fn data_length(cdb: &Cdb) -> usize {
-    match cdb[0] {
-        WRITE => usize::from(run(cdb).1) * SECTOR_BYTES,
-        _ => 0,
+    if is_write(cdb) {
+        return sectors(cdb) as usize * SECTOR_BYTES;
     }
+    0
 }
 
 /// How many bytes the reply buffer must have.
 pub fn reply_room(cdb: &Cdb) -> usize {
-    let allocation = usize::from(run(cdb).1);
+    let allocation = usize::from(allocation(cdb));
     match cdb[0] {
         REQUEST_SENSE => usize::from(cdb[4]).min(18),
         READ_CAPACITY => 8,
-        READ => allocation * SECTOR_BYTES,
+        READ | READ_12 => sectors(cdb) as usize * SECTOR_BYTES,
         READ_DISC_INFORMATION => allocation.min(34),
         READ_FRAGMENT_INFORMATION => allocation.min(36),
         _ => 0,

@@ -1,4 +1,4 @@
--- READ (28h): the decision, and which sectors are sent from where.
+-- READ (28h, A8h): the decision, and which sectors are sent from where.
 use Prim.Native.Nat.{ℕ, zero, suc, _+_, _-_}
 use mathlib.Core.Bool.{Bool, true, cond, _&&_}
 use lib.Dec.{eqb, ltb}

@@ -1,4 +1,4 @@
--- WRITE (2Ah): the decision, the new list and the plan.
+-- WRITE (2Ah, AAh): the decision, the new list and the plan.
 use Prim.Native.Nat.{ℕ, _+_, _-_, _/_, _^_, _≤_, _<_}
 use mathlib.Core.Path.{_≡_}
 use mathlib.Core.Bool.{false, cond}

@@ -1,4 +1,4 @@
-// READ (28h): the run must end within the disc, and every sector of it must be recorded or pending.
+// READ (28h, A8h): the run must end within the disc, and every sector of it must be recorded or pending.
 use decisions::Decision;
 use decisions::Effect;
 use decisions::Flush;

@@ -1,4 +1,4 @@
-// WRITE (2Ah): the decision, with its effect on the list and its plan for the data.
+// WRITE (2Ah, AAh): the decision, with its effect on the list and its plan for the data.
 use crate::change;
 use crate::flush;
 use decisions::Decision;

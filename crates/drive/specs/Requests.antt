@@ -1,4 +1,4 @@
--- A WRITE and a READ as requests.
+-- A WRITE and a READ as requests, each of either form: 2Ah or AAh, 28h or A8h.
 use Prim.Native.Nat.{ℕ, _*_, _≤_}
 use mathlib.Core.Path.{_≡_}
 use lib.ListN.{length}

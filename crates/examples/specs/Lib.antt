@@ -7,3 +7,4 @@ pub mod Full
 pub mod Values
 pub mod Discs
 pub mod Reads
+pub mod Forms

@@ -33,7 +33,7 @@ pub record Line : Type 0 where
   pub expected : Shown
 
 -- the answer's number, the blocks recorded, the reply, the sense, the tail's next writable address or 0, the pending count, the list
-abbrev line : List ℕ → ℕ → ℕ → ℕ → ℕ → List ℕ → Sense → ℕ → ℕ → List Fragment → Line
+abbrev pub line : List ℕ → ℕ → ℕ → ℕ → ℕ → List ℕ → Sense → ℕ → ℕ → List Fragment → Line
 line b sectors room a n r s t p fs =
     record {
       command = b;
@@ -47,7 +47,7 @@ pub record Run : Type 0 where
   pub disc : Disc
   pub lines : List Line
 
-abbrev from : Disc → List Line → Run
+abbrev pub from : Disc → List Line → Run
 from d ls = record { disc = d; lines = ls }
 
 unfoldable pub played : Disc → List Line → List Shown
@@ -61,7 +61,7 @@ abbrev pub cdb : List ℕ → List ℕ
 cdb b = b ++ replicate (12 - length b) 0
 
 -- a state by its records in use
-abbrev state : ℕ → Bool → Sense → ℕ → ℕ → List Fragment → Disc
+abbrev pub state : ℕ → Bool → Sense → ℕ → ℕ → List Fragment → Disc
 state c f s p o fs =
     record { capacity = c; finalized = f; sense = s; pending = p; owner = o; fragments = fs ++ replicate (limit - length fs) unusedRecord }
 
@@ -90,10 +90,10 @@ twoSessions = fragment 1 0 2 2 0 Appended ∷ fragment 1 3 2 2 12 Reserved ∷ f
 abbrev oneSession : List Fragment
 oneSession = fragment 1 0 2 2 0 Appended ∷ fragment 1 3 2 2 12 Reserved ∷ []
 
-abbrev threePending : List Fragment
+abbrev pub threePending : List Fragment
 threePending = fragment 1 0 4 1 0 Reserved ∷ fragment 1 5 595 0 0 Appended ∷ []
 
-abbrev otherFlushed : List Fragment
+abbrev pub otherFlushed : List Fragment
 otherFlushed = fragment 1 0 4 2 13 Reserved ∷ fragment 1 5 595 0 0 Appended ∷ []
 
 abbrev bothFilled : List Fragment
@@ -125,7 +125,7 @@ fivePending = fragment 1 0 2 1 0 Reserved ∷ fragment 1 3 597 0 0 Appended ∷ 
 abbrev elevenFilled : List Fragment
 elevenFilled = fragment 1 0 2 2 11 Reserved ∷ []
 
-abbrev upTo : ℕ → List Fragment
+abbrev pub upTo : ℕ → List Fragment
 upTo w = fragment 1 0 300 w 0 Appended ∷ []
 
 abbrev lastBlock : ℕ → List Fragment

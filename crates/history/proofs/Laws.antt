@@ -1,5 +1,6 @@
 -- One file a topic.
 pub mod Runs
+pub mod Forms
 pub mod Parts
 pub mod Demand
 pub mod Served

@@ -19,8 +19,8 @@ use Rattle.history.specs.Account.{extentOf, sectorAt, account}
 use Rattle.history.specs.Brought.{writes, broughtTo, broughtInto}
 use Rattle.history.specs.Past.{beginning, past, StaleApart, StaleChanges}
 use Rattle.history.specs.Stale.{Change, unchanged, Given, after, given, turn}
-use Rattle.history.specs.Examples.{writeCdb}
-use Rattle.history.specs.Wide.{partsOf, total, nameable}
+use Rattle.history.specs.Examples.{writeCdb, writeCdb12}
+use Rattle.history.specs.Wide.{Named, partsOf, total, nameable}
 
 -- the answers of a sequence, its replies and its counts of blocks recorded
 unfoldable pub answers : List Turn → Drive → List Answer
@@ -69,7 +69,10 @@ nextThirteen l = l .four ++ (l .five ++ [])
 abbrev pub writing : ℕ → ℕ → List ℕ → Request
 writing a n x = request (writeCdb a n) x []
 
--- 52h number 1, READ of some sectors and of 16, and 35h, with a reply buffer that is full of some byte
+abbrev pub writing12 : ℕ → ℕ → List ℕ → Request
+writing12 a n x = request (writeCdb12 a n) x []
+
+-- 52h number 1, READ of some sectors and of 16, READ (12) of 16, and 35h, with a reply buffer that is full of some byte
 abbrev pub asking : ℕ → Request
 asking x = request (0x52 ∷ 1 ∷ 0 ∷ 0 ∷ 0 ∷ 1 ∷ 0 ∷ 0 ∷ 36 ∷ 0 ∷ 0 ∷ 0 ∷ []) [] (replicate 36 x)
 
@@ -79,21 +82,24 @@ readingSome a n x = request (0x28 ∷ 0 ∷ 0 ∷ 0 ∷ 0 ∷ a ∷ 0 ∷ 0 ∷ 
 abbrev pub reading : ℕ → ℕ → Request
 reading a x = readingSome a 16 x
 
+abbrev pub reading12 : ℕ → ℕ → Request
+reading12 a x = request (0xA8 ∷ 0 ∷ 0 ∷ 0 ∷ 0 ∷ a ∷ 0 ∷ 0 ∷ 0 ∷ 16 ∷ 0 ∷ 0 ∷ []) [] (replicate 32768 x)
+
 abbrev pub flushing : Request
 flushing = request (0x35 ∷ 0 ∷ 0 ∷ 0 ∷ 0 ∷ 0 ∷ 0 ∷ 0 ∷ 0 ∷ 0 ∷ 0 ∷ 0 ∷ []) [] []
 
--- the newer controller: WRITE 0 of 5, 52h, WRITE 5 of 13, READ 2 of 16, whose last two sectors are pending, 35h, READ 32 of 16, which is
--- refused, and WRITE 32 of 3. Before command i stale bytes change as j i says
+-- the newer controller: WRITE 0 of 5, 52h, WRITE (12) 5 of 13, READ (12) 2 of 16, whose last two sectors are pending, 35h, READ 32 of 16,
+-- which is refused, and WRITE 32 of 3. Before command i stale bytes change as j i says
 abbrev pub newer : Log → ℕ → (ℕ → Change) → List Given
 newer l x j =
-    after (j 0) (writing 0 5 (firstFive l)) ∷ after (j 1) (asking x) ∷ after (j 2) (writing 5 13 (nextThirteen l)) ∷ after (j 3) (reading 2 x)
-    ∷ after (j 4) flushing ∷ after (j 5) (reading 32 x) ∷ after (j 6) (writing 32 3 (l .six)) ∷ []
+    after (j 0) (writing 0 5 (firstFive l)) ∷ after (j 1) (asking x) ∷ after (j 2) (writing12 5 13 (nextThirteen l))
+    ∷ after (j 3) (reading12 2 x) ∷ after (j 4) flushing ∷ after (j 5) (reading 32 x) ∷ after (j 6) (writing 32 3 (l .six)) ∷ []
 
--- the older one sends the first WRITE in three, the second in two, and hands other reply buffers over
+-- the older one sends the first WRITE in three, by both forms, the second in two by WRITE (10), and hands other reply buffers over
 abbrev pub older : Log → ℕ → (ℕ → Change) → List Given
 older l x j =
-    after (j 0) (writing 0 2 (l .one)) ∷ after (j 1) (writing 2 1 (l .two)) ∷ after (j 2) (writing 3 2 (l .three)) ∷ after (j 3) (asking x)
-    ∷ after (j 4) (writing 5 3 (l .four)) ∷ after (j 5) (writing 8 10 (l .five)) ∷ after (j 6) (reading 2 x) ∷ after (j 7) flushing
+    after (j 0) (writing 0 2 (l .one)) ∷ after (j 1) (writing12 2 1 (l .two)) ∷ after (j 2) (writing 3 2 (l .three)) ∷ after (j 3) (asking x)
+    ∷ after (j 4) (writing 5 3 (l .four)) ∷ after (j 5) (writing 8 10 (l .five)) ∷ after (j 6) (reading12 2 x) ∷ after (j 7) flushing
     ∷ after (j 8) (reading 32 x) ∷ after (j 9) (writing 32 3 (l .six)) ∷ []
 
 -- the newer controller's first command, which leaves five sectors pending, and its first three, which leave two
@@ -101,7 +107,7 @@ abbrev pub earliest : Log → (ℕ → Change) → List Given
 earliest l j = after (j 0) (writing 0 5 (firstFive l)) ∷ []
 
 abbrev pub early : Log → ℕ → (ℕ → Change) → List Given
-early l x j = after (j 0) (writing 0 5 (firstFive l)) ∷ after (j 1) (asking x) ∷ after (j 2) (writing 5 13 (nextThirteen l)) ∷ []
+early l x j = after (j 0) (writing 0 5 (firstFive l)) ∷ after (j 1) (asking x) ∷ after (j 2) (writing12 5 13 (nextThirteen l)) ∷ []
 
 -- the newer controller's turns ts from the drive s on, and the older one's turns us from e on: two discs, each over bytes of its own
 pub record TwoControllers (ts : List Turn) (s : Drive) (us : List Turn) (e : Drive) : Type 0 where
@@ -146,8 +152,8 @@ pub record Fitting (s : Drive) (x y z : List ℕ) (j : ℕ → Change) : Type 0 
 abbrev pub afterAll : List Turn → Drive → Given → Result
 afterAll ts s g = result (turn g (final ts s)) (final ts s)
 
--- what a reader finds of the log, in the newer controller's turns ts from the drive s on: READ 2 of 16 before the flush, and at the end READs
--- after a change c; `first` is its first turn
+-- what a reader finds of the log, in the newer controller's turns ts from the drive s on: READ (12) 2 of 16 before the flush, and at the end
+-- READs after a change c; `first` is its first turn
 pub record Reader (l : Log) (x : ℕ) (first ts : List Turn) (s : Drive) (c : Change) : Type 0 where
   -- sectors 3 and 7 are sector 3 of the first WRITE and sector 2 of the second
   pub early : sectorAt 1 (getD (replies ts s) 3 []) ≡ sectorAt 3 (firstFive l)
@@ -235,11 +241,11 @@ pub record FirstWrite (g : Given) (hs : List Given) (s e : Drive) : Type 0 where
   pub blocks : blocksOf (given hs e) e ≡ result (turn g s) s .recorded
   pub disc : final (given hs e) e .disc ≡ result (turn g s) s .after .disc
 
--- on the smallest disc and on the largest; and on every disc the first WRITE, of any length that fits, in parts of any lengths
+-- on the smallest disc and on the largest; and on every disc the first WRITE, of any length that fits, in parts of any forms and lengths
 pub record Cases : Type 0 where
   pub smallest : CasesOn 256
   pub largest : CasesOn 143444
   pub everywhere :
-      (c : ℕ) (s e : Drive) → Start c s → Start c e → (g : Given) (n : ℕ) → WriteOf (g .request) (lba 0) n → n ≤ 16 * c → (ks : List ℕ) → 2 ≤ length ks
-      → total ks ≡ n → nameable ks ≡ true → (hs : List Given) → map (λ (h : Given). h .request) hs ≡ partsOf 0 ks (g .request .payload)
+      (c : ℕ) (s e : Drive) → Start c s → Start c e → (g : Given) (n : ℕ) → WriteOf (g .request) (lba 0) n → n ≤ 16 * c → (ks : List Named) → 2 ≤ length ks
+      → total ks ≡ n → nameable 0 ks ≡ true → (hs : List Given) → map (λ (h : Given). h .request) hs ≡ partsOf 0 ks (g .request .payload)
       → FirstWrite g hs s e

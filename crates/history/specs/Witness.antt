@@ -52,7 +52,7 @@ before =
     ∷ shape (0x53 ∷ 0 ∷ 0 ∷ 0 ∷ 0 ∷ 0 ∷ 0 ∷ 0 ∷ 48 ∷ 0 ∷ 0 ∷ 0 ∷ []) 0 0 ∷ shape (writeCdb 0 5) 10240 0 ∷ shape (writeCdb 64 20) 40960 0
     ∷ shape (0x28 ∷ 0 ∷ 0 ∷ 0 ∷ 0 ∷ 0 ∷ 0 ∷ 0 ∷ 16 ∷ 0 ∷ 0 ∷ 0 ∷ []) 0 32768 ∷ []
 
--- WRITE 84 of 2, which is cut into WRITE 84 of 1 and WRITE 85 of 1
+-- WRITE 84 of 2, which is cut into WRITE 84 of 1 and WRITE (12) 85 of 1
 abbrev pub cutWrite : Request
 cutWrite = wholeWrite 84
 

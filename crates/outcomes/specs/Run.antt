@@ -1,4 +1,4 @@
--- The medium's share of what an accepted READ (28h) hands out, as a part of the medium; the rest of it is pending. It is decided without the
+-- The medium's share of what an accepted READ (28h, A8h) hands out, as a part of the medium; the rest of it is pending. It is decided without the
 -- lengths of data, reply and pending buffer, which the lower read never sees: a READ that is refused for those has its run here all the same.
 use Prim.Native.Nat.{ℕ, _+_, _*_, _<_}
 use mathlib.Core.Path.{_≡_}

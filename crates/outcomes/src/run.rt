@@ -3,7 +3,7 @@ use disc::Disc;
 use protocol::Command;
 ghost use Rattle.outcomes.specs.Run.{RunOf};
 
-// The recorded sectors of an accepted READ (28h) of length 1 up, in place; an empty part where all of them are pending, and for every other
+// The recorded sectors of an accepted READ (28h, A8h) of length 1 up, in place; an empty part where all of them are pending, and for every other
 // input. It sees command block, state and medium: a READ that is refused for the lengths of data, reply or pending buffer has its run here
 // all the same.
 pub fn recorded_run<'a>(disc: Disc, cdb: &[u8], medium: &'a [u8]) -> &'a [u8]

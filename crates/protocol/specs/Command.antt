@@ -17,7 +17,8 @@ word16 b i = 0x100 * byteAt b i + byteAt b (i + 1)
 abbrev pub word32 : List ℕ → ℕ → ℕ
 word32 b i = 0x10000 * word16 b i + word16 b (i + 2)
 
--- the opcode is byte 0; the low bits of a byte are its remainder by 4 or 8
+-- the opcode is byte 0; the low bits of a byte are its remainder by 4 or 8. READ and WRITE have two forms: 28h and 2Ah, whose length has two
+-- bytes, and A8h and AAh, whose length has four
 unfoldable pub decode : List ℕ → Command
 decode b =
     let opcode = byteAt b 0 in
@@ -31,4 +32,6 @@ decode b =
     (cond (eqb opcode 0x5B) (CloseTrackSession (byteAt b 2 % 8) (word16 b 4))
     (cond (eqb opcode 0x51) (ReadDiscInformation (byteAt b 1 % 8) (word16 b 7))
     (cond (eqb opcode 0x52) (ReadTrackInformation (byteAt b 1 % 4) (word32 b 2) (word16 b 7))
-    Unlisted)))))))))
+    (cond (eqb opcode 0xA8) (Read (lba (word32 b 2)) (word32 b 6))
+    (cond (eqb opcode 0xAA) (Write (lba (word32 b 2)) (word32 b 6))
+    Unlisted)))))))))))

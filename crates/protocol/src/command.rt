@@ -66,7 +66,8 @@ fn word32(cdb: &[u8], at: usize) -> u32
 }
 
 impl Command {
-    // The command of a command block; bytes that are missing count as 0.
+    // The command of a command block; bytes that are missing count as 0. READ and WRITE have two forms each, READ (10) and READ (12),
+    // which differ in nothing but the bytes of the length.
     pub fn decode(cdb: &[u8]) -> Command
         ensures { λ r. ⌜ r ≡ decode (now (cdb .entry)) ⌝ }
     {
@@ -101,6 +102,14 @@ impl Command {
                 address_type: byte_at(cdb, 1) % 4,
                 number: word32(cdb, 2),
                 allocation: word16(cdb, 7),
+            },
+            0xA8 => Command::Read {
+                address: Lba(word32(cdb, 2) as u64),
+                length: word32(cdb, 6),
+            },
+            0xAA => Command::Write {
+                address: Lba(word32(cdb, 2) as u64),
+                length: word32(cdb, 6),
             },
             _ => Command::Unlisted,
         }

@@ -78,7 +78,8 @@ fn ask_zero_state() {
     );
 }
 
-// What is decided about an opcode with address 256, length 1 and, for REQUEST SENSE, allocation length 1.
+// What is decided about an opcode with address 256, length 1 and, for REQUEST SENSE, allocation length 1. READ (12) and WRITE (12) have a
+// length of 256 in the same block.
 fn decide(disc: Disc, opcode: u8, data: usize, reply: usize) -> Answer {
     let cdb = [opcode, 0, 0, 0, 1, 0, 0, 0, 1, 0, 0, 0];
     let verdict = commands::judge(disc, &cdb, data, reply);
@@ -110,6 +111,27 @@ fn ask_lengths(disc: Disc) {
     print(b"unlisted opcode with data of", 0, decide(disc, 0xff, 0, 0));
 }
 
+// The same of READ (12) and WRITE (12): the length of the other form is not theirs.
+fn ask_long_lengths(disc: Disc) {
+    let whole = 256 * SECTOR_LENGTH;
+    print(
+        b"WRITE (12) with data of",
+        SECTOR_LENGTH,
+        decide(disc, 0xaa, SECTOR_LENGTH, 0),
+    );
+    print(
+        b"WRITE (12) with data of",
+        whole,
+        decide(disc, 0xaa, whole, 0),
+    );
+    print(
+        b"READ (12) into",
+        SECTOR_LENGTH,
+        decide(disc, 0xa8, 0, SECTOR_LENGTH),
+    );
+    print(b"READ (12) into", whole, decide(disc, 0xa8, 0, whole));
+}
+
 // A state that breaks a rule: sixteen sectors pending.
 fn ask_unsound(mut disc: Disc) {
     disc.pending = TOO_MANY;
@@ -126,5 +148,6 @@ fn main() {
     ask_cdbs(disc);
     ask_zero_state();
     ask_lengths(disc);
+    ask_long_lengths(disc);
     ask_unsound(disc);
 }

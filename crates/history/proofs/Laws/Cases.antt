@@ -11,7 +11,6 @@ use lib.ListN.{length, getD, replicate, length-replicate, length-append}
 use Rattle.fragments.specs.Address.{lba}
 use Rattle.protocol.specs.Answer.{isRefusalSense, allowedSense}
 use Rattle.disc.specs.Blank.{inRange, blank}
-use Rattle.disc.proofs.Laws.Blank.{range-most}
 use Rattle.fragments.proofs.Laws.Bool.{and-left, contradiction}
 use Rattle.protocol.specs.Command.{decode}
 use Rattle.fragments.specs.Fragment.{fragment, holdsRecorded}
@@ -41,11 +40,11 @@ use Rattle.history.specs.Kept.{Keeps, KeptAccount}
 use Rattle.history.specs.Brought.{Written, writeOf, acceptedWrite, writes, broughtTo, sole, ReadBack, broughtInto, ListedKeeps, KeptAsListed}
 use Rattle.history.specs.Past.{RecordedByHistory}
 use Rattle.history.specs.Stale.{Change, unchanged, Given, after, turn, given}
-use Rattle.history.specs.Examples.{writeCdb}
+use Rattle.history.specs.Examples.{writeCdb, writeCdb12}
 use Rattle.history.specs.Witness.{Shape, shape, discAfter}
-use Rattle.history.specs.Cases.{answers, replies, counts, Flash, blankOver, Log, firstFive, nextThirteen, writing, asking, reading, readingSome, flushing, newer, older, earliest, early, TwoControllers, ByteForByte, BlockStays, reserving, inTwo, Fitting, afterAll, Reader, Requested, CasesOn, FirstWrite, Cases}
-use Rattle.history.specs.Wide.{partsOf, total, nameable}
-use Rattle.history.proofs.Laws.Parts.{write-request}
+use Rattle.history.specs.Cases.{answers, replies, counts, Flash, blankOver, Log, firstFive, nextThirteen, writing, writing12, asking, reading, reading12, readingSome, flushing, newer, older, earliest, early, TwoControllers, ByteForByte, BlockStays, reserving, inTwo, Fitting, afterAll, Reader, Requested, CasesOn, FirstWrite, Cases}
+use Rattle.history.specs.Wide.{Named, partsOf, total, nameable}
+use Rattle.history.proofs.Laws.Parts.{write-request, write-request12}
 use Rattle.history.proofs.Laws.Demand.{demand-3}
 use Rattle.history.proofs.Laws.Kept.{kept-account}
 use Rattle.history.proofs.Laws.ReadBack.{read-back, kept-as-listed}
@@ -96,7 +95,7 @@ thirteen-length l = length-append (l .four) _ ∙ omega (arith, length-append (l
 written-of : (a n : ℕ) (x : List ℕ) (k : ℕ) → length x ≡ k → k ≡ 2048 * n → WriteOf (writing a n x) (lba a) n
 written-of a n x k h e = write-request (lba a) n x (h ∙ e)
 
-cut-in-three : (l : Log) → CutOf (writing 0 5 (firstFive l)) (writing 0 2 (l .one) ∷ writing 2 1 (l .two) ∷ writing 3 2 (l .three) ∷ [])
+cut-in-three : (l : Log) → CutOf (writing 0 5 (firstFive l)) (writing 0 2 (l .one) ∷ writing12 2 1 (l .two) ∷ writing 3 2 (l .three) ∷ [])
 cut-in-three l =
     record {
       address = lba 0;
@@ -105,29 +104,35 @@ cut-in-three l =
       several = omega arith;
       parts =
           part (lba 0) 2 3 (writing 0 2 (l .one)) _ _ (omega arith) (written-of 0 2 (l .one) 4096 (l .oneLength) refl)
-          (part (lba 2) 1 2 (writing 2 1 (l .two)) _ _ (omega arith) (written-of 2 1 (l .two) 2048 (l .twoLength) refl)
+          (part (lba 2) 1 2 (writing12 2 1 (l .two)) _ _ (omega arith) (write-request12 (lba 2) 1 (l .two) (l .twoLength))
           (part (lba 3) 2 0 (writing 3 2 (l .three)) [] [] (omega arith) (written-of 3 2 (l .three) 4096 (l .threeLength) refl) (none _)));
     }
 
 cut-in-two :
-    (a n m p : ℕ) (x y : List ℕ) → 1 ≤ n → 1 ≤ m → p ≡ n + m → length x ≡ 2048 * n → length y ≡ 2048 * m
-    → CutOf (writing a p (x ++ (y ++ []))) (writing a n x ∷ writing (a + n) m y ∷ [])
-cut-in-two a n m p x y some more sum h k =
-    let size : length (x ++ (y ++ [])) ≡ 2048 * (n + m) = length-append x (y ++ []) ∙ omega (arith, length-append y [], h, k) in
-    subst (λ (c : ℕ). CutOf (writing a c (x ++ (y ++ []))) (writing a n x ∷ writing (a + n) m y ∷ [])) (sym sum)
-    (record {
+    (q one two : Request) (a n m : ℕ) → WriteOf q (lba a) (n + m) → WriteOf one (lba a) n → WriteOf two (lba (a + n)) m → 1 ≤ n → 1 ≤ m
+    → q .payload ≡ one .payload ++ (two .payload ++ []) → CutOf q (one ∷ two ∷ [])
+cut-in-two q one two a n m w w₁ w₂ some more joined =
+    record {
       address = lba a;
       count = n + m;
-      whole = write-request (lba a) (n + m) (x ++ (y ++ [])) size;
+      whole = w;
       several = omega arith;
       parts =
-          part (lba a) n m (writing a n x) _ _ some (write-request (lba a) n x h)
-          (subst (λ (c : ℕ). Parts (lba (a + n)) c (y ++ []) (writing (a + n) m y ∷ [])) (none-more m)
-          (part (lba (a + n)) m 0 (writing (a + n) m y) [] [] more (write-request (lba (a + n)) m y k) (none _)));
-    })
+          subst (λ (x : List ℕ). Parts (lba a) (n + m) x (one ∷ two ∷ [])) (sym joined)
+          (part (lba a) n m one _ _ some w₁
+          (subst (λ (c : ℕ). Parts (lba (a + n)) c (two .payload ++ []) (two ∷ [])) (none-more m)
+          (part (lba (a + n)) m 0 two [] [] more w₂ (none _))));
+    }
   where
     none-more : (m : ℕ) → m + 0 ≡ m
     none-more m = omega arith
+
+-- the second WRITE, a WRITE (12), in two parts of the other form
+cut-of-thirteen : (l : Log) → CutOf (writing12 5 13 (nextThirteen l)) (writing 5 3 (l .four) ∷ writing 8 10 (l .five) ∷ [])
+cut-of-thirteen l =
+    cut-in-two (writing12 5 13 (nextThirteen l)) (writing 5 3 (l .four)) (writing 8 10 (l .five)) 5 3 10
+    (write-request12 (lba 5) 13 (nextThirteen l) (thirteen-length l)) (write-request (lba 5) 3 (l .four) (l .fourLength))
+    (write-request (lba 8) 10 (l .five) (l .fiveLength)) (omega arith) (omega arith) refl
 
 same-again : (q u : Request) → q .cdb ≡ u .cdb → q .payload ≡ u .payload → length (q .buffer) ≡ length (u .buffer) → SameCommand q u
 same-again q u b x r = record { cdb = b; payload = x; room = r }
@@ -135,7 +140,7 @@ same-again q u b x r = record { cdb = b; payload = x; room = r }
 -- the shapes of the newer controller's commands
 abbrev newerShapes : List Shape
 newerShapes =
-    shape (writeCdb 0 5) 10240 0 ∷ shape (asking 0 .cdb) 0 36 ∷ shape (writeCdb 5 13) 26624 0 ∷ shape (reading 2 0 .cdb) 0 32768
+    shape (writeCdb 0 5) 10240 0 ∷ shape (asking 0 .cdb) 0 36 ∷ shape (writeCdb12 5 13) 26624 0 ∷ shape (reading12 2 0 .cdb) 0 32768
     ∷ shape (flushing .cdb) 0 0 ∷ shape (reading 32 0 .cdb) 0 32768 ∷ shape (writeCdb 32 3) 6144 0 ∷ []
 
 abbrev newerAnswers : List Answer
@@ -145,14 +150,14 @@ abbrev earliestShapes : List Shape
 earliestShapes = shape (writeCdb 0 5) 10240 0 ∷ []
 
 abbrev earlyShapes : List Shape
-earlyShapes = shape (writeCdb 0 5) 10240 0 ∷ shape (asking 0 .cdb) 0 36 ∷ shape (writeCdb 5 13) 26624 0 ∷ []
+earlyShapes = shape (writeCdb 0 5) 10240 0 ∷ shape (asking 0 .cdb) 0 36 ∷ shape (writeCdb12 5 13) 26624 0 ∷ []
 
 newer-shapes : (s : Drive) (l : Log) (x : ℕ) (j : ℕ → Change) → shapes (given (newer l x j) s) ≡ newerShapes
 unfolding given
 newer-shapes s l x j =
     λ i.
     shape (writeCdb 0 5) (five-length l i) 0 ∷ shape (asking 0 .cdb) 0 (length-replicate {A = ℕ} 36 x i)
-    ∷ shape (writeCdb 5 13) (thirteen-length l i) 0 ∷ shape (reading 2 0 .cdb) 0 (length-replicate {A = ℕ} 32768 x i)
+    ∷ shape (writeCdb12 5 13) (thirteen-length l i) 0 ∷ shape (reading12 2 0 .cdb) 0 (length-replicate {A = ℕ} 32768 x i)
     ∷ shape (flushing .cdb) 0 0 ∷ shape (reading 32 0 .cdb) 0 (length-replicate {A = ℕ} 32768 x i) ∷ shape (writeCdb 32 3) (l .sixLength i) 0 ∷ []
 
 earliest-shapes : (s : Drive) (l : Log) (j : ℕ → Change) → shapes (given (earliest l j) s) ≡ earliestShapes
@@ -164,7 +169,7 @@ unfolding given
 early-shapes s l x j =
     λ i.
     shape (writeCdb 0 5) (five-length l i) 0 ∷ shape (asking 0 .cdb) 0 (length-replicate {A = ℕ} 36 x i)
-    ∷ shape (writeCdb 5 13) (thirteen-length l i) 0 ∷ []
+    ∷ shape (writeCdb12 5 13) (thirteen-length l i) 0 ∷ []
 
 -- a READ after them, and a WRITE after RESERVE 48
 abbrev lateShapes : ℕ → ℕ → List Shape
@@ -285,18 +290,18 @@ module _ (c : ℕ) (m : Computed c) (s : Drive) (start : Start c s) (l : Log) (x
 -- the older controller's sequence is the newer one's again
 module _ (s e : Drive) (l : Log) (x y : ℕ) (j k : ℕ → Change) where
   abbrev parts₁ : List Given
-  parts₁ = after (k 0) (writing 0 2 (l .one)) ∷ after (k 1) (writing 2 1 (l .two)) ∷ after (k 2) (writing 3 2 (l .three)) ∷ []
+  parts₁ = after (k 0) (writing 0 2 (l .one)) ∷ after (k 1) (writing12 2 1 (l .two)) ∷ after (k 2) (writing 3 2 (l .three)) ∷ []
 
   abbrev rest₁ : List Given
   rest₁ =
-      after (k 3) (asking y) ∷ after (k 4) (writing 5 3 (l .four)) ∷ after (k 5) (writing 8 10 (l .five)) ∷ after (k 6) (reading 2 y)
+      after (k 3) (asking y) ∷ after (k 4) (writing 5 3 (l .four)) ∷ after (k 5) (writing 8 10 (l .five)) ∷ after (k 6) (reading12 2 y)
       ∷ after (k 7) flushing ∷ after (k 8) (reading 32 y) ∷ after (k 9) (writing 32 3 (l .six)) ∷ []
 
   abbrev parts₂ : List Given
   parts₂ = after (k 4) (writing 5 3 (l .four)) ∷ after (k 5) (writing 8 10 (l .five)) ∷ []
 
   abbrev rest₂ : List Given
-  rest₂ = after (k 6) (reading 2 y) ∷ after (k 7) flushing ∷ after (k 8) (reading 32 y) ∷ after (k 9) (writing 32 3 (l .six)) ∷ []
+  rest₂ = after (k 6) (reading12 2 y) ∷ after (k 7) flushing ∷ after (k 8) (reading 32 y) ∷ after (k 9) (writing 32 3 (l .six)) ∷ []
 
   abbrev after₁ : Drive
   after₁ = final (given parts₁ e) e
@@ -314,8 +319,8 @@ module _ (s e : Drive) (l : Log) (x y : ℕ) (j k : ℕ → Change) where
   same-log one two =
       cut s _ _ (given parts₁ e) (given rest₁ after₁) _ one (cut-in-three l)
       (same _ _ _ _ _ (same-again (asking x) (asking y) refl refl (length-replicate {A = ℕ} 36 x ∙ sym (length-replicate {A = ℕ} 36 y)))
-      (cut _ _ _ (given parts₂ told₁) (given rest₂ after₂) _ two (cut-in-two 5 3 10 13 (l .four) (l .five) (omega arith) (omega arith) refl (l .fourLength) (l .fiveLength))
-      (same _ _ _ _ _ (same-again (reading 2 x) (reading 2 y) refl refl (length-replicate {A = ℕ} 32768 x ∙ sym (length-replicate {A = ℕ} 32768 y)))
+      (cut _ _ _ (given parts₂ told₁) (given rest₂ after₂) _ two (cut-of-thirteen l)
+      (same _ _ _ _ _ (same-again (reading12 2 x) (reading12 2 y) refl refl (length-replicate {A = ℕ} 32768 x ∙ sym (length-replicate {A = ℕ} 32768 y)))
       (same _ _ _ _ _ (same-again flushing flushing refl refl refl)
       (same _ _ _ _ _ (same-again (reading 32 x) (reading 32 y) refl refl (length-replicate {A = ℕ} 32768 x ∙ sym (length-replicate {A = ℕ} 32768 y)))
       (same _ _ _ _ _ (same-again (writing 32 3 (l .six)) (writing 32 3 (l .six)) refl refl refl) (ends _)))))
@@ -400,13 +405,13 @@ module _ (c : ℕ) (m : Computed c) (demand : Demand3) (f g : Flash c) (l : Log)
 unchanged-newer : (s : Drive) (l : Log) (x : ℕ) → Undisturbed (given (newer l x (λ i. unchanged)) s) s
 unchanged-newer s l x =
     given-undisturbed
-    (writing 0 5 (firstFive l) ∷ asking x ∷ writing 5 13 (nextThirteen l) ∷ reading 2 x ∷ flushing ∷ reading 32 x ∷ writing 32 3 (l .six) ∷ []) s
+    (writing 0 5 (firstFive l) ∷ asking x ∷ writing12 5 13 (nextThirteen l) ∷ reading12 2 x ∷ flushing ∷ reading 32 x ∷ writing 32 3 (l .six) ∷ []) s
 
 unchanged-older : (s : Drive) (l : Log) (x : ℕ) → Undisturbed (given (older l x (λ i. unchanged)) s) s
 unchanged-older s l x =
     given-undisturbed
-    (writing 0 2 (l .one) ∷ writing 2 1 (l .two) ∷ writing 3 2 (l .three) ∷ asking x ∷ writing 5 3 (l .four) ∷ writing 8 10 (l .five) ∷ reading 2 x
-    ∷ flushing ∷ reading 32 x ∷ writing 32 3 (l .six) ∷ []) s
+    (writing 0 2 (l .one) ∷ writing12 2 1 (l .two) ∷ writing 3 2 (l .three) ∷ asking x ∷ writing 5 3 (l .four) ∷ writing 8 10 (l .five)
+    ∷ reading12 2 x ∷ flushing ∷ reading 32 x ∷ writing 32 3 (l .six) ∷ []) s
 
 byte-for-byte :
     (c : ℕ) → Computed c → Demand3 → (f : Flash c) (l : Log) (x y : ℕ)
@@ -421,7 +426,7 @@ byte-for-byte c m demand f l x y =
 
 -- a recorded block stays
 abbrev later : Log → ℕ → (ℕ → Change) → List Given
-later l x j = after (j 3) (reading 2 x) ∷ after (j 4) flushing ∷ after (j 5) (reading 32 x) ∷ after (j 6) (writing 32 3 (l .six)) ∷ []
+later l x j = after (j 3) (reading12 2 x) ∷ after (j 4) flushing ∷ after (j 5) (reading 32 x) ∷ after (j 6) (writing 32 3 (l .six)) ∷ []
 
 newer-split :
     (s : Drive) (l : Log) (x : ℕ) (j : ℕ → Change)
@@ -503,8 +508,8 @@ fits c m demand f x y z one two three j =
     let start = flash-start c f (m .range) in
     let large = joined-length x y 81920 18432 one two in
     let small = joined-length x z 81920 16384 one three in
-    let no = parts-answers c demand s start x y 9 49 j (cut-in-two 0 40 9 49 x y (omega arith) (omega arith) refl one two) in
-    let yes = parts-answers c demand s start x z 8 48 j (cut-in-two 0 40 8 48 x z (omega arith) (omega arith) refl one three) in
+    let no = parts-answers c demand s start x y 9 49 j (cut-in-two (writing 0 49 (joined x y)) (writing 0 40 x) (writing 40 9 y) 0 40 9 (write-request (lba 0) 49 (joined x y) large) (write-request (lba 0) 40 x one) (write-request (lba 40) 9 y two) (omega arith) (omega arith) refl) in
+    let yes = parts-answers c demand s start x z 8 48 j (cut-in-two (writing 0 48 (joined x z)) (writing 0 40 x) (writing 40 8 z) 0 40 8 (write-request (lba 0) 48 (joined x z) small) (write-request (lba 0) 40 x one) (write-request (lba 40) 8 z three) (omega arith) (omega arith) refl) in
     let refused = whole-answers c s start (joined x y) 49 100352 j large ∙ m .partly in
     let taken = whole-answers c s start (joined x z) 48 98304 j small ∙ m .wholly in
     record {
@@ -520,7 +525,7 @@ unfolding given
 late-shapes s a n l x j =
     λ i.
     shape (writeCdb 0 5) (five-length l i) 0 ∷ shape (asking 0 .cdb) 0 (length-replicate {A = ℕ} 36 x i)
-    ∷ shape (writeCdb 5 13) (thirteen-length l i) 0 ∷ shape (reading 2 0 .cdb) 0 (length-replicate {A = ℕ} 32768 x i)
+    ∷ shape (writeCdb12 5 13) (thirteen-length l i) 0 ∷ shape (reading12 2 0 .cdb) 0 (length-replicate {A = ℕ} 32768 x i)
     ∷ shape (flushing .cdb) 0 0 ∷ shape (reading 32 0 .cdb) 0 (length-replicate {A = ℕ} 32768 x i) ∷ shape (writeCdb 32 3) (l .sixLength i) 0
     ∷ shape (readingSome a n 0 .cdb) 0 (length-replicate {A = ℕ} (2048 * n) x i) ∷ []
 
@@ -576,7 +581,7 @@ module _ (c : ℕ) (m : Computed c) (kept : KeptAccount) (f : Flash c) (l : Log)
   unfolding given final answers replies decode
   read-early a h =
       let r = final earlyTurns disc₀ in
-      kept .back c disc₀ start₀ earlyTurns early-admissible (turn (after (j 3) (reading 2 x)) r) (turn-alike (after (j 3) (reading 2 x)) r) (lba 2) 16 refl
+      kept .back c disc₀ start₀ earlyTurns early-admissible (turn (after (j 3) (reading12 2 x)) r) (turn-alike (after (j 3) (reading12 2 x)) r) (lba 2) 16 refl
       (newer-answer c m disc₀ start₀ l x j 3) a h
 
   read-late :
@@ -714,7 +719,7 @@ module _ (c : ℕ) (m : Computed c) (back : ReadBack) (count : KeptAsListed) (hi
   front₁ = after (j 0) (writing 0 5 (firstFive l)) ∷ after (j 1) (asking x) ∷ []
 
   abbrev write₁ : Given
-  write₁ = after (j 2) (writing 5 13 (nextThirteen l))
+  write₁ = after (j 2) (writing12 5 13 (nextThirteen l))
 
   brought₁ : sectorAt 7 (afterAll turns₁ disc₁ (after (j 7) (reading 0 x)) .reply) ≡ sectorAt 2 (nextThirteen l)
   unfolding given final answers replies decode
@@ -730,7 +735,7 @@ module _ (c : ℕ) (m : Computed c) (back : ReadBack) (count : KeptAsListed) (hi
   bring : List Answer → List Written
   bring r =
       acceptedWrite (getD r 0 Accepted) (writing 0 5 (firstFive l)) ++ (acceptedWrite (getD r 1 Accepted) (asking x)
-      ++ (acceptedWrite (getD r 2 Accepted) (writing 5 13 (nextThirteen l)) ++ (acceptedWrite (getD r 3 Accepted) (reading 2 x)
+      ++ (acceptedWrite (getD r 2 Accepted) (writing12 5 13 (nextThirteen l)) ++ (acceptedWrite (getD r 3 Accepted) (reading12 2 x)
       ++ (acceptedWrite (getD r 4 Accepted) flushing ++ (acceptedWrite (getD r 5 Accepted) (reading 32 x)
       ++ (acceptedWrite (getD r 6 Accepted) (writing 32 3 (l .six)) ++ []))))))
 
@@ -745,7 +750,7 @@ module _ (c : ℕ) (m : Computed c) (back : ReadBack) (count : KeptAsListed) (hi
   waiting₁ : sectorAt 1 (afterAll turns₁ disc₁ (after (j 7) (readingSome 32 3 x)) .reply) ≡ sectorAt 1 (l .six)
   unfolding given final answers replies decode
   waiting₁ =
-      let front = front₁ ++ (write₁ ∷ after (j 3) (reading 2 x) ∷ after (j 4) flushing ∷ after (j 5) (reading 32 x) ∷ []) in
+      let front = front₁ ++ (write₁ ∷ after (j 3) (reading12 2 x) ∷ after (j 4) flushing ∷ after (j 5) (reading 32 x) ∷ []) in
       let ts = given front disc₁ in
       let w = turn (after (j 6) (writing 32 3 (l .six))) (final ts disc₁) in
       let g = after (j 7) (readingSome 32 3 x) in
@@ -810,7 +815,7 @@ module _ (c : ℕ) (m : Computed c) (back : ReadBack) (count : KeptAsListed) (hi
 -- the first WRITE of any disc, in any parts
 module _
     (demand : Demand3) (c : ℕ) (s e : Drive) (start : Start c s) (other : Start c e) (g : Given) (n : ℕ) (w : WriteOf (g .request) (lba 0) n)
-    (fit : n ≤ 16 * c) (ks : List ℕ) (several : 2 ≤ length ks) (sum : total ks ≡ n) (named : nameable ks ≡ true) (hs : List Given)
+    (fit : n ≤ 16 * c) (ks : List Named) (several : 2 ≤ length ks) (sum : total ks ≡ n) (names : nameable 0 ks ≡ true) (hs : List Given)
     (asked : map (λ (h : Given). h .request) hs ≡ partsOf 0 ks (g .request .payload))
   where
     taken : result (turn g s) s .answer ≡ Accepted
@@ -828,7 +833,7 @@ module _
     in-parts : (x : Drive) → CutOf (g .request) (requests (given hs x))
     in-parts x =
         subst (λ (qs : List Request). CutOf (g .request) qs) (sym (given-requests hs x ∙ asked))
-        (parts-cut (g .request) (lba 0) n ks w several sum named (omega (arith, fit, range-most c (start .range))))
+        (parts-cut (g .request) (lba 0) n ks w several sum names)
 
     abbrev cut-again : Again s (turn g s ∷ []) (given hs e)
     cut-again = cut s (turn g s) [] (given hs e) [] (given hs e) taken (in-parts e) (ends _) (sym (append-nil (given hs e)))

@@ -1,7 +1,8 @@
 -- What the vocabulary means: a cut that is one, cuts that are none, stale changes that are some and one that is none.
-use Prim.Native.Nat.{ℕ, _+_, _*_}
+use Prim.Native.Nat.{ℕ, _+_, _*_, _≤_, _<_}
 use mathlib.Core.Path.{_≡_, refl, sym, ap, _∙_}
-use mathlib.Core.Bool.{true}
+use mathlib.Core.Bool.{true, false}
+use mathlib.Core.Logic.{_⊎_, inl, inr}
 use mathlib.Core.List.{List, [], _∷_, _++_}
 use native.Mathlib.Omega.{arith}
 use lib.ListN.{length, getD, length-replicate, length-append}
@@ -14,11 +15,14 @@ use Rattle.drive.proofs.Laws.Alike.{alike-same}
 use Rattle.history.specs.Types.{Lba, Write}
 use Rattle.history.specs.Sequence.{Start, Turn, found, result, Admissible, Undisturbed}
 use Rattle.history.specs.Cut.{Parts, none, part, CutOf}
-use Rattle.history.specs.Examples.{writeCdb, wholeWrite, firstPart, secondPart, partAfterGap, partOverFirst, emptyPart, sector, asLeft, steady}
-use Rattle.history.proofs.Laws.Parts.{write-request}
+use Rattle.history.specs.Forms.{ten, twelve, longest, addresses, Bytes, AllBytes}
+use Rattle.history.specs.Wide.{named, partsOf, total, nameable}
+use Rattle.history.specs.Examples.{writeCdb, writeCdb12, wholeWrite, firstPart, secondPart, partAfterGap, partOverFirst, emptyPart, longWrite, mixedParts, sector, asLeft, steady}
+use Rattle.history.proofs.Laws.Forms.{write-block, write-forms}
+use Rattle.history.proofs.Laws.Parts.{write-request, write-request12}
+use Rattle.history.proofs.Laws.Wide.{wide}
 use Rattle.history.proofs.Laws.Demand.{start-alike}
 
--- a cut that is one, at any address
 pub whole-sectors : length (sector 7 ++ (sector 9 ++ [])) ≡ 4096
 whole-sectors =
     length-append (sector 7) (sector 9 ++ [])
@@ -27,6 +31,10 @@ whole-sectors =
 one-sector : (a x : ℕ) → WriteOf (request (writeCdb a 1) (sector x) []) (lba a) 1
 one-sector a x = write-request (lba a) 1 (sector x) (length-replicate {A = ℕ} 2048 x)
 
+one-sector12 : (a x : ℕ) → WriteOf (request (writeCdb12 a 1) (sector x) []) (lba a) 1
+one-sector12 a x = write-request12 (lba a) 1 (sector x) (length-replicate {A = ℕ} 2048 x)
+
+-- a cut that is one, of both forms, at any address
 pub cut-in-two : (a : ℕ) → CutOf (wholeWrite a) (firstPart a ∷ secondPart a ∷ [])
 cut-in-two a =
     record {
@@ -34,8 +42,18 @@ cut-in-two a =
       count = 2;
       whole = write-request (lba a) 2 (wholeWrite a .payload) whole-sectors;
       several = omega arith;
-      parts = part (lba a) 1 1 (firstPart a) _ _ (omega arith) (one-sector a 7) (part (lba (a + 1)) 1 0 (secondPart a) [] [] (omega arith) (one-sector (a + 1) 9) (none _));
+      parts = part (lba a) 1 1 (firstPart a) _ _ (omega arith) (one-sector a 7) (part (lba (a + 1)) 1 0 (secondPart a) [] [] (omega arith) (one-sector12 (a + 1) 9) (none _));
     }
+
+-- a WRITE (12) of more sectors than a WRITE (10) names, in parts of both forms; one part of the first form would not do
+pub long-cut : (x : List ℕ) → length x ≡ 2048 * 65536 → CutOf (longWrite x) (partsOf 0 mixedParts x)
+unfolding total nameable longest
+long-cut x h =
+    wide .cut (longWrite x) (lba 0) 65536 mixedParts (write-block twelve 0 65536 (omega arith) (omega arith) x h) (omega arith) refl refl
+
+pub long-part-unnamed : nameable 0 (named ten 65536 ∷ named ten 1 ∷ []) ≡ false
+unfolding nameable longest
+long-part-unnamed = refl
 
 -- no part has 0 sectors, and each begins where the last ended: no gap, no overlap
 write-count : {a b : Lba} {n m : ℕ} → Write a n ≡ Write b m → n ≡ m
@@ -43,6 +61,32 @@ write-count e = cc
 
 write-address : {a b : Lba} {n m : ℕ} → Write a n ≡ Write b m → a ≡ b
 write-address e = cc
+
+-- the parts after the first begin further on
+address-of : (b : List ℕ) → Bytes b → (a : Lba) (n : ℕ) → decode b ≡ Write a n → a .0 < addresses
+address-of b h a n e = elim (write-forms .only b h a n e) [ inl f ↦ f .address | inr f ↦ f .address ]
+
+far-parts : (a : Lba) (n : ℕ) (x : List ℕ) (qs : List Request) → AllBytes qs → Parts a n x qs → addresses ≤ a .0 + 1 → 2 ≤ length qs → ⊥
+unfolding AllBytes
+far-parts a n x qs h (none b) far several = omega (arith, several)
+far-parts a n x qs h (part b k m q rest [] i w p) far several = omega (arith, several)
+far-parts a n x qs h (part b k m q rest (r ∷ rs) i w (part c l o u more us j v p)) far several =
+    omega (arith, address-of (r .cdb) (h .1 .0) (lba (b .0 + k)) l (v .command), i, far)
+
+-- a part whose address needs more than 32 bits does not exist: a WRITE at the last address has no cut whose blocks are bytes, whatever its
+-- length; one at the address before it has, also where its end is past every address
+pub far-part-is-none : (q : Request) (n : ℕ) (qs : List Request) → WriteOf q (lba 0xFFFFFFFF) n → AllBytes qs → CutOf q qs → ⊥
+far-part-is-none q n qs w h c =
+    let here = write-address (sym (w .command) ∙ c .whole .command) in
+    far-parts (c .address) (c .count) (q .payload) qs h (c .parts) (omega (arith, ap (λ (z : Lba). z .0) here)) (c .several)
+
+pub far-part-unnamed : nameable 0xFFFFFFFF (named twelve 1 ∷ named twelve 1 ∷ []) ≡ false
+unfolding nameable longest
+far-part-unnamed = refl
+
+pub near-parts-named : nameable 0xFFFFFFFE (named ten 1 ∷ named twelve 4294967295 ∷ []) ≡ true
+unfolding nameable longest
+near-parts-named = refl
 
 parts-empty : (a b : Lba) (n : ℕ) (x : List ℕ) (q : Request) (qs : List Request) → WriteOf q a 0 → Parts b n x (q ∷ qs) → ⊥
 parts-empty a b n x q qs w (part c k m u rest us h v p) = let e = write-count (sym (w .command) ∙ v .command) in omega (arith, e, h)

@@ -10,7 +10,7 @@ use Rattle.drive.specs.Step.{Drive, Request, request, verdictOn, carriedOut, st
 use Rattle.drive.specs.Requests.{WriteOf}
 use Rattle.drive.proofs.Laws.Cut.{Served, write-verdict, accepted-served, whole-parts, parts-whole, cut-recorded, cut-after}
 use Rattle.history.specs.Types.{Lba, Accepted, Write, Verdict}
-use Rattle.history.specs.Examples.{writeCdb}
+use Rattle.history.specs.Examples.{writeCdb, writeCdb12}
 use Rattle.history.specs.Cut.{Parts, none, part}
 use Rattle.history.proofs.Laws.Runs.{runs, RunAccepted, runBlocks}
 
@@ -27,6 +27,17 @@ write-request a n x h =
     record {
       cdb = refl;
       command = ap (λ (k : ℕ). Write (lba k) (0 + n)) address ∙ ap (λ (k : ℕ). Write a k) count;
+      payload = h;
+    }
+
+-- the same by WRITE (12)
+pub write-request12 : (a : Lba) (n : ℕ) (x : List ℕ) → length x ≡ 2048 * n → WriteOf (request (writeCdb12 (a .0) n) x []) a n
+unfolding decode
+write-request12 a n x h =
+    let whole : (k : ℕ) → 0 + (0 + k) ≡ k = λ k. omega arith in
+    record {
+      cdb = refl;
+      command = ap (λ (k : ℕ). Write (lba k) (0 + (0 + n))) (whole (a .0)) ∙ ap (λ (k : ℕ). Write a k) (whole n);
       payload = h;
     }
 

@@ -5,14 +5,13 @@ use mathlib.Core.Bool.{Bool, true, false, _&&_}
 use mathlib.Core.Logic.{_⊎_, inl, inr}
 use mathlib.Core.List.{List, [], _∷_, _++_, map}
 use native.Mathlib.Omega.{arith}
-use borrow.Author.Tests.{eq-eqb, ne-eqb, eqb-true, le-leb, leb-true, le-ltb}
-use lib.Dec.{eqb, leb}
+use borrow.Author.Tests.{eq-eqb, ne-eqb, eqb-true, le-leb, leb-true, ltb-true, le-ltb}
+use lib.Dec.{eqb, leb, ltb}
 use lib.ListN.{length, getD, take, drop, length-drop, take-append-drop}
 use lib.Seq.{length-take-le}
 use Rattle.fragments.specs.Address.{lba}
 use Rattle.disc.specs.Blank.{inRange, blank}
 use Rattle.protocol.specs.Command.{decode}
-use Rattle.protocol.specs.Reports.{low, high}
 use Rattle.commands.specs.Write.{write}
 use Rattle.outcomes.proofs.Laws.Accepts.{Takes, takes-accepted}
 use Rattle.disc.proofs.Laws.Blank.{range-least, blank-allowed, blank-capacity}
@@ -27,59 +26,47 @@ use Rattle.drive.proofs.Laws.Bytes.{length-zeros}
 use Rattle.drive.proofs.Laws.Cut.{write-verdict}
 use Rattle.history.specs.Types.{Lba, Disc, Verdict, Answer, Accepted, Link, Drive as byDrive, Command, TestUnitReady, RequestSense, ReadCapacity, Read, Write, SynchronizeCache, ReserveTrack, CloseTrackSession, ReadDiscInformation, ReadTrackInformation, Unlisted}
 use Rattle.history.specs.Sequence.{Start, Turn, result, final}
+use Rattle.history.specs.Forms.{longest, addresses, writeBlock}
 use Rattle.history.specs.Cut.{Parts, none, part, CutOf, Again, ends, same, cut}
 use Rattle.history.specs.Stale.{pendingByte, Given, turn, given}
-use Rattle.history.specs.Wide.{filledBy, writeBytes, partsOf, total, nameable, isCut, recutCommand, recut, second, Wide}
+use Rattle.history.specs.Wide.{filledBy, Named, partsOf, total, nameable, isCut, recutCommand, recut, second, Wide}
+use Rattle.history.proofs.Laws.Forms.{write-block}
 use Rattle.history.proofs.Laws.Served.{start-served}
 use Rattle.history.proofs.Laws.Stale.{length-stirred, stirred-stale, given-admissible, given-requests}
 
--- a number by its four bytes
-four-bytes :
-    (a b c d : ℕ) → b ≡ a / 0x100 → c ≡ b / 0x100 → d ≡ c / 0x100 → d < 0x100
-    → 0x10000 * (0x100 * (d % 0x100) + c % 0x100) + (0x100 * (b % 0x100) + a % 0x100) ≡ a
-four-bytes a b c d e f g h = omega (arith, e, f, g, h)
-
--- a block names its address and its length
-write-bytes : (a n : ℕ) (x : List ℕ) → a < 0x100000000 → n ≤ 65535 → length x ≡ 2048 * n → WriteOf (request (writeBytes a n) x []) (lba a) n
-unfolding decode
-write-bytes a n x near few h =
-    let address : 0x10000 * (0x100 * (a / 0x1000000 % 0x100) + a / 0x10000 % 0x100) + (0x100 * (a / 0x100 % 0x100) + a % 0x100) ≡ a =
-    four-bytes a (a / 0x100) (a / 0x10000) (a / 0x1000000) refl (omega arith) (omega arith) (omega (arith, near)) in
-    let count : 0x100 * (n / 0x100 % 0x100) + n % 0x100 ≡ n = omega (arith, few) in
-    record {
-      cdb = refl;
-      command = ap (λ (k : ℕ). Write (lba k) (0x100 * high n + low n)) address ∙ ap (λ (k : ℕ). Write (lba a) k) count;
-      payload = h;
-    }
-
--- lengths make parts
+-- parts as they are named
 parts-of :
-    (a : ℕ) (ks x : List ℕ) → nameable ks ≡ true → length x ≡ 2048 * total ks → a + total ks ≤ 0x100000000
-    → Parts (lba a) (total ks) x (partsOf a ks x)
+    (a : ℕ) (ks : List Named) (x : List ℕ) → nameable a ks ≡ true → length x ≡ 2048 * total ks → Parts (lba a) (total ks) x (partsOf a ks x)
 unfolding partsOf total nameable
-parts-of a [] x t h near = subst (λ (y : List ℕ). Parts (lba a) 0 y []) (sym (empty x h)) (none (lba a))
+parts-of a [] x t h = subst (λ (y : List ℕ). Parts (lba a) 0 y []) (sym (empty x h)) (none (lba a))
   where
     empty : (x : List ℕ) → length x ≡ 0 → x ≡ []
     empty [] h = refl
     empty (y ∷ ys) h = absurd (omega (arith, h))
-parts-of a (k ∷ ks) x t h near =
-    let first = and-left (leb 1 k && leb k 65535) (nameable ks) t in
-    let some = leb-true 1 k (and-left (leb 1 k) (leb k 65535) first) in
-    let few = leb-true k 65535 (and-right (leb 1 k) (leb k 65535) first) in
-    let size : length (take (2048 * k) x) ≡ 2048 * k = length-take-le (2048 * k) x (omega (arith, h)) in
-    let rest : length (drop (2048 * k) x) ≡ 2048 * total ks = length-drop (2048 * k) x ∙ omega (arith, h) in
-    subst (λ (y : List ℕ). Parts (lba a) (k + total ks) y (partsOf a (k ∷ ks) x)) (take-append-drop (2048 * k) x)
-    (part (lba a) k (total ks) (request (writeBytes a k) (take (2048 * k) x) []) (drop (2048 * k) x) (partsOf (a + k) ks (drop (2048 * k) x)) some
-    (write-bytes a k (take (2048 * k) x) (omega (arith, near, some)) few size)
-    (parts-of (a + k) ks (drop (2048 * k) x) (and-right (leb 1 k && leb k 65535) (nameable ks) t) rest (omega (arith, near))))
+parts-of a (k ∷ ks) x t h =
+    let n = k .sectors in
+    let some-sector = leb 1 n in
+    let few-sectors = leb n (longest (k .form)) in
+    let rest-named = nameable (a + n) ks in
+    let here = and-left (some-sector && few-sectors && ltb a addresses) rest-named t in
+    let sized = and-left (some-sector && few-sectors) (ltb a addresses) here in
+    let some = leb-true 1 n (and-left some-sector few-sectors sized) in
+    let few = leb-true n (longest (k .form)) (and-right some-sector few-sectors sized) in
+    let near = ltb-true a addresses (and-right (some-sector && few-sectors) (ltb a addresses) here) in
+    let size : length (take (2048 * n) x) ≡ 2048 * n = length-take-le (2048 * n) x (omega (arith, h)) in
+    let rest : length (drop (2048 * n) x) ≡ 2048 * total ks = length-drop (2048 * n) x ∙ omega (arith, h) in
+    subst (λ (y : List ℕ). Parts (lba a) (n + total ks) y (partsOf a (k ∷ ks) x)) (take-append-drop (2048 * n) x)
+    (part (lba a) n (total ks) (request (writeBlock (k .form) a n) (take (2048 * n) x) []) (drop (2048 * n) x) (partsOf (a + n) ks (drop (2048 * n) x)) some
+    (write-block (k .form) a n near few (take (2048 * n) x) size)
+    (parts-of (a + n) ks (drop (2048 * n) x) (and-right (some-sector && few-sectors && ltb a addresses) rest-named t) rest))
 
-length-parts : (a : ℕ) (ks x : List ℕ) → length (partsOf a ks x) ≡ length ks
+length-parts : (a : ℕ) (ks : List Named) (x : List ℕ) → length (partsOf a ks x) ≡ length ks
 unfolding partsOf
 length-parts a [] x = refl
-length-parts a (k ∷ ks) x = ap suc (length-parts (a + k) ks (drop (2048 * k) x))
+length-parts a (k ∷ ks) x = ap suc (length-parts (a + k .sectors) ks (drop (2048 * k .sectors) x))
 
 -- what the test says
-module _ (q : Request) (a n : ℕ) (ks : List ℕ) where
+module _ (q : Request) (a n : ℕ) (ks : List Named) where
   abbrev block-fits : Bool
   block-fits = eqb (length (q .cdb)) 12
 
@@ -92,24 +79,18 @@ module _ (q : Request) (a n : ℕ) (ks : List ℕ) where
   abbrev is-whole : Bool
   is-whole = eqb (total ks) n
 
-  abbrev is-near : Bool
-  is-near = leb (a + n) 0x100000000
-
   record Cuts : Type 0 where
     cdb : length (q .cdb) ≡ 12
     payload : length (q .payload) ≡ 2048 * n
     several : 2 ≤ length ks
     whole : total ks ≡ n
-    named : nameable ks ≡ true
-    near : a + n ≤ 0x100000000
+    named : nameable a ks ≡ true
 
   test-cuts : isCut q a n ks ≡ true → Cuts
   test-cuts t =
-      let five = block-fits && data-fits && is-several && is-whole && nameable ks in
       let four = block-fits && data-fits && is-several && is-whole in
       let three = block-fits && data-fits && is-several in
-      let t₅ = and-left five is-near t in
-      let t₄ = and-left four (nameable ks) t₅ in
+      let t₄ = and-left four (nameable a ks) t in
       let t₃ = and-left three is-whole t₄ in
       let t₂ = and-left (block-fits && data-fits) is-several t₃ in
       record {
@@ -117,19 +98,18 @@ module _ (q : Request) (a n : ℕ) (ks : List ℕ) where
         payload = eqb-true (length (q .payload)) (2048 * n) (and-right block-fits data-fits t₂);
         several = leb-true 2 (length ks) (and-right (block-fits && data-fits) is-several t₃);
         whole = eqb-true (total ks) n (and-right three is-whole t₄);
-        named = and-right four (nameable ks) t₅;
-        near = leb-true (a + n) 0x100000000 (and-right five is-near t);
+        named = and-right four (nameable a ks) t;
       }
 
   cuts-test : Cuts → isCut q a n ks ≡ true
   cuts-test c =
       and-both
       (and-both
-      (and-both (and-both (and-both (eq-eqb (length (q .cdb)) 12 (c .cdb)) (eq-eqb (length (q .payload)) (2048 * n) (c .payload))) (le-leb 2 (length ks) (c .several)))
-      (eq-eqb (total ks) n (c .whole))) (c .named)) (le-leb (a + n) 0x100000000 (c .near))
+      (and-both (and-both (eq-eqb (length (q .cdb)) 12 (c .cdb)) (eq-eqb (length (q .payload)) (2048 * n) (c .payload))) (le-leb 2 (length ks) (c .several)))
+      (eq-eqb (total ks) n (c .whole))) (c .named)
 
 -- the parts of a command again are a cut, or there is but the command
-cut-of : (q : Request) (a : Lba) (n : ℕ) (ks : List ℕ) → decode (q .cdb) ≡ Write a n → Cuts q (a .0) n ks → CutOf q (partsOf (a .0) ks (q .payload))
+cut-of : (q : Request) (a : Lba) (n : ℕ) (ks : List Named) → decode (q .cdb) ≡ Write a n → Cuts q (a .0) n ks → CutOf q (partsOf (a .0) ks (q .payload))
 cut-of q a n ks is c =
     record {
       address = a;
@@ -138,21 +118,19 @@ cut-of q a n ks is c =
       several = subst (λ (k : ℕ). 2 ≤ k) (sym (length-parts (a .0) ks (q .payload))) (c .several);
       parts =
           subst (λ (k : ℕ). Parts a k (q .payload) (partsOf (a .0) ks (q .payload))) (c .whole)
-          (parts-of (a .0) ks (q .payload) (c .named) (c .payload ∙ ap (λ (k : ℕ). 2048 * k) (sym (c .whole)))
-          (subst (λ (k : ℕ). a .0 + k ≤ 0x100000000) (sym (c .whole)) (c .near)));
+          (parts-of (a .0) ks (q .payload) (c .named) (c .payload ∙ ap (λ (k : ℕ). 2048 * k) (sym (c .whole))));
     }
 
 pub parts-cut :
-    (q : Request) (a : Lba) (n : ℕ) (ks : List ℕ) → WriteOf q a n → 2 ≤ length ks → total ks ≡ n → nameable ks ≡ true → a .0 + n ≤ 0x100000000
+    (q : Request) (a : Lba) (n : ℕ) (ks : List Named) → WriteOf q a n → 2 ≤ length ks → total ks ≡ n → nameable (a .0) ks ≡ true
     → CutOf q (partsOf (a .0) ks (q .payload))
-parts-cut q a n ks w several whole named near =
-    cut-of q a n ks (w .command)
-    (record { cdb = w .cdb; payload = w .payload; several = several; whole = whole; named = named; near = near })
+parts-cut q a n ks w several whole names =
+    cut-of q a n ks (w .command) (record { cdb = w .cdb; payload = w .payload; several = several; whole = whole; named = names })
 
 abbrev Recut : Request → List Request → Type 0
 Recut q qs = (qs ≡ q ∷ []) ⊎ (CutOf q qs)
 
-recut-command : (ks : List ℕ) (q : Request) (c : Command) → decode (q .cdb) ≡ c → Recut q (recutCommand ks q c)
+recut-command : (ks : List Named) (q : Request) (c : Command) → decode (q .cdb) ≡ c → Recut q (recutCommand ks q c)
 unfolding recutCommand
 recut-command ks q (Write a n) is =
     by-cases (isCut q (a .0) n ks)
@@ -172,7 +150,7 @@ recut-command ks q (ReadDiscInformation dataType allocation) is = inl refl
 recut-command ks q (ReadTrackInformation addressType n allocation) is = inl refl
 recut-command ks q Unlisted is = inl refl
 
-recut-is : (a : Answer) (ks : List ℕ) (q : Request) → (recut a ks q ≡ q ∷ []) ⊎ ((a ≡ Accepted) × CutOf q (recut a ks q))
+recut-is : (a : Answer) (ks : List Named) (q : Request) → (recut a ks q ≡ q ∷ []) ⊎ ((a ≡ Accepted) × CutOf q (recut a ks q))
 unfolding recut
 recut-is Accepted ks q = elim (recut-command ks q (decode (q .cdb)) refl) [ inl e ↦ inl e | inr c ↦ inr (refl, c) ]
 recut-is (Link r) ks q = inl refl
@@ -239,7 +217,7 @@ again-one g ts (f ∷ (k ∷ fs)) hs s e q w = absurd (let r = cons-tail q in le
 
 -- the whole sequence
 again-given :
-    (cuts : List (List ℕ)) (gs hs : List Given) (s e : Drive) → asked hs ≡ second cuts gs s → Again s (given gs s) (given hs e)
+    (cuts : List (List Named)) (gs hs : List Given) (s e : Drive) → asked hs ≡ second cuts gs s → Again s (given gs s) (given hs e)
 unfolding second given
 again-given cuts [] hs s e q = subst (λ (l : List Given). Again s [] (given l e)) (sym (nothing-asked hs q)) (ends s)
 again-given [] (g ∷ gs) hs s e q =
@@ -264,11 +242,11 @@ again-given (ks ∷ cuts) (g ∷ gs) hs s e q =
 
 -- a WRITE in so many parts
 recut-parts :
-    (q : Request) (a : Lba) (n : ℕ) (ks : List ℕ) → WriteOf q a n → 2 ≤ length ks → total ks ≡ n → nameable ks ≡ true → a .0 + n ≤ 0x100000000
+    (q : Request) (a : Lba) (n : ℕ) (ks : List Named) → WriteOf q a n → 2 ≤ length ks → total ks ≡ n → nameable (a .0) ks ≡ true
     → length (recut Accepted ks q) ≡ length ks
 unfolding recut recutCommand
-recut-parts q a n ks w several whole named near =
-    let c : Cuts q (a .0) n ks = record { cdb = w .cdb; payload = w .payload; several = several; whole = whole; named = named; near = near } in
+recut-parts q a n ks w several whole names =
+    let c : Cuts q (a .0) n ks = record { cdb = w .cdb; payload = w .payload; several = several; whole = whole; named = names } in
     ap (λ (x : Command). length (recutCommand ks q x)) (w .command)
     ∙ (ap (λ (qs : List Request). length qs) (cond-yes (isCut q (a .0) n ks) (partsOf (a .0) ks (q .payload)) (q ∷ []) (cuts-test q (a .0) n ks c))
     ∙ length-parts (a .0) ks (q .payload))
@@ -323,5 +301,6 @@ wide =
           ∙ ap (λ (k : ℕ). g .change .pending k (getD (s .pending) i 0)) here;
       again = again-given;
       accepted = blank-accepted;
+      cut = parts-cut;
       parts = recut-parts;
     }

@@ -58,6 +58,24 @@ word32-requires-4 c κs = search needs
 word16-requires-5 : tie.Need-word16-requires-5
 word16-requires-5 c κs = search needs
 
+word32-requires-5 : tie.Need-word32-requires-5
+word32-requires-5 c κs = search needs
+
+cast-t27 : tie.Need-cast-t27
+cast-t27 c = search needs
+
+word32-requires-6 : tie.Need-word32-requires-6
+word32-requires-6 c κs = search needs
+
+word32-requires-7 : tie.Need-word32-requires-7
+word32-requires-7 c κs = search needs
+
+cast-t31 : tie.Need-cast-t31
+cast-t31 c = search needs
+
+word32-requires-8 : tie.Need-word32-requires-8
+word32-requires-8 c κs = search needs
+
 returns : tie.Need-returns
 unfolding decode
 returns c = rw (← c .before .byte-at .ensures, c .match .keys1)
@@ -100,7 +118,15 @@ returns-10 c = rw (c .word165 .ensures, c .before .word324 .ensures, c .before .
 
 returns-11 : tie.Need-returns-11
 unfolding decode
-returns-11 c = rw (← c .before .byte-at .ensures, ne-eqb _ _ (c .match .rest .0 .0 .0 .0 .0 .0 .0 .0 .0 .1), ne-eqb _ _ (c .match .rest .0 .0 .0 .0 .0 .0 .0 .0 .1), ne-eqb _ _ (c .match .rest .0 .0 .0 .0 .0 .0 .0 .1), ne-eqb _ _ (c .match .rest .0 .0 .0 .0 .0 .0 .1), ne-eqb _ _ (c .match .rest .0 .0 .0 .0 .0 .1), ne-eqb _ _ (c .match .rest .0 .0 .0 .0 .1), ne-eqb _ _ (c .match .rest .0 .0 .0 .1), ne-eqb _ _ (c .match .rest .0 .0 .1), ne-eqb _ _ (c .match .rest .0 .1), ne-eqb _ _ (c .match .rest .1))
+returns-11 c = rw (c .word326 .ensures, c .before .word325 .ensures, ← c .before .before .before .byte-at .ensures, c .before .before .match .keys11)
+
+returns-12 : tie.Need-returns-12
+unfolding decode
+returns-12 c = rw (c .word328 .ensures, c .before .word327 .ensures, ← c .before .before .before .byte-at .ensures, c .before .before .match .keys12)
+
+returns-13 : tie.Need-returns-13
+unfolding decode
+returns-13 c = rw (← c .before .byte-at .ensures, ne-eqb _ _ (c .match .rest .0 .0 .0 .0 .0 .0 .0 .0 .0 .0 .0 .1), ne-eqb _ _ (c .match .rest .0 .0 .0 .0 .0 .0 .0 .0 .0 .0 .1), ne-eqb _ _ (c .match .rest .0 .0 .0 .0 .0 .0 .0 .0 .0 .1), ne-eqb _ _ (c .match .rest .0 .0 .0 .0 .0 .0 .0 .0 .1), ne-eqb _ _ (c .match .rest .0 .0 .0 .0 .0 .0 .0 .1), ne-eqb _ _ (c .match .rest .0 .0 .0 .0 .0 .0 .1), ne-eqb _ _ (c .match .rest .0 .0 .0 .0 .0 .1), ne-eqb _ _ (c .match .rest .0 .0 .0 .0 .1), ne-eqb _ _ (c .match .rest .0 .0 .0 .1), ne-eqb _ _ (c .match .rest .0 .0 .1), ne-eqb _ _ (c .match .rest .0 .1), ne-eqb _ _ (c .match .rest .1))
 
 pub decode-spec : {M : Type 1} → statement M
 decode-spec =
@@ -124,6 +150,12 @@ decode-spec =
     byte-at-requires-5
     word32-requires-4
     word16-requires-5
+    word32-requires-5
+    cast-t27
+    word32-requires-6
+    word32-requires-7
+    cast-t31
+    word32-requires-8
     returns
     returns-2
     returns-3
@@ -134,4 +166,6 @@ decode-spec =
     returns-8
     returns-9
     returns-10
-    returns-11)
+    returns-11
+    returns-12
+    returns-13)

@@ -1,0 +1,114 @@
+-- Which WRITEs there are: what a block of bytes names, and the block of an address and a length.
+use Prim.Native.Nat.{ℕ, zero, suc, _+_, _*_, _/_, _%_, _≤_, _<_}
+use mathlib.Core.Path.{_≡_, refl, ap, _∙_, subst}
+use mathlib.Core.Logic.{_⊎_, inl, inr}
+use mathlib.Core.List.{List, [], _∷_, _++_}
+use native.Mathlib.Omega.{arith}
+use borrow.Author.Tests.{eqb-true}
+use lib.Dec.{eqb}
+use lib.ListN.{length}
+use Rattle.fragments.specs.Address.{lba}
+use Rattle.protocol.specs.Command.{byteAt, word16, word32, decode}
+use Rattle.protocol.specs.Reports.{low, high, bytes32}
+use Rattle.fragments.proofs.Laws.Bool.{cond-cases}
+use Rattle.drive.specs.Step.{request}
+use Rattle.drive.specs.Requests.{WriteOf}
+use Rattle.history.specs.Types.{Lba, Command, TestUnitReady, RequestSense, ReadCapacity, Read, Write, SynchronizeCache, ReserveTrack, CloseTrackSession, ReadDiscInformation, ReadTrackInformation, Unlisted}
+use Rattle.history.specs.Forms.{Form, ten, twelve, opcode, longest, addresses, writeBlock, Bytes, Names, WriteForms}
+
+-- a block that is a WRITE's has one of the two forms; nothing is said of any other command
+unfoldable HasForm : List ℕ → Command → Type 0
+HasForm b (Write a n) = Names ten b a n ⊎ Names twelve b a n
+HasForm b TestUnitReady = Unit {0}
+HasForm b (RequestSense allocation) = Unit {0}
+HasForm b ReadCapacity = Unit {0}
+HasForm b (Read a n) = Unit {0}
+HasForm b SynchronizeCache = Unit {0}
+HasForm b (ReserveTrack size) = Unit {0}
+HasForm b (CloseTrackSession function n) = Unit {0}
+HasForm b (ReadDiscInformation dataType allocation) = Unit {0}
+HasForm b (ReadTrackInformation addressType n allocation) = Unit {0}
+HasForm b Unlisted = Unit {0}
+
+-- numbers of two and of four bytes
+two-bytes : (b : List ℕ) → Bytes b → (i : ℕ) → word16 b i ≤ 0xFFFF
+two-bytes b h i = omega (arith, h .each i, h .each (i + 1))
+
+four-bytes : (b : List ℕ) → Bytes b → (i : ℕ) → word32 b i ≤ 0xFFFFFFFF
+four-bytes b h i = omega (arith, two-bytes b h i, two-bytes b h (i + 2))
+
+has-form : (b : List ℕ) → Bytes b → HasForm b (decode b)
+unfolding decode HasForm opcode longest
+has-form b h =
+    let o = byteAt b 0 in
+    let P = HasForm b in
+    let address : word32 b 2 < addresses = omega (arith, four-bytes b h 2) in
+    cond-cases P (eqb o 0x00) _ _ (λ t. tt)
+    (λ f₀. cond-cases P (eqb o 0x03) _ _ (λ t. tt)
+    (λ f₁. cond-cases P (eqb o 0x25) _ _ (λ t. tt)
+    (λ f₂. cond-cases P (eqb o 0x28) _ _ (λ t. tt)
+    (λ f₃. cond-cases P (eqb o 0x2A) _ _ (λ t. inl (record { opcode = eqb-true o 0x2A t; address = address; count = two-bytes b h 7 }))
+    (λ f₄. cond-cases P (eqb o 0x35) _ _ (λ t. tt)
+    (λ f₅. cond-cases P (eqb o 0x53) _ _ (λ t. tt)
+    (λ f₆. cond-cases P (eqb o 0x5B) _ _ (λ t. tt)
+    (λ f₇. cond-cases P (eqb o 0x51) _ _ (λ t. tt)
+    (λ f₈. cond-cases P (eqb o 0x52) _ _ (λ t. tt)
+    (λ f₉. cond-cases P (eqb o 0xA8) _ _ (λ t. tt)
+    (λ g₀. cond-cases P (eqb o 0xAA) _ _ (λ t. inr (record { opcode = eqb-true o 0xAA t; address = address; count = four-bytes b h 6 }))
+    (λ g₁. tt))))))))))))
+
+only-forms : (b : List ℕ) → Bytes b → (a : Lba) (n : ℕ) → decode b ≡ Write a n → Names ten b a n ⊎ Names twelve b a n
+unfolding HasForm
+only-forms b h a n e = subst (HasForm b) e (has-form b h)
+
+-- a number by its four bytes
+of-bytes :
+    (a b c d : ℕ) → b ≡ a / 0x100 → c ≡ b / 0x100 → d ≡ c / 0x100 → d < 0x100
+    → 0x10000 * (0x100 * (d % 0x100) + c % 0x100) + (0x100 * (b % 0x100) + a % 0x100) ≡ a
+of-bytes a b c d e f g h = omega (arith, e, f, g, h)
+
+of-four : (a : ℕ) → a < addresses → 0x10000 * (0x100 * (a / 0x1000000 % 0x100) + a / 0x10000 % 0x100) + (0x100 * (a / 0x100 % 0x100) + a % 0x100) ≡ a
+of-four a h = of-bytes a (a / 0x100) (a / 0x10000) (a / 0x1000000) refl (omega arith) (omega arith) (omega (arith, h))
+
+-- a block names its address and its length
+pub write-block :
+    (f : Form) (a n : ℕ) → a < addresses → n ≤ longest f → (x : List ℕ) → length x ≡ 2048 * n → WriteOf (request (writeBlock f a n) x []) (lba a) n
+unfolding decode writeBlock longest
+write-block ten a n near few x h =
+    let count : 0x100 * (n / 0x100 % 0x100) + n % 0x100 ≡ n = omega (arith, few) in
+    record {
+      cdb = refl;
+      command = ap (λ (k : ℕ). Write (lba k) (0x100 * high n + low n)) (of-four a near) ∙ ap (λ (k : ℕ). Write (lba a) k) count;
+      payload = h;
+    }
+write-block twelve a n near few x h =
+    record {
+      cdb = refl;
+      command = ap (λ (k : ℕ). Write (lba k) (word32 (bytes32 n) 0)) (of-four a near) ∙ ap (λ (k : ℕ). Write (lba a) k) (of-four n (omega (arith, few)));
+      payload = h;
+    }
+
+-- and its numbers are bytes
+bytes-none : Bytes []
+bytes-none = record { each = λ i. omega arith }
+
+bytes-more : {x : ℕ} {b : List ℕ} → x < 0x100 → Bytes b → Bytes (x ∷ b)
+bytes-more {x} {b} h k = record { each = each }
+  where
+    each : (i : ℕ) → byteAt (x ∷ b) i < 0x100
+    each zero = h
+    each (suc i) = k .each i
+
+four-more : (n : ℕ) {b : List ℕ} → Bytes b → Bytes (bytes32 n ++ b)
+four-more n k = bytes-more (omega arith) (bytes-more (omega arith) (bytes-more (omega arith) (bytes-more (omega arith) k)))
+
+block-bytes : (f : Form) (a n : ℕ) → Bytes (writeBlock f a n)
+unfolding writeBlock
+block-bytes ten a n =
+    bytes-more (omega arith) (bytes-more (omega arith) (four-more a (bytes-more (omega arith) (bytes-more (omega arith) (bytes-more (omega arith)
+    (bytes-more (omega arith) (bytes-more (omega arith) (bytes-more (omega arith) bytes-none))))))))
+block-bytes twelve a n =
+    bytes-more (omega arith) (bytes-more (omega arith) (four-more a (four-more n (bytes-more (omega arith) (bytes-more (omega arith) bytes-none)))))
+
+pub write-forms : WriteForms
+write-forms = record { only = only-forms; each = write-block; bytes = block-bytes }

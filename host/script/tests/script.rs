@@ -202,6 +202,8 @@ fn traces_are_made_of_the_same_cdbs() {
         let bytes = (first..=0xFF).take(CDB_LENGTH).map(|byte| format!("{byte:02x}"));
         every_byte += &format!("{}\n", bytes.collect::<Vec<_>>().join(" "));
     }
+    let example = fs::read_to_string(format!("{SCRIPTS}/twelve-byte.txt")).expect("it is there");
+    let commands: Vec<&str> = example.lines().filter(|line| !line.starts_with("disc")).collect();
     for text in [
         "2A 00 00000000 00 0014\n",
         "disc 300\n35 # flush\r\n\n 5B 00\t02",
@@ -209,6 +211,7 @@ fn traces_are_made_of_the_same_cdbs() {
         "AA 00 00000000 000012C0\nA8 00 00000000 000012C0 80 FF\nA8 00 FFFFFFFF FFFFFFFF\n",
         "aa 08 00000000 FFFFFFFF data fill A1\nAA0000000000000000030000 data file readings.csv\n",
         &every_byte,
+        &commands.join("\n"),
     ] {
         let parts = parsed(text).expect("a good script");
         let cdbs: Vec<Cdb> = parts[0].commands.iter().map(|command| command.cdb).collect();

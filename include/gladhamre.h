@@ -72,13 +72,13 @@ uint32_t gladhamre_blank(uint32_t capacity, uint32_t *state, size_t state_words)
 /* Answers one command.
  *
  * cdb      the command block, 12 bytes.
- * data     the sectors of a WRITE (2Ah), 2,048 bytes for each; empty for every other command. An opcode that is not listed and comes
- *          with data is L4, like every other command with data that it does not take.
+ * data     the sectors of a WRITE (2Ah, AAh), exactly 2,048 bytes for each; empty for every other command. An opcode that is not
+ *          listed and comes with data is L4, like every other command with data that it does not take.
  * state    the image, GLADHAMRE_STATE_WORDS words.
  * medium   C blocks of 32,768 bytes.
  * pending  the pending buffer, 32,768 bytes: the pending sectors first, one after another. A READ takes them from here.
- * reply    the reply buffer: at least 2,048 bytes for each sector of a READ (28h), 8 for 25h, the allocation length cut to the report
- *          for 03h, 51h and 52h; any length for the other commands. Bytes past the reply are left alone.
+ * reply    the reply buffer: at least 2,048 bytes for each sector of a READ (28h, A8h), 8 for 25h, the allocation length cut to the
+ *          report for 03h, 51h and 52h; any length for the other commands. Bytes past the reply are left alone.
  * reply_count, recorded: the reply's length, and the number of blocks that the command recorded; 0 on every refusal.
  *
  * Refusals are tested in this order: L1; L2 for a C that can be read and is out of range, a medium that is not C blocks, a pending
@@ -98,6 +98,10 @@ uint32_t gladhamre_command(
  *
  * Buffers. All belong to the caller and are lent for the call alone. No two of them may overlap, reply_count and recorded included. A
  * pointer is never null and is aligned for its type, also where the length is 0. Nothing else may touch them during a call.
+ *
+ * Lengths. READ (12) and WRITE (12), A8h and AAh, have a length of four bytes, so 2,048 times it is up to 8,796,093,020,160: compute it in
+ * 64 bits, which size_t has here. L4 asks for that many bytes also where the drive would refuse the command, and more than the disc's
+ * 32,768 C are never accepted. Where a host asks for more than there is room for, lend what there is: that is L4, and changes nothing.
  *
  * Linking. The archive calls memcpy and memset. Have GLADHAMRE_STACK_LENGTH bytes of stack free for a call, and what interrupts take.
  *

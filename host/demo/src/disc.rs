@@ -3,6 +3,8 @@
 use crate::fragments::{recorded_end, BLOCK_SECTORS};
 use gladhamre::cdb::{self, Cdb};
 use gladhamre::{Accepted, Lent, Record, Refusal, State, BLOCK_BYTES};
+use mapped::Mapped;
+use std::io;
 
 /// What the buffers hold before anything is written.
 const STALE: u8 = 0xA5;
@@ -16,10 +18,22 @@ pub struct Disc {
     zero_filled: Vec<bool>,
 }
 
-/// A command's answer and reply.
+/// A command's answer and the reply buffer that it was lent.
 pub struct Outcome {
     pub answer: Result<Accepted, Refusal>,
-    pub reply: Vec<u8>,
+    buffer: Mapped,
+}
+
+impl Outcome {
+    pub fn reply(&self) -> &[u8] {
+        &self.buffer[..self.answer.map_or(0, |accepted| accepted.reply_count as usize)]
+    }
+}
+
+/// A buffer to lend, of any length that a command asks for.
+pub fn zeros(length: usize) -> io::Result<Mapped> {
+    let named = |error| io::Error::other(format!("no buffer of {length} bytes: {error}"));
+    Mapped::zeros(length).map_err(named)
 }
 
 impl Disc {
@@ -35,19 +49,18 @@ impl Disc {
     }
 
     /// Sends a command with a reply buffer of the length that it asks for.
-    pub fn send(&mut self, cdb: &Cdb, data: &[u8]) -> Outcome {
+    pub fn send(&mut self, cdb: &Cdb, data: &[u8]) -> io::Result<Outcome> {
         let before: Vec<Record> = self.state.records().collect();
-        let mut reply = vec![0; cdb::reply_room(cdb)];
+        let mut buffer = zeros(cdb::reply_room(cdb))?;
         let answer = self.state.command(Lent {
             cdb,
             data,
             medium: &mut self.medium,
             pending: &mut self.pending,
-            reply: &mut reply,
+            reply: &mut buffer,
         });
-        reply.truncate(answer.map_or(0, |accepted| accepted.reply_count as usize));
         self.note_zero_filled(&before);
-        Outcome { answer, reply }
+        Ok(Outcome { answer, buffer })
     }
 
     /// The zeros that a command adds to a fragment are the last of its recorded sectors: after the

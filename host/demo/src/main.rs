@@ -2,7 +2,8 @@
 //!
 //!     demo [SCRIPT] [--image FILE]
 //!
-//! Ends with 0 if every answer is the documented one, 1 if one is not, 2 where it cannot start.
+//! Ends with 0 if every answer is the documented one, 1 if one is not, 2 where it cannot start or go
+//! on.
 
 use demo::{image, play, shift, text, Map, Run};
 use std::fs;

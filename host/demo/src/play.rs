@@ -1,10 +1,11 @@
 //! Runs of commands, with or without documented answers, played on a disc and shown as a table.
 
-use crate::disc::{Disc, Outcome};
+use crate::disc::{zeros, Disc, Outcome};
 use crate::fragments::tail_next;
 use crate::{table, words};
 use gladhamre::cdb::{self, Cdb};
 use gladhamre::{Record, Refusal, SECTOR_BYTES};
+use mapped::Mapped;
 use script::{Data, Part};
 use std::io::{self, Write};
 
@@ -38,22 +39,36 @@ pub struct Line {
 }
 
 /// The bytes that go with a command.
-pub fn data_bytes(data: &Data, cdb: &Cdb) -> Vec<u8> {
-    let length = cdb::data_length(cdb);
+pub fn data_bytes(data: &Data, cdb: &Cdb) -> io::Result<Mapped> {
+    let mut bytes = zeros(match data {
+        Data::Stamp | Data::Fill(_) => cdb::data_length(cdb),
+        Data::Zeros(count) => *count,
+        Data::Bytes(bytes) => bytes.len(),
+    })?;
     match data {
-        Data::Stamp => stamped(cdb::run(cdb).0, length / SECTOR_BYTES),
-        Data::Fill(byte) => vec![*byte; length],
-        Data::Zeros(count) => vec![0; *count],
-        Data::Bytes(bytes) => bytes.clone(),
+        Data::Stamp => stamp(&mut bytes, cdb::value(cdb)),
+        Data::Fill(byte) => bytes.fill(*byte),
+        Data::Zeros(_) => {}
+        Data::Bytes(from) => bytes.copy_from_slice(from),
     }
+    Ok(bytes)
 }
 
 /// Sectors that say their addresses over and over.
 pub fn stamped(address: u32, sectors: usize) -> Vec<u8> {
-    (address..)
-        .take(sectors)
-        .flat_map(|at| format!("sector {at:>8}\n").repeat(128).into_bytes())
-        .collect()
+    let mut bytes = vec![0; sectors * SECTOR_BYTES];
+    stamp(&mut bytes, address);
+    bytes
+}
+
+/// Stamps the sectors from an address on, also past the last that a command block can name.
+fn stamp(bytes: &mut [u8], first: u32) {
+    for (sector, address) in bytes.chunks_mut(SECTOR_BYTES).zip(u64::from(first)..) {
+        let text = format!("sector {address:>8}\n").into_bytes();
+        for line in sector.chunks_mut(text.len()) {
+            line.copy_from_slice(&text[..line.len()]);
+        }
+    }
 }
 
 /// What document 01 says of a command.
@@ -90,12 +105,13 @@ impl Expected {
         compare("pending", disc.state.pending_count().to_string(), self.pending.to_string());
         let list: Vec<Record> = disc.state.records().collect();
         compare("list", words::list(&list), words::list(&self.list));
-        if outcome.reply != self.reply {
+        let reply = outcome.reply();
+        if reply != self.reply {
             found.push(format!(
                 "reply of {} bytes, documented {} bytes{}",
-                outcome.reply.len(),
+                reply.len(),
                 self.reply.len(),
-                first_difference(&outcome.reply, &self.reply)
+                first_difference(reply, &self.reply)
             ));
         }
         found
@@ -117,7 +133,7 @@ fn first_difference(is: &[u8], should: &[u8]) -> String {
 }
 
 /// Plays a run on a blank disc and prints its table. Gives the disc, and how many answers are not as
-/// documented.
+/// documented. An error names the command for which the system has no buffer.
 pub fn play(run: &Run, out: &mut impl Write) -> io::Result<(Disc, usize)> {
     let mut disc = Disc::blank(run.capacity)
         .map_err(|_| io::Error::other(format!("no disc has {} blocks", run.capacity)))?;
@@ -126,7 +142,10 @@ pub fn play(run: &Run, out: &mut impl Write) -> io::Result<(Disc, usize)> {
     table::heading(out)?;
     for (index, line) in run.lines.iter().enumerate() {
         let before = disc.state.clone();
-        let outcome = disc.send(&line.cdb, &data_bytes(&line.data, &line.cdb));
+        let sent = data_bytes(&line.data, &line.cdb).and_then(|data| disc.send(&line.cdb, &data));
+        let outcome = sent.map_err(|error| {
+            io::Error::other(format!("{}, command {}: {error}", run.title, index + 1))
+        })?;
         let differences = line.expected.as_ref().map(|e| e.differences(&outcome, &disc));
         wrong += usize::from(differences.as_ref().is_some_and(|found| !found.is_empty()));
         let command = table::Command { cdb: &line.cdb, outcome: &outcome, before: &before };

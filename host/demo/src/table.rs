@@ -4,7 +4,7 @@
 use crate::disc::{Disc, Outcome};
 use crate::fragments::{next_writable, pending_in, tail_next};
 use crate::{list, words};
-use gladhamre::cdb::{Cdb, READ};
+use gladhamre::cdb::{self, Cdb};
 use gladhamre::{Refusal, State};
 use std::io::{self, Write};
 
@@ -56,10 +56,10 @@ pub fn row(
     for difference in differences.unwrap_or_default() {
         writeln!(out, "     NOT AS DOCUMENTED: {difference}")?;
     }
-    if let Some(text) = words::reply(cdb, &outcome.reply) {
+    if let Some(text) = words::reply(cdb, outcome.reply()) {
         writeln!(out, "     reply of {text}")?;
-        if cdb[0] != READ {
-            writeln!(out, "     {}", words::reply_bytes(&outcome.reply))?;
+        if !cdb::is_read(cdb) {
+            writeln!(out, "     {}", words::reply_bytes(outcome.reply()))?;
         }
     }
     Ok(())

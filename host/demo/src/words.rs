@@ -6,13 +6,15 @@ use gladhamre::{Record, Refusal};
 
 /// A command block in words.
 pub fn command(cdb: &Cdb) -> String {
-    let (value, length) = cdb::run(cdb);
+    let value = cdb::value(cdb);
     match cdb[0] {
         cdb::TEST_UNIT_READY => "TEST UNIT READY".into(),
         cdb::REQUEST_SENSE => "REQUEST SENSE".into(),
         cdb::READ_CAPACITY => "READ CAPACITY".into(),
-        cdb::READ => format!("READ {} at {value}", sectors(length.into())),
-        cdb::WRITE => format!("WRITE {} at {value}", sectors(length.into())),
+        cdb::READ => run("READ", cdb),
+        cdb::READ_12 => run("READ (12)", cdb),
+        cdb::WRITE => run("WRITE", cdb),
+        cdb::WRITE_12 => run("WRITE (12)", cdb),
         cdb::SYNCHRONIZE_CACHE => "SYNCHRONIZE CACHE".into(),
         cdb::READ_DISC_INFORMATION => "READ DISC INFORMATION".into(),
         cdb::READ_FRAGMENT_INFORMATION => track_information(cdb[1] & 0b11, value),
@@ -20,6 +22,11 @@ pub fn command(cdb: &Cdb) -> String {
         cdb::CLOSE => close(cdb[2] & 0b111, u16::from_be_bytes([cdb[4], cdb[5]])),
         opcode => format!("opcode {opcode:02X}h, not listed"),
     }
+}
+
+fn run(name: &str, cdb: &Cdb) -> String {
+    let (address, length) = cdb::run(cdb);
+    format!("{name} {} at {address}", sectors(length))
 }
 
 fn track_information(by: u8, value: u32) -> String {
@@ -147,7 +154,7 @@ pub fn reply(cdb: &Cdb, reply: &[u8]) -> Option<String> {
             four(16),
             four(24)
         ),
-        (cdb::READ, _) => sector_contents(reply),
+        (cdb::READ | cdb::READ_12, _) => sector_contents(reply),
         _ => hex(reply),
     };
     Some(format!("{sent}: {text}"))

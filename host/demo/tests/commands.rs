@@ -5,6 +5,7 @@ use demo::{data_bytes, fragment_list, reply_bytes, Disc, Outcome};
 use gladhamre::{
     cdb, raw, Lent, Refusal, State, BLOCK_BYTES, RECORD_LIMIT, SECTOR_BYTES, STATE_WORDS,
 };
+use mapped::Mapped;
 use std::collections::BTreeSet;
 use std::fs;
 use std::path::{Path, PathBuf};
@@ -59,10 +60,11 @@ impl Player {
             self.disc = blank(capacity.parse().expect("a capacity"));
             return;
         }
-        let parts = script::parse(line, Path::new(ROOT)).expect("a line of a script");
+        let text = format!("disc {}\n{line}", self.disc.state.capacity());
+        let parts = script::parse(&text, Path::new(ROOT)).expect("a line of a script");
         let command = &parts[0].commands[0];
-        let data = data_bytes(&command.data, &command.cdb);
-        let outcome = self.disc.send(&command.cdb, &data);
+        let data = data_bytes(&command.data, &command.cdb).expect("address space");
+        let outcome = self.disc.send(&command.cdb, &data).expect("address space");
         self.answers.insert(name(&outcome.answer));
         self.answer = Some(told(&command.cdb, &outcome));
         self.listed = false;
@@ -92,9 +94,9 @@ fn told(cdb: &cdb::Cdb, outcome: &Outcome) -> String {
         1 => text += "; 1 block recorded",
         blocks => text += &format!("; {blocks} blocks recorded"),
     }
-    match outcome.reply.as_slice() {
+    match outcome.reply() {
         [] => {}
-        reply if cdb[0] == cdb::READ => text += &format!("; reply {}", sectors(reply)),
+        reply if cdb::is_read(cdb) => text += &format!("; reply {}", sectors(reply)),
         reply => text += &format!("; reply {}", reply_bytes(reply)),
     }
     text
@@ -187,22 +189,26 @@ fn table<'a>(manual: &'a str, heading: &str) -> Vec<Vec<&'a str>> {
 /// What is lent for one command on the blank disc of 256 blocks.
 struct Buffers {
     cdb: Vec<u8>,
-    data: Vec<u8>,
+    data: Mapped,
     state: Vec<u32>,
     medium: Vec<u8>,
     pending: Vec<u8>,
-    reply: Vec<u8>,
+    reply: Mapped,
+}
+
+fn zeros(length: usize) -> Mapped {
+    Mapped::zeros(length).expect("address space")
 }
 
 impl Buffers {
     fn fitting(cdb: cdb::Cdb) -> Buffers {
         Buffers {
             cdb: cdb.to_vec(),
-            data: vec![0; cdb::data_length(&cdb)],
+            data: zeros(cdb::data_length(&cdb)),
             state: State::blank(256).expect("a capacity").words().to_vec(),
             medium: vec![0; 256 * BLOCK_BYTES],
             pending: vec![0; BLOCK_BYTES],
-            reply: vec![0; cdb::reply_room(&cdb)],
+            reply: zeros(cdb::reply_room(&cdb)),
         }
     }
 
@@ -221,14 +227,22 @@ impl Buffers {
     }
 }
 
-/// The buffers that a row of the table speaks of.
-fn lent(row: &str) -> Buffers {
-    let mut lent = Buffers::fitting(match row {
+/// The command that a row of the table speaks of.
+fn command_of(row: &str) -> cdb::Cdb {
+    match row {
         row if row.contains("WRITE of 1") => cdb::write(0, 1),
         row if row.contains("READ of 1") => cdb::read(0, 1),
+        row if row.contains("WRITE (12) of 2,097,152") => cdb::write_12(0, 2_097_152),
+        row if row.contains("WRITE (12) of 4,294,967,295") => cdb::write_12(0, u32::MAX),
+        row if row.contains("READ (12) of 4,294,967,295") => cdb::read_12(0, u32::MAX),
         row if row.contains("opcode 12h") => cdb::opcode_only(0x12),
         _ => cdb::opcode_only(cdb::TEST_UNIT_READY),
-    });
+    }
+}
+
+/// The buffers that it is lent there.
+fn lent(row: &str) -> Buffers {
+    let mut lent = Buffers::fitting(command_of(row));
     match row {
         "a command block of 10 bytes" => lent.cdb.truncate(10),
         "a command block of 10 bytes and no pending buffer" => {
@@ -241,9 +255,15 @@ fn lent(row: &str) -> Buffers {
         "a state one word short" => lent.state.truncate(STATE_WORDS - 1),
         "a state whose first record starts at block 1" => lent.state[8] = 1,
         "a state with the sense 5/21/01" => lent.state[2..5].copy_from_slice(&[0x5, 0x21, 0x01]),
-        "a WRITE of 1 with 2,047 bytes of data" => lent.data.truncate(2_047),
-        "a READ of 1 with a reply buffer of 2,047 bytes" => lent.reply.truncate(2_047),
-        "opcode 12h with one byte of data" => lent.data.push(0),
+        "a WRITE of 1 with 2,047 bytes of data" => lent.data = zeros(2_047),
+        "a READ of 1 with a reply buffer of 2,047 bytes" => lent.reply = zeros(2_047),
+        "a WRITE (12) of 2,097,152, which takes 2^32 bytes, without data" => lent.data = zeros(0),
+        row if row.ends_with(" 8,796,093,020,159 bytes of data") => {
+            lent.data = zeros(8_796_093_020_159)
+        }
+        row if row.ends_with(" 8,796,093,020,159 bytes") => lent.reply = zeros(8_796_093_020_159),
+        row if row.contains(" 8,796,093,020,160 bytes") => {}
+        "opcode 12h with one byte of data" => lent.data = zeros(1),
         "opcode 12h without data" => {}
         _ => panic!("{row:?} is not tried"),
     }
@@ -254,7 +274,7 @@ fn lent(row: &str) -> Buffers {
 fn link_refusals_are_what_the_drive_answers() {
     let manual = manual();
     let rows = table(&manual, "| Lent | Answer |");
-    assert_eq!(rows.len(), 12);
+    assert_eq!(rows.len(), 17);
     for row in rows {
         assert_eq!(lent(row[0]).answer(), row[1], "{}", row[0]);
     }
@@ -275,7 +295,9 @@ fn numbers_are_the_drives() {
         ("sectors of a block", (BLOCK_BYTES / SECTOR_BYTES).to_string()),
         ("bytes of a block, and of the pending buffer", BLOCK_BYTES.to_string()),
         ("records, the tail's included", RECORD_LIMIT.to_string()),
-        ("longest READ and WRITE", format!("{} sectors", cdb::LONGEST_DATA / SECTOR_BYTES)),
+        ("longest READ and WRITE by 28h and 2Ah", format!("{} sectors", u16::MAX)),
+        ("longest READ and WRITE by A8h and AAh", format!("{} sectors", u32::MAX)),
+        ("most bytes that a READ or WRITE asks for", cdb::LONGEST_DATA.to_string()),
     ] {
         assert_eq!(number(what), is, "{what}");
     }
@@ -322,14 +344,27 @@ fn definitions_are_there() {
     assert!(named > 100, "{named} definitions are named");
 }
 
-/// Every command has its chapter, and no other has.
+/// The opcodes that a chapter's heading names, as `## 28h READ, A8h READ (12)`.
+fn opcodes(heading: &str) -> Vec<u8> {
+    heading
+        .split(", ")
+        .filter_map(|name| u8::from_str_radix(name.split_once("h ")?.0, 16).ok())
+        .collect()
+}
+
+/// Every command has its chapter, and no other has. They stand in the order of their opcodes, the two
+/// forms of a command in one.
 #[test]
 fn commands_are_all_there() {
     let manual = manual();
-    let chapters: Vec<u8> = manual
+    let chapters: Vec<Vec<u8>> = manual
         .lines()
-        .filter_map(|line| line.strip_prefix("## ")?.split_once("h ")?.0.get(..2))
-        .filter_map(|opcode| u8::from_str_radix(opcode, 16).ok())
+        .filter_map(|line| line.strip_prefix("## "))
+        .map(opcodes)
+        .filter(|opcodes| !opcodes.is_empty())
         .collect();
-    assert_eq!(chapters, cdb::OPCODES);
+    assert!(chapters.is_sorted());
+    let mut all = chapters.concat();
+    all.sort();
+    assert_eq!(all, cdb::OPCODES);
 }

@@ -4,9 +4,13 @@
 pub struct Lent<'a> {
     /// The command block.
     pub cdb: &'a [u8],
+    /// The sectors of a WRITE of either form, [`cdb::data_length`] bytes; empty for every other
+    /// command.
     pub data: &'a [u8],
     pub medium: &'a mut [u8],
     pub pending: &'a mut [u8],
+    /// At least [`cdb::reply_room`] bytes. Both lengths are asked for also where the drive will refuse
+    /// the command: a READ (12) may ask for terabytes.
     pub reply: &'a mut [u8],
 }
 

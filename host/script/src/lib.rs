@@ -18,6 +18,9 @@ pub const LARGEST_CAPACITY: u32 = 143_444;
 /// The capacity of a script that names none.
 const CAPACITY: u32 = 300;
 
+/// The bytes of a block, which is 16 sectors.
+const BLOCK_BYTES: usize = 16 * SECTOR_BYTES;
+
 /// No script has more bytes.
 const LONGEST_SCRIPT: usize = 16 << 20;
 
@@ -42,7 +45,7 @@ pub enum Data {
     Stamp,
     /// As much as the command asks for, of one byte.
     Fill(u8),
-    /// So many zeros, whatever the command asks for.
+    /// So many zeros: a length that the script names, or in place of bytes that nobody looks at.
     Zeros(usize),
     /// These bytes.
     Bytes(Vec<u8>),
@@ -81,11 +84,11 @@ pub fn parse(text: &str, folder: &Path) -> Result<Vec<Part>, ScriptError> {
             [] => {}
             ["disc", rest @ ..] => parts.push(blank_disc(rest).map_err(at)?),
             words => {
-                let command = command(words, folder).map_err(at)?;
                 if parts.is_empty() {
                     parts.push(Part { capacity: CAPACITY, commands: Vec::new() });
                 }
-                parts.last_mut().expect("there is one now").commands.push(command);
+                let part = parts.last_mut().expect("there is one now");
+                part.commands.push(command(words, folder, part.capacity).map_err(at)?);
             }
         }
     }
@@ -112,13 +115,12 @@ fn blank_disc(words: &[&str]) -> Result<Part, String> {
     Ok(Part { capacity, commands: Vec::new() })
 }
 
-fn command(words: &[&str], folder: &Path) -> Result<Command, String> {
+/// A command for a disc of this capacity.
+fn command(words: &[&str], folder: &Path, capacity: u32) -> Result<Command, String> {
     let end = words.iter().position(|&word| word == "data").unwrap_or(words.len());
     let cdb = cdb(&words[..end])?;
-    let data = match words.get(end + 1..) {
-        None => Data::Stamp,
-        Some(source) => data(source, &cdb, folder)?,
-    };
+    let source = words.get(end + 1..).unwrap_or(&["stamp"]);
+    let data = data(source, cdb::data_length(&cdb), folder, capacity as usize * BLOCK_BYTES)?;
     Ok(Command { cdb, data })
 }
 
@@ -149,40 +151,53 @@ fn hex_bytes(word: &str) -> Result<Vec<u8>, String> {
     Ok(digits.chunks(2).map(|pair| 16 * pair[0] + pair[1]).collect())
 }
 
-/// Where data comes from.
-fn data(words: &[&str], cdb: &Cdb, folder: &Path) -> Result<Data, String> {
-    match words {
-        ["stamp"] => Ok(Data::Stamp),
+/// Where data comes from, for a command that asks for so many bytes and a disc that holds so many.
+/// A WRITE of more than the disc holds is refused, and its bytes are never looked at: zeros of that
+/// length take their place, since it may ask for terabytes.
+fn data(words: &[&str], asked: usize, folder: &Path, holds: usize) -> Result<Data, String> {
+    let data = match words {
+        ["stamp"] => Data::Stamp,
         ["fill", byte] => match hex_bytes(byte).as_deref() {
-            Ok([byte]) => Ok(Data::Fill(*byte)),
-            _ => Err(format!("`fill` takes one byte in hexadecimal, not {byte:?}")),
+            Ok([byte]) => Data::Fill(*byte),
+            _ => return Err(format!("`fill` takes one byte in hexadecimal, not {byte:?}")),
         },
-        ["length", count] => {
-            let count: usize =
-                count.parse().map_err(|_| format!("{count:?} is not a number of bytes"))?;
-            if count > cdb::LONGEST_DATA {
-                return Err(format!("no command takes {count} bytes of data"));
-            }
-            Ok(Data::Zeros(count))
-        }
-        ["file", name] => file(&folder.join(name), cdb),
-        _ => Err("data is `stamp`, `fill BYTE`, `file NAME` or `length COUNT`".into()),
-    }
+        ["length", count] => return length(count),
+        ["file", name] => file(&folder.join(name), asked, holds)?,
+        _ => return Err("data is `stamp`, `fill BYTE`, `file NAME` or `length COUNT`".into()),
+    };
+    Ok(if asked > holds { Data::Zeros(asked) } else { data })
 }
 
-/// A file's bytes, its last sector filled up with zeros. No more is read than the command takes.
-fn file(path: &Path, cdb: &Cdb) -> Result<Data, String> {
-    let wanted = cdb::data_length(cdb) / SECTOR_BYTES;
-    let says = |has: String| format!("{} has {has}, the command takes {wanted}", path.display());
-    let Some(mut bytes) = read_at_most(path, wanted * SECTOR_BYTES)? else {
-        return Err(says(format!("more than {}", sectors(wanted))));
-    };
-    let found = bytes.len().div_ceil(SECTOR_BYTES);
-    if found != wanted {
-        return Err(says(sectors(found)));
+/// Zeros of a length of the script's own.
+fn length(count: &str) -> Result<Data, String> {
+    let bytes = count.parse().map_err(|_| format!("{count:?} is not a number of bytes"))?;
+    if bytes > cdb::LONGEST_DATA {
+        return Err(format!("no command takes {bytes} bytes of data"));
     }
-    bytes.resize(found * SECTOR_BYTES, 0);
+    Ok(Data::Zeros(bytes))
+}
+
+/// A file's bytes, its last sector filled up with zeros. It is read only if it has the sectors that
+/// the command takes, and the disc holds them.
+fn file(path: &Path, asked: usize, holds: usize) -> Result<Data, String> {
+    let wanted = asked / SECTOR_BYTES;
+    let found = sectors_of(length_of(path)?);
+    if found != wanted {
+        let (path, has) = (path.display(), sectors(found));
+        return Err(format!("{path} has {has}, the command takes {wanted}"));
+    }
+    if asked > holds {
+        return Ok(Data::Zeros(asked));
+    }
+    let bytes = read_at_most(path, asked)?.filter(|bytes| sectors_of(bytes.len()) == wanted);
+    let mut bytes = bytes.ok_or_else(|| format!("{} changes while it is read", path.display()))?;
+    bytes.resize(asked, 0);
     Ok(Data::Bytes(bytes))
+}
+
+/// How many sectors so many bytes begin.
+fn sectors_of(bytes: usize) -> usize {
+    bytes.div_ceil(SECTOR_BYTES)
 }
 
 fn sectors(count: usize) -> String {
@@ -192,13 +207,22 @@ fn sectors(count: usize) -> String {
     }
 }
 
-/// A file's bytes, or nothing where it has more than so many. A pipe or a device is refused: opening
-/// it may wait for ever, and what it gives once it does not give again when the script is played.
-fn read_at_most(path: &Path, limit: usize) -> Result<Option<Vec<u8>>, String> {
-    let named = |error| format!("{}: {error}", path.display());
-    if !fs::metadata(path).map_err(named)?.is_file() {
+/// The length of an ordinary file. A pipe or a device is refused: opening it may wait for ever, and
+/// what it gives once it does not give again when the script is played.
+fn length_of(path: &Path) -> Result<usize, String> {
+    let metadata = fs::metadata(path).map_err(|error| format!("{}: {error}", path.display()))?;
+    if !metadata.is_file() {
         return Err(format!("{} is no ordinary file", path.display()));
     }
+    Ok(metadata.len() as usize)
+}
+
+/// An ordinary file's bytes, or nothing where it has more than so many.
+fn read_at_most(path: &Path, limit: usize) -> Result<Option<Vec<u8>>, String> {
+    if length_of(path)? > limit {
+        return Ok(None);
+    }
+    let named = |error| format!("{}: {error}", path.display());
     let file = File::open(path).map_err(named)?;
     let mut bytes = Vec::new();
     file.take(limit as u64 + 1).read_to_end(&mut bytes).map_err(named)?;

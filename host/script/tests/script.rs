@@ -23,7 +23,9 @@ fn scripts_are_read() {
         2a0000000000000001000000 data fill FF # and another\n\
         disc 256\n\
         2A 00 00000000 00 0001\n\
-        00 data length 7\r\n";
+        00 data length 7\r\n\
+        AA 00 00000010 00000FF0 00 00 data fill 12\n\
+        A8 00 00000010 00000FF0\n";
     let parts = parsed(text).expect("a good script");
     assert_eq!(parts.iter().map(|part| part.capacity).collect::<Vec<_>>(), [300, 256]);
     assert_eq!(parts[0].commands[0].cdb, cdb::write(0, 1));
@@ -31,6 +33,36 @@ fn scripts_are_read() {
     assert_eq!(parts[1].commands[0].cdb, cdb::write(0, 1));
     assert_eq!(parts[1].commands[0].data, Data::Stamp);
     assert_eq!(parts[1].commands[1].data, Data::Zeros(7));
+    assert_eq!(parts[1].commands[2].cdb, cdb::write_12(16, 4_080));
+    assert_eq!(parts[1].commands[2].data, Data::Fill(0x12));
+    assert_eq!(parts[1].commands[3].cdb, cdb::read_12(16, 4_080));
+}
+
+/// The data of a WRITE of more sectors than its disc has is zeros, however it is named; that of one
+/// sector less is not.
+#[test]
+fn zeros_take_the_place_of_what_no_disc_holds() {
+    let data_of = |line: &str| {
+        let mut parts = parsed(line).expect("a good script");
+        parts.remove(0).commands.remove(0).data
+    };
+    let longest = Data::Zeros(cdb::LONGEST_DATA);
+    for (line, data) in [
+        ("AA 00 00000000 FFFFFFFF", longest.clone()),
+        ("AA 00 FFFFFFFF FFFFFFFF data stamp", longest.clone()),
+        ("AA 00 00000000 FFFFFFFF data fill A1", longest.clone()),
+        ("AA 00 00000000 FFFFFFFF data length 8796093020160", longest.clone()),
+        ("AA 00 00000000 00000001 data length 8796093020160", longest),
+        ("AA 00 00000000 FFFFFFFF data length 7", Data::Zeros(7)),
+        ("AA 00 00000000 000012C0", Data::Stamp),
+        ("AA 00 00000000 000012C1", Data::Zeros(4_801 * cdb::SECTOR_BYTES)),
+        ("disc 256\nAA 00 00000000 00001000 data fill A1", Data::Fill(0xA1)),
+        ("disc 256\nAA 00 00000000 00001001 data fill A1", Data::Zeros(4_097 * cdb::SECTOR_BYTES)),
+        ("2A 00 00000000 00 12C1 data fill A1", Data::Zeros(4_801 * cdb::SECTOR_BYTES)),
+        ("A8 00 00000000 FFFFFFFF", Data::Stamp),
+    ] {
+        assert_eq!(data_of(line), data, "{line}");
+    }
 }
 
 /// What is no command block, with the message; tools/trace says the same.
@@ -69,7 +101,11 @@ fn bad_scripts_are_refused_by_line() {
         ("disc 143445", "line 1: a disc has 256 to 143444 blocks, this one 143445"),
         ("00 data fill 0000", "line 1: `fill` takes one byte in hexadecimal, not \"0000\""),
         ("00 data length x", "line 1: \"x\" is not a number of bytes"),
-        ("00 data length 134215681", "line 1: no command takes 134215681 bytes of data"),
+        ("00 data length 8796093020161", "line 1: no command takes 8796093020161 bytes of data"),
+        (
+            "AA 00 00000000 FFFFFFFF data length 99999999999999999999",
+            "line 1: \"99999999999999999999\" is not a number of bytes",
+        ),
     ]) {
         assert_eq!(parsed(text).err().as_deref(), Some(message), "{text:?}");
     }
@@ -82,28 +118,42 @@ fn sparse(bytes: u64) -> PathBuf {
     path
 }
 
-/// No more of a file is read than the command takes, however long it is.
+/// A file's length is looked at first: none is read that has other sectors than the command takes, or
+/// more than the disc has.
 #[test]
 fn files_have_the_sectors_that_the_command_takes() {
-    let refused = |sectors: u16, name: &str| {
-        parsed(&format!("2A 00 00000000 00 {sectors:04X} data file {name}")).expect_err(name)
-    };
+    let with = |cdb: &str, name: &str| parsed(&format!("{cdb} data file {name}"));
     let endless = sparse(1 << 36).display().to_string();
-    for (sectors, name, says) in [
-        (5, "readings.csv", "readings.csv has 3 sectors, the command takes 5".to_owned()),
-        (5, &endless, format!("{endless} has more than 5 sectors, the command takes 5")),
-        (1, &endless, format!("{endless} has more than 1 sector, the command takes 1")),
-        (1, "/dev/zero", "/dev/zero is no ordinary file".into()),
-        (1, "..", ".. is no ordinary file".into()),
+    let has = format!("{endless} has 33554432 sectors, the command takes");
+    for (cdb, name, says) in [
+        ("2A", "readings.csv", "readings.csv has 3 sectors, the command takes 0".into()),
+        (
+            "2A0000000000000005",
+            "readings.csv",
+            "readings.csv has 3 sectors, the command takes 5".into(),
+        ),
+        (
+            "AA000000000000000002",
+            "readings.csv",
+            "readings.csv has 3 sectors, the command takes 2".into(),
+        ),
+        ("2A0000000000000005", &endless, format!("{has} 5")),
+        ("AA0000000000FFFFFFFF", &endless, format!("{has} 4294967295")),
+        ("2A0000000000000001", "/dev/zero", "/dev/zero is no ordinary file".to_owned()),
+        ("AA0000000000FFFFFFFF", "..", ".. is no ordinary file".into()),
     ] {
-        let says_it = refused(sectors, name);
+        let says_it = with(cdb, name).expect_err(name);
         assert!(says_it.starts_with("line 1: ") && says_it.ends_with(&says), "{says_it}");
     }
-    let missing = refused(5, "missing.csv");
+    let missing = with("2A0000000000000005", "missing.csv").expect_err("it is not there");
     assert!(missing.starts_with("line 1: ") && missing.contains("missing.csv: "), "{missing}");
-    let parts = parsed("2A 00 00000000 00 0003 data file readings.csv").expect("it fits");
-    let Data::Bytes(bytes) = &parts[0].commands[0].data else { panic!("a file's bytes") };
-    assert_eq!(bytes.len(), 3 * cdb::SECTOR_BYTES);
+    for cdb in ["2A0000000000000003", "AA000000000000000003"] {
+        let parts = with(cdb, "readings.csv").expect("it fits");
+        let Data::Bytes(bytes) = &parts[0].commands[0].data else { panic!("a file's bytes") };
+        assert_eq!(bytes.len(), 3 * cdb::SECTOR_BYTES);
+    }
+    let parts = with("AA000000000002000000", &endless).expect("it fits the command");
+    assert_eq!(parts[0].commands[0].data, Data::Zeros(1 << 36));
     fs::remove_file(endless).expect("it was there");
 }
 
@@ -152,11 +202,16 @@ fn traces_are_made_of_the_same_cdbs() {
         let bytes = (first..=0xFF).take(CDB_LENGTH).map(|byte| format!("{byte:02x}"));
         every_byte += &format!("{}\n", bytes.collect::<Vec<_>>().join(" "));
     }
+    let example = fs::read_to_string(format!("{SCRIPTS}/twelve-byte.txt")).expect("it is there");
+    let commands: Vec<&str> = example.lines().filter(|line| !line.starts_with("disc")).collect();
     for text in [
         "2A 00 00000000 00 0014\n",
         "disc 300\n35 # flush\r\n\n 5B 00\t02",
         "2A000000000000000100FFFF data fill A1\n2A 00 00000001 00 0003 data file readings.csv\n",
+        "AA 00 00000000 000012C0\nA8 00 00000000 000012C0 80 FF\nA8 00 FFFFFFFF FFFFFFFF\n",
+        "aa 08 00000000 FFFFFFFF data fill A1\nAA0000000000000000030000 data file readings.csv\n",
         &every_byte,
+        &commands.join("\n"),
     ] {
         let parts = parsed(text).expect("a good script");
         let cdbs: Vec<Cdb> = parts[0].commands.iter().map(|command| command.cdb).collect();
@@ -175,6 +230,8 @@ fn traces_are_refused_by_line() {
         ("disc 256\n00", format!("line 1: {one_disc}")),
         ("00\ndisc 300", format!("line 2: {one_disc}")),
         ("00\n2A data length 7", format!("line 2: {other_length}")),
+        ("AA 00 00000000 00000001 data length 2047", format!("line 1: {other_length}")),
+        ("A8\nAA 00 00000000 FFFFFFFF data length 1", format!("line 2: {other_length}")),
         ("00 data fill 0000", "line 1: `fill` takes one byte in hexadecimal, not \"0000\"".into()),
         (
             "2A\0",

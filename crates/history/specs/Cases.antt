@@ -6,6 +6,7 @@ use mathlib.Core.Path.{_≡_}
 use mathlib.Core.List.{List, [], _∷_, _++_, map}
 use lib.ListN.{length, getD, replicate}
 use Rattle.fragments.specs.Address.{lba}
+use Rattle.protocol.specs.Command.{byteAt, decode}
 use Rattle.disc.specs.Blank.{blank}
 use Rattle.disc.specs.Records.{isRecorded, isPending}
 use Rattle.outcomes.specs.Recorded.{among}
@@ -13,7 +14,8 @@ use Rattle.drive.specs.Bytes.{zeros}
 use Rattle.drive.specs.Step.{Drive, drive, Request, request, Result}
 use Rattle.drive.specs.Alike.{recordedByte, pendingSectors, Alike}
 use Rattle.drive.specs.Requests.{WriteOf}
-use Rattle.history.specs.Types.{Answer, Accepted, Link, Drive as byDrive, BlankCheck, LinkRefusal, MediumSize, UnsoundState}
+use Rattle.history.specs.Types.{Lba, Write, Answer, Accepted, Link, Drive as byDrive, BlankCheck, LinkRefusal, MediumSize, UnsoundState}
+use Rattle.history.specs.Forms.{Bytes}
 use Rattle.history.specs.Sequence.{Start, Turn, result, final, Admissible, AllAccepted, blocksOf}
 use Rattle.history.specs.Account.{extentOf, sectorAt, account}
 use Rattle.history.specs.Brought.{writes, broughtTo, broughtInto}
@@ -241,8 +243,19 @@ pub record FirstWrite (g : Given) (hs : List Given) (s e : Drive) : Type 0 where
   pub blocks : blocksOf (given hs e) e ≡ result (turn g s) s .recorded
   pub disc : final (given hs e) e .disc ≡ result (turn g s) s .after .disc
 
+-- the longest WRITE there is, at the last address
+abbrev pub longestWrite : List ℕ → Request
+longestWrite x = request (0xAA ∷ 0 ∷ 0xFF ∷ 0xFF ∷ 0xFF ∷ 0xFF ∷ 0xFF ∷ 0xFF ∷ 0xFF ∷ 0xFF ∷ 0 ∷ 0 ∷ []) x []
+
+pub record Longest : Type 0 where
+  pub twelve : (x : List ℕ) → length x ≡ 8796093020160 → WriteOf (longestWrite x) (lba 4294967295) 4294967295
+  -- and by 2Ah none of 65,536 sectors, nor one past the last address by either form
+  pub ten : (b : List ℕ) → Bytes b → byteAt b 0 ≡ 0x2A → (a : Lba) → decode b ≡ Write a 65536 → ⊥
+  pub past : (b : List ℕ) → Bytes b → (n : ℕ) → decode b ≡ Write (lba 4294967296) n → ⊥
+
 -- on the smallest disc and on the largest; and on every disc the first WRITE, of any length that fits, in parts of any forms and lengths
 pub record Cases : Type 0 where
+  pub longest : Longest
   pub smallest : CasesOn 256
   pub largest : CasesOn 143444
   pub everywhere :

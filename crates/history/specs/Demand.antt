@@ -1,4 +1,5 @@
--- Demand 3: one statement about whole sequences of commands from a blank disc, refused ones included.
+-- Demand 3: one statement about whole sequences of commands from a blank disc, refused ones included. A WRITE has either form, and a cut may
+-- mix both.
 use Prim.Native.Nat.{ℕ}
 use mathlib.Core.Bool.{true}
 use mathlib.Core.Path.{_≡_}
@@ -8,6 +9,7 @@ use Rattle.drive.specs.Step.{Drive}
 use Rattle.drive.specs.Alike.{recordedByte, Alike}
 use Rattle.history.specs.Types.{Accepted}
 use Rattle.history.specs.Sequence.{Start, Turn, found, result, final, Admissible, Undisturbed, AllAccepted, requests}
+use Rattle.history.specs.Forms.{WriteForms}
 use Rattle.history.specs.Cut.{CutOf, Again, Agreeing}
 
 -- every byte of a recorded sector of s is a recorded byte of e, and the same
@@ -34,3 +36,5 @@ pub record Demand3 : Type 0 where
   -- d. with the same bytes at the start and none changed from outside, the whole medium and pending buffer are the same
   pub exact :
       (c : ℕ) (s : Drive) → Start c s → (ts us : List Turn) → Undisturbed ts s → Undisturbed us s → Again s ts us → final ts s ≡ final us s
+  -- e. the WRITEs and the parts that this is said of: by 2Ah up to 65,535 sectors, by AAh up to 4,294,967,295, from every address within 32 bits
+  pub forms : WriteForms

@@ -33,6 +33,7 @@ use Rattle.drive.specs.Requests.{WriteOf, ReadOf}
 use Rattle.drive.specs.Alike.{recordedByte, pendingSectors, Alike}
 use Rattle.history.specs.Types.{Disc, Appended, Answer, Accepted, Drive as byDrive, DriveRefusal, BlankCheck, EndOfUserArea, LinkRefusal, CommandBlockLength, MediumSize, UnsoundState, TransferLength, Number, Read}
 use Rattle.history.specs.Sequence.{Start, Turn, Told, found, requests, result, final, Admissible, Undisturbed, AllAccepted, blocksOf}
+use Rattle.history.specs.Forms.{twelve, opcode, longest, writeBlock}
 use Rattle.history.specs.Cut.{Parts, none, part, CutOf, SameCommand, Again, ends, same, cut, Agreeing}
 use Rattle.history.specs.Demand.{Demand3}
 use Rattle.history.specs.Account.{Account, opened, extentOf, sectorAt, written, flushed, credited, noted, account, contentAt, recordedAt, pendingAt, readableAt}
@@ -42,7 +43,7 @@ use Rattle.history.specs.Past.{RecordedByHistory}
 use Rattle.history.specs.Stale.{Change, unchanged, Given, after, turn, given}
 use Rattle.history.specs.Examples.{writeCdb, writeCdb12}
 use Rattle.history.specs.Witness.{Shape, shape, discAfter}
-use Rattle.history.specs.Cases.{answers, replies, counts, Flash, blankOver, Log, firstFive, nextThirteen, writing, writing12, asking, reading, reading12, readingSome, flushing, newer, older, earliest, early, TwoControllers, ByteForByte, BlockStays, reserving, inTwo, Fitting, afterAll, Reader, Requested, CasesOn, FirstWrite, Cases}
+use Rattle.history.specs.Cases.{answers, replies, counts, Flash, blankOver, Log, firstFive, nextThirteen, writing, writing12, asking, reading, reading12, readingSome, flushing, newer, older, earliest, early, TwoControllers, ByteForByte, BlockStays, reserving, inTwo, Fitting, afterAll, Reader, Requested, CasesOn, FirstWrite, Longest, Cases}
 use Rattle.history.specs.Wide.{Named, partsOf, total, nameable}
 use Rattle.history.proofs.Laws.Parts.{write-request, write-request12}
 use Rattle.history.proofs.Laws.Demand.{demand-3}
@@ -849,6 +850,20 @@ module _
           disc = sym (r .1 .disc);
         }
 
+-- the longest WRITE, and what is none
+longest-write : Demand3 → Longest
+unfolding opcode longest writeBlock
+longest-write demand =
+    record {
+      twelve = λ x h. demand .forms .each twelve 4294967295 4294967295 (omega arith) (omega arith) x h;
+      ten =
+          λ b h o a e.
+          elim (demand .forms .only b h a 65536 e) [ inl f ↦ (let n = f .count in omega arith) | inr f ↦ (let p = f .opcode in omega (arith, o, p)) ];
+      past =
+          λ b h n e.
+          elim (demand .forms .only b h (lba 4294967296) n e) [ inl f ↦ (let a = f .address in omega arith) | inr f ↦ (let a = f .address in omega arith) ];
+    }
+
 -- all of them
 drawn : (c : ℕ) → Computed c → Demand3 → KeptAccount → ReadBack → KeptAsListed → RecordedByHistory → CasesOn c
 drawn c m demand kept back count history =
@@ -864,6 +879,7 @@ drawn c m demand kept back count history =
 pub cases : Cases
 cases =
     record {
+      longest = longest-write demand-3;
       smallest = drawn 256 (computed .0) demand-3 kept-account read-back kept-as-listed recorded-by-history;
       largest = drawn 143444 (computed .1) demand-3 kept-account read-back kept-as-listed recorded-by-history;
       everywhere = first-write demand-3;

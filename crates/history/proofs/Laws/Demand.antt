@@ -15,6 +15,7 @@ use Rattle.history.specs.Sequence.{Start, Turn, found, result, final, Ad
 use Rattle.history.specs.Cut.{CutOf, SameCommand, Again, ends, same, cut, Agreeing}
 use Rattle.history.specs.Demand.{RecordedStays, Demand3}
 use Rattle.history.proofs.Laws.Runs.{runs-follow, undisturbed-runs, final-append, admissible-append, undisturbed-append, sequence-stays}
+use Rattle.history.proofs.Laws.Forms.{write-forms}
 use Rattle.history.proofs.Laws.Parts.{Does, parts-do}
 
 -- a blank disc has no recorded sector, and none pending: two starts are alike, whatever their bytes
@@ -106,4 +107,5 @@ demand-3 =
           (λ e. f .to (d .to (r .answer ∙ e)), λ e. sym (r .answer) ∙ d .back (f .back e));
       again = λ c s e start other ts us h k w. again-alike s e ts us (start-alike c s e start other) h k w;
       exact = λ c s start ts us h k w. again-exact s ts us h k w;
+      forms = write-forms;
     }

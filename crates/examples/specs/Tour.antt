@@ -28,16 +28,16 @@ use Rattle.examples.specs.Types.{Sense, Reserved, Appended, Fragment, Di
 -- a line: the command block, how long data and reply buffer are, and what it must show
 pub record Line : Type 0 where
   pub command : List ℕ
-  pub sectors : ℕ
+  pub payload : ℕ
   pub room : ℕ
   pub expected : Shown
 
 -- the answer's number, the blocks recorded, the reply, the sense, the tail's next writable address or 0, the pending count, the list
 abbrev pub line : List ℕ → ℕ → ℕ → ℕ → ℕ → List ℕ → Sense → ℕ → ℕ → List Fragment → Line
-line b sectors room a n r s t p fs =
+line b payload room a n r s t p fs =
     record {
       command = b;
-      sectors = sectors;
+      payload = payload;
       room = room;
       expected = record { answer = a; recorded = n; reply = r; sense = s; next = t; pending = p; list = fs };
     }
@@ -53,7 +53,7 @@ from d ls = record { disc = d; lines = ls }
 unfoldable pub played : Disc → List Line → List Shown
 played d [] = []
 played d (l ∷ ls) =
-    let v = judge d (l .command) (l .sectors) (l .room) in
+    let v = judge d (l .command) (l .payload) (l .room) in
     shown v ∷ played (v .disc) ls
 
 -- a command block by its first bytes, zeros after them
@@ -125,8 +125,9 @@ fivePending = fragment 1 0 2 1 0 Reserved ∷ fragment 1 3 597 0 0 Appended ∷ 
 abbrev elevenFilled : List Fragment
 elevenFilled = fragment 1 0 2 2 11 Reserved ∷ []
 
-abbrev pub upTo : ℕ → List Fragment
-upTo w = fragment 1 0 300 w 0 Appended ∷ []
+-- one appended fragment of c blocks, w of them recorded
+abbrev pub upTo : ℕ → ℕ → List Fragment
+upTo c w = fragment 1 0 c w 0 Appended ∷ []
 
 abbrev lastBlock : ℕ → List Fragment
 lastBlock w = fragment 1 0 298 298 0 Appended ∷ fragment 1 299 1 w 0 Appended ∷ []
@@ -460,7 +461,7 @@ abbrev pub runs : List Run
 runs =
     from (blank 600) firstRun ∷ from (state 600 false (sense 0 0 0) 3 1 threePending) fillingRun
     ∷ from (blank 300) fieldsRun ∷ from (state 600 false (sense 0 0 0) 5 1 fivePending) completedRun
-    ∷ from (state 300 false (sense 0 0 0) 0 0 (upTo 298)) upTo298 ∷ from (state 300 false (sense 0 0 0) 0 0 (upTo 299)) upTo299
+    ∷ from (state 300 false (sense 0 0 0) 0 0 (upTo 300 298)) upTo298 ∷ from (state 300 false (sense 0 0 0) 0 0 (upTo 300 299)) upTo299
     ∷ from (state 600 false (sense 0 0 0) 0 0 nextSession) emptySession ∷ from (blank 600) onBlank
     ∷ from (state 300 false (sense 0 0 0) 15 1 ends171) upTo171 ∷ from (state 300 false (sense 0 0 0) 1 1 ends172) upTo172
     ∷ from (blank 143444) largestRun ∷ from (state 255 true (sense 0 0 0) 0 0 smallList) wrongAllRun

@@ -15,14 +15,13 @@ use Rattle.drive.specs.Step.{Drive, drive, Request, request, Result}
 use Rattle.drive.specs.Alike.{recordedByte, pendingSectors, Alike}
 use Rattle.drive.specs.Requests.{WriteOf}
 use Rattle.history.specs.Types.{Lba, Write, Answer, Accepted, Link, Drive as byDrive, BlankCheck, LinkRefusal, MediumSize, UnsoundState}
-use Rattle.history.specs.Forms.{Bytes}
+use Rattle.history.specs.Forms.{Form, ten, twelve, readCdb, writeCdb, IsBytes}
 use Rattle.history.specs.Sequence.{Start, Turn, result, final, Admissible, AllAccepted, blocksOf}
 use Rattle.history.specs.Account.{extentOf, sectorAt, account}
 use Rattle.history.specs.Brought.{writes, broughtTo, broughtInto}
 use Rattle.history.specs.Past.{beginning, past, StaleApart, StaleChanges}
 use Rattle.history.specs.Stale.{Change, unchanged, Given, after, given, turn}
-use Rattle.history.specs.Examples.{writeCdb, writeCdb12}
-use Rattle.history.specs.Wide.{Named, partsOf, total, nameable}
+use Rattle.history.specs.Wide.{Portion, partsOf, total, nameable}
 
 -- the answers of a sequence, its replies and its counts of blocks recorded
 unfoldable pub answers : List Turn → Drive → List Answer
@@ -68,24 +67,18 @@ firstFive l = l .one ++ (l .two ++ (l .three ++ []))
 abbrev pub nextThirteen : Log → List ℕ
 nextThirteen l = l .four ++ (l .five ++ [])
 
-abbrev pub writing : ℕ → ℕ → List ℕ → Request
-writing a n x = request (writeCdb a n) x []
+abbrev pub writing : Form → ℕ → ℕ → List ℕ → Request
+writing f a n x = request (writeCdb f a n) x []
 
-abbrev pub writing12 : ℕ → ℕ → List ℕ → Request
-writing12 a n x = request (writeCdb12 a n) x []
-
--- 52h number 1, READ of some sectors and of 16, READ (12) of 16, and 35h, with a reply buffer that is full of some byte
+-- 52h number 1, READ of some sectors and of 16, and 35h, with a reply buffer that is full of some byte
 abbrev pub asking : ℕ → Request
 asking x = request (0x52 ∷ 1 ∷ 0 ∷ 0 ∷ 0 ∷ 1 ∷ 0 ∷ 0 ∷ 36 ∷ 0 ∷ 0 ∷ 0 ∷ []) [] (replicate 36 x)
 
-abbrev pub readingSome : ℕ → ℕ → ℕ → Request
-readingSome a n x = request (0x28 ∷ 0 ∷ 0 ∷ 0 ∷ 0 ∷ a ∷ 0 ∷ 0 ∷ n ∷ 0 ∷ 0 ∷ 0 ∷ []) [] (replicate (2048 * n) x)
+abbrev pub readingSome : Form → ℕ → ℕ → ℕ → Request
+readingSome f a n x = request (readCdb f a n) [] (replicate (2048 * n) x)
 
-abbrev pub reading : ℕ → ℕ → Request
-reading a x = readingSome a 16 x
-
-abbrev pub reading12 : ℕ → ℕ → Request
-reading12 a x = request (0xA8 ∷ 0 ∷ 0 ∷ 0 ∷ 0 ∷ a ∷ 0 ∷ 0 ∷ 0 ∷ 16 ∷ 0 ∷ 0 ∷ []) [] (replicate 32768 x)
+abbrev pub reading : Form → ℕ → ℕ → Request
+reading f a x = readingSome f a 16 x
 
 abbrev pub flushing : Request
 flushing = request (0x35 ∷ 0 ∷ 0 ∷ 0 ∷ 0 ∷ 0 ∷ 0 ∷ 0 ∷ 0 ∷ 0 ∷ 0 ∷ 0 ∷ []) [] []
@@ -94,22 +87,22 @@ flushing = request (0x35 ∷ 0 ∷ 0 ∷ 0 ∷ 0 ∷ 0 ∷ 0 ∷ 0 ∷ 0 ∷ 0 �
 -- which is refused, and WRITE 32 of 3. Before command i stale bytes change as j i says
 abbrev pub newer : Log → ℕ → (ℕ → Change) → List Given
 newer l x j =
-    after (j 0) (writing 0 5 (firstFive l)) ∷ after (j 1) (asking x) ∷ after (j 2) (writing12 5 13 (nextThirteen l))
-    ∷ after (j 3) (reading12 2 x) ∷ after (j 4) flushing ∷ after (j 5) (reading 32 x) ∷ after (j 6) (writing 32 3 (l .six)) ∷ []
+    after (j 0) (writing ten 0 5 (firstFive l)) ∷ after (j 1) (asking x) ∷ after (j 2) (writing twelve 5 13 (nextThirteen l))
+    ∷ after (j 3) (reading twelve 2 x) ∷ after (j 4) flushing ∷ after (j 5) (reading ten 32 x) ∷ after (j 6) (writing ten 32 3 (l .six)) ∷ []
 
 -- the older one sends the first WRITE in three, by both forms, the second in two by WRITE (10), and hands other reply buffers over
 abbrev pub older : Log → ℕ → (ℕ → Change) → List Given
 older l x j =
-    after (j 0) (writing 0 2 (l .one)) ∷ after (j 1) (writing12 2 1 (l .two)) ∷ after (j 2) (writing 3 2 (l .three)) ∷ after (j 3) (asking x)
-    ∷ after (j 4) (writing 5 3 (l .four)) ∷ after (j 5) (writing 8 10 (l .five)) ∷ after (j 6) (reading12 2 x) ∷ after (j 7) flushing
-    ∷ after (j 8) (reading 32 x) ∷ after (j 9) (writing 32 3 (l .six)) ∷ []
+    after (j 0) (writing ten 0 2 (l .one)) ∷ after (j 1) (writing twelve 2 1 (l .two)) ∷ after (j 2) (writing ten 3 2 (l .three)) ∷ after (j 3) (asking x)
+    ∷ after (j 4) (writing ten 5 3 (l .four)) ∷ after (j 5) (writing ten 8 10 (l .five)) ∷ after (j 6) (reading twelve 2 x) ∷ after (j 7) flushing
+    ∷ after (j 8) (reading ten 32 x) ∷ after (j 9) (writing ten 32 3 (l .six)) ∷ []
 
 -- the newer controller's first command, which leaves five sectors pending, and its first three, which leave two
 abbrev pub earliest : Log → (ℕ → Change) → List Given
-earliest l j = after (j 0) (writing 0 5 (firstFive l)) ∷ []
+earliest l j = after (j 0) (writing ten 0 5 (firstFive l)) ∷ []
 
 abbrev pub early : Log → ℕ → (ℕ → Change) → List Given
-early l x j = after (j 0) (writing 0 5 (firstFive l)) ∷ after (j 1) (asking x) ∷ after (j 2) (writing12 5 13 (nextThirteen l)) ∷ []
+early l x j = after (j 0) (writing ten 0 5 (firstFive l)) ∷ after (j 1) (asking x) ∷ after (j 2) (writing twelve 5 13 (nextThirteen l)) ∷ []
 
 -- the newer controller's turns ts from the drive s on, and the older one's turns us from e on: two discs, each over bytes of its own
 pub record TwoControllers (ts : List Turn) (s : Drive) (us : List Turn) (e : Drive) : Type 0 where
@@ -137,12 +130,12 @@ abbrev pub BlockStays : List Turn → List Turn → Drive → Type 0
 BlockStays before ts s =
     (i : ℕ) → i < 32768 → (recordedByte (final ts s .disc) i ≡ true) × (getD (final ts s .medium) i 0 ≡ getD (final before s .medium) i 0)
 
--- after RESERVE 48: WRITE 0 of 49 does not fit, WRITE 0 of 48 does; each in two parts
+-- after RESERVE 48: WRITE 0 of 49 does not fit, WRITE 0 of 48 does; each in two parts, the second by WRITE (12)
 abbrev pub reserving : Request
 reserving = request (0x53 ∷ 0 ∷ 0 ∷ 0 ∷ 0 ∷ 0 ∷ 0 ∷ 0 ∷ 48 ∷ 0 ∷ 0 ∷ 0 ∷ []) [] []
 
 abbrev pub inTwo : List ℕ → List ℕ → ℕ → (ℕ → Change) → List Given
-inTwo x y n j = after (j 0) reserving ∷ after (j 1) (writing 0 40 x) ∷ after (j 2) (writing 40 n y) ∷ []
+inTwo x y n j = after (j 0) reserving ∷ after (j 1) (writing ten 0 40 x) ∷ after (j 2) (writing twelve 40 n y) ∷ []
 
 pub record Fitting (s : Drive) (x y z : List ℕ) (j : ℕ → Change) : Type 0 where
   -- a WRITE that fits in part: not every part of it is accepted
@@ -163,8 +156,8 @@ pub record Reader (l : Log) (x : ℕ) (first ts : List Turn) (s : Drive) (c : Ch
   -- sector 17, which is pending then, is the log's last so far
   pub across : sectorAt 15 (getD (replies ts s) 3 []) ≡ sectorAt 12 (nextThirteen l)
   -- after the flush sector 17 is the last one of the log, and sector 18 zeros that nobody wrote
-  pub last : sectorAt 1 (afterAll ts s (after c (reading 16 x)) .reply) ≡ sectorAt 12 (nextThirteen l)
-  pub zeroed : sectorAt 2 (afterAll ts s (after c (reading 16 x)) .reply) ≡ zeros 2048
+  pub last : sectorAt 1 (afterAll ts s (after c (reading ten 16 x)) .reply) ≡ sectorAt 12 (nextThirteen l)
+  pub zeroed : sectorAt 2 (afterAll ts s (after c (reading ten 16 x)) .reply) ≡ zeros 2048
   -- sectors 17 and 31 are recorded, 32 is not; 34 is pending, 35 is not; 33 holds what the last WRITE brought
   pub log : isRecorded (final ts s .disc) (lba 17) ≡ true
   pub padding : isRecorded (final ts s .disc) (lba 31) ≡ true
@@ -173,9 +166,9 @@ pub record Reader (l : Log) (x : ℕ) (first ts : List Turn) (s : Drive) (c : Ch
   pub ended : isPending (final ts s .disc) (lba 35) ≡ false
   pub held : sectorAt 1 (final ts s .pending) ≡ sectorAt 1 (l .six)
   -- READ 31 of 4 is accepted, over the border and up to the last pending sector; READ 31 of 5 is not, but refused by 8/00/00
-  pub accepted : afterAll ts s (after c (readingSome 31 4 x)) .answer ≡ Accepted
-  pub beyondLast : afterAll ts s (after c (readingSome 31 5 x)) .answer ≡ Accepted → ⊥
-  pub refused : afterAll ts s (after c (readingSome 31 5 x)) .answer ≡ byDrive BlankCheck
+  pub accepted : afterAll ts s (after c (readingSome ten 31 4 x)) .answer ≡ Accepted
+  pub beyondLast : afterAll ts s (after c (readingSome ten 31 5 x)) .answer ≡ Accepted → ⊥
+  pub refused : afterAll ts s (after c (readingSome ten 31 5 x)) .answer ≡ byDrive BlankCheck
   -- no request is refused by L2 or L3
   pub served :
       (r : Request) (q : LinkRefusal) → afterAll ts s (after c r) .answer ≡ Link q → (q ≡ MediumSize → ⊥) × (q ≡ UnsoundState → ⊥)
@@ -190,11 +183,11 @@ pub record Reader (l : Log) (x : ℕ) (first ts : List Turn) (s : Drive) (c : Ch
 -- the same log by its requests; `before` are the first three turns of ts
 pub record Requested (l : Log) (x : ℕ) (before ts : List Turn) (s : Drive) (c : Change) : Type 0 where
   -- sector 7 is the one that the second WRITE brought there, and nobody brought anything to sector 20
-  pub brought : sectorAt 7 (afterAll ts s (after c (reading 0 x)) .reply) ≡ sectorAt 2 (nextThirteen l)
-  pub none : sectorAt 4 (afterAll ts s (after c (reading 16 x)) .reply) ≡ zeros 2048
+  pub brought : sectorAt 7 (afterAll ts s (after c (reading ten 0 x)) .reply) ≡ sectorAt 2 (nextThirteen l)
+  pub none : sectorAt 4 (afterAll ts s (after c (reading ten 16 x)) .reply) ≡ zeros 2048
   -- sectors 33 and 34, which are pending, are those that the last WRITE brought there
-  pub waiting : sectorAt 1 (afterAll ts s (after c (readingSome 32 3 x)) .reply) ≡ sectorAt 1 (l .six)
-  pub waitingLast : sectorAt 2 (afterAll ts s (after c (readingSome 32 3 x)) .reply) ≡ sectorAt 2 (l .six)
+  pub waiting : sectorAt 1 (afterAll ts s (after c (readingSome ten 32 3 x)) .reply) ≡ sectorAt 1 (l .six)
+  pub waitingLast : sectorAt 2 (afterAll ts s (after c (readingSome ten 32 3 x)) .reply) ≡ sectorAt 2 (l .six)
   -- nobody brings a second sector to an address
   pub once : length (broughtTo 7 (writes ts s)) ≤ 1
   -- 21 sectors lie in the fragment as it is listed; the account has as many
@@ -243,22 +236,23 @@ pub record FirstWrite (g : Given) (hs : List Given) (s e : Drive) : Type 0 where
   pub blocks : blocksOf (given hs e) e ≡ result (turn g s) s .recorded
   pub disc : final (given hs e) e .disc ≡ result (turn g s) s .after .disc
 
--- the longest WRITE there is, at the last address
-abbrev pub longestWrite : List ℕ → Request
-longestWrite x = request (0xAA ∷ 0 ∷ 0xFF ∷ 0xFF ∷ 0xFF ∷ 0xFF ∷ 0xFF ∷ 0xFF ∷ 0xFF ∷ 0xFF ∷ 0 ∷ 0 ∷ []) x []
-
-pub record Longest : Type 0 where
-  pub twelve : (x : List ℕ) → length x ≡ 8796093020160 → WriteOf (longestWrite x) (lba 4294967295) 4294967295
-  -- and by 2Ah none of 65,536 sectors, nor one past the last address by either form
-  pub ten : (b : List ℕ) → Bytes b → byteAt b 0 ≡ 0x2A → (a : Lba) → decode b ≡ Write a 65536 → ⊥
-  pub past : (b : List ℕ) → Bytes b → (n : ℕ) → decode b ≡ Write (lba 4294967296) n → ⊥
+-- the longest WRITEs there are, at the last address: 2Ah of 65,535 sectors and AAh of 4,294,967,295; and what is none
+pub record Limits : Type 0 where
+  pub byTen :
+      (x : List ℕ) → length x ≡ 134215680
+      → WriteOf (request (0x2A ∷ 0 ∷ 0xFF ∷ 0xFF ∷ 0xFF ∷ 0xFF ∷ 0 ∷ 0xFF ∷ 0xFF ∷ 0 ∷ 0 ∷ 0 ∷ []) x []) (lba 4294967295) 65535
+  pub byTwelve :
+      (x : List ℕ) → length x ≡ 8796093020160
+      → WriteOf (request (0xAA ∷ 0 ∷ 0xFF ∷ 0xFF ∷ 0xFF ∷ 0xFF ∷ 0xFF ∷ 0xFF ∷ 0xFF ∷ 0xFF ∷ 0 ∷ 0 ∷ []) x []) (lba 4294967295) 4294967295
+  pub noLonger : (b : List ℕ) → IsBytes b → byteAt b 0 ≡ 0x2A → (a : Lba) → decode b ≡ Write a 65536 → ⊥
+  pub noFurther : (b : List ℕ) → IsBytes b → (n : ℕ) → decode b ≡ Write (lba 4294967296) n → ⊥
 
 -- on the smallest disc and on the largest; and on every disc the first WRITE, of any length that fits, in parts of any forms and lengths
 pub record Cases : Type 0 where
-  pub longest : Longest
+  pub limits : Limits
   pub smallest : CasesOn 256
   pub largest : CasesOn 143444
   pub everywhere :
-      (c : ℕ) (s e : Drive) → Start c s → Start c e → (g : Given) (n : ℕ) → WriteOf (g .request) (lba 0) n → n ≤ 16 * c → (ks : List Named) → 2 ≤ length ks
+      (c : ℕ) (s e : Drive) → Start c s → Start c e → (g : Given) (n : ℕ) → WriteOf (g .request) (lba 0) n → n ≤ 16 * c → (ks : List Portion) → 2 ≤ length ks
       → total ks ≡ n → nameable 0 ks ≡ true → (hs : List Given) → map (λ (h : Given). h .request) hs ≡ partsOf 0 ks (g .request .payload)
       → FirstWrite g hs s e

@@ -10,8 +10,8 @@ use Rattle.history.specs.Types.{Lba, Accepted}
 use Rattle.history.specs.Sequence.{Turn, result, final, told, AllAccepted, blocksOf, requests}
 
 -- WRITEs of at least one sector that one after another bring n sectors, given by their bytes, from an address on: each begins where the
--- last ended and brings its own sectors. Each has the form that it likes, 2Ah or AAh, and there is none whose length or address its form
--- cannot name (`WriteForms`)
+-- last ended and brings its own sectors. Each has a form of its own, 2Ah or AAh; a command block of bytes names no length and no address past
+-- its form's (`WriteForms`)
 pub data Parts : Lba → ℕ → List ℕ → List Request → Type 0 where
   none : (a : Lba) → Parts a 0 [] []
   part :

@@ -36,5 +36,6 @@ pub record Demand3 : Type 0 where
   -- d. with the same bytes at the start and none changed from outside, the whole medium and pending buffer are the same
   pub exact :
       (c : ℕ) (s : Drive) → Start c s → (ts us : List Turn) → Undisturbed ts s → Undisturbed us s → Again s ts us → final ts s ≡ final us s
-  -- e. the WRITEs and the parts that this is said of: by 2Ah up to 65,535 sectors, by AAh up to 4,294,967,295, from every address within 32 bits
+  -- e. the WRITEs and parts that command blocks of bytes name: by 2Ah up to 65,535 sectors, by AAh up to 4,294,967,295, from every address
+  -- within 32 bits
   pub forms : WriteForms

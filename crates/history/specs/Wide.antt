@@ -15,7 +15,7 @@ use Rattle.drive.specs.Alike.{recordedByte}
 use Rattle.drive.specs.Requests.{WriteOf}
 use Rattle.history.specs.Types.{Lba, Answer, Accepted, Link, Drive as byDrive, Command, TestUnitReady, RequestSense, ReadCapacity, Read, Write, SynchronizeCache, ReserveTrack, CloseTrackSession, ReadDiscInformation, ReadTrackInformation, Unlisted}
 use Rattle.history.specs.Sequence.{Start, result, Admissible}
-use Rattle.history.specs.Forms.{Form, longest, addresses, writeBlock}
+use Rattle.history.specs.Forms.{Form, longest, addresses, writeCdb}
 use Rattle.history.specs.Cut.{CutOf, Again}
 use Rattle.history.specs.Stale.{stirred, Given, turn, given}
 
@@ -27,37 +27,37 @@ filledBy f n = stirred (λ i. false) (λ i x. f i) 0 (zeros n)
 abbrev pub startOver : ℕ → (ℕ → ℕ) → (ℕ → ℕ) → Drive
 startOver c m p = drive (blank c) (filledBy m (32768 * c)) (filledBy p 32768)
 
--- a part as it is named: by a form of the command block and its number of sectors
-pub record Named : Type 0 where
+-- a part by the form of its command block and its number of sectors
+pub record Portion : Type 0 where
   pub form : Form
   pub sectors : ℕ
 
-abbrev pub named : Form → ℕ → Named
-named f n = record { form = f; sectors = n }
+abbrev pub portion : Form → ℕ → Portion
+portion f n = record { form = f; sectors = n }
 
--- the parts of a WRITE, so named: each begins where the last ended and brings its own sectors
-unfoldable pub partsOf : ℕ → List Named → List ℕ → List Request
+-- the parts of a WRITE by their portions: each begins where the last ended and brings its own sectors
+unfoldable pub partsOf : ℕ → List Portion → List ℕ → List Request
 partsOf a [] x = []
 partsOf a (k ∷ ks) x =
     let n = k .sectors in
-    request (writeBlock (k .form) a n) (take (2048 * n) x) [] ∷ partsOf (a + n) ks (drop (2048 * n) x)
+    request (writeCdb (k .form) a n) (take (2048 * n) x) [] ∷ partsOf (a + n) ks (drop (2048 * n) x)
 
 -- how many sectors they have together
-unfoldable pub total : List Named → ℕ
+unfoldable pub total : List Portion → ℕ
 total [] = 0
 total (k ∷ ks) = k .sectors + total ks
 
--- from an address on there are such parts: each has at least one sector, and its form has a block for its length and its address
-unfoldable pub nameable : ℕ → List Named → Bool
+-- from an address on there are such parts: each has at least one sector, and a command block of its form names its length and its address
+unfoldable pub nameable : ℕ → List Portion → Bool
 nameable a [] = true
 nameable a (k ∷ ks) = leb 1 (k .sectors) && leb (k .sectors) (longest (k .form)) && ltb a addresses && nameable (a + k .sectors) ks
 
--- they are a cut of a WRITE of n sectors at an address: two or more, n sectors together
-abbrev pub isCut : Request → ℕ → ℕ → List Named → Bool
+-- they are a cut of a WRITE of n sectors at an address: two or more, n sectors together, and nameable
+abbrev pub isCut : Request → ℕ → ℕ → List Portion → Bool
 isCut q a n ks = eqb (length (q .cdb)) 12 && eqb (length (q .payload)) (2048 * n) && leb 2 (length ks) && eqb (total ks) n && nameable a ks
 
 -- a command again: in parts, if they are a cut of a WRITE that was accepted, else as it was
-unfoldable pub recutCommand : List Named → Request → Command → List Request
+unfoldable pub recutCommand : List Portion → Request → Command → List Request
 recutCommand ks q (Write a n) = cond (isCut q (a .0) n ks) (partsOf (a .0) ks (q .payload)) (q ∷ [])
 recutCommand ks q TestUnitReady = q ∷ []
 recutCommand ks q (RequestSense allocation) = q ∷ []
@@ -70,13 +70,13 @@ recutCommand ks q (ReadDiscInformation dataType allocation) = q ∷ []
 recutCommand ks q (ReadTrackInformation addressType n allocation) = q ∷ []
 recutCommand ks q Unlisted = q ∷ []
 
-unfoldable pub recut : Answer → List Named → Request → List Request
+unfoldable pub recut : Answer → List Portion → Request → List Request
 recut Accepted ks q = recutCommand ks q (decode (q .cdb))
 recut (Link r) ks q = q ∷ []
 recut (byDrive r) ks q = q ∷ []
 
--- a whole sequence again, with the parts named for each command; those after the last that has parts stay
-unfoldable pub second : List (List Named) → List Given → Drive → List Request
+-- a whole sequence again, with the portions of the parts for each command; those after the last that has portions stay
+unfoldable pub second : List (List Portion) → List Given → Drive → List Request
 second cuts [] s = []
 second [] (g ∷ gs) s = g .request ∷ second [] gs (result (turn g s) s .after)
 second (ks ∷ cuts) (g ∷ gs) s = recut (result (turn g s) s .answer) ks (g .request) ++ second cuts gs (result (turn g s) s .after)
@@ -95,17 +95,17 @@ pub record Wide : Type 0 where
   pub stalePending :
       (g : Given) (s : Drive) (i : ℕ) → i < length (s .pending) → 2048 * s .disc .pending ≤ i
       → getD (turn g s .pending) i 0 ≡ g .change .pending i (getD (s .pending) i 0)
-  -- whatever parts are named, those commands are the same sequence again, with any change before each and from any other drive
+  -- whatever portions are asked for, those commands are the same sequence again, with any change before each and from any other drive
   pub again :
-      (cuts : List (List Named)) (gs hs : List Given) (s e : Drive) → map (λ (h : Given). h .request) hs ≡ second cuts gs s
+      (cuts : List (List Portion)) (gs hs : List Given) (s e : Drive) → map (λ (h : Given). h .request) hs ≡ second cuts gs s
       → Again s (given gs s) (given hs e)
   -- WRITEs of any length are accepted on a start of any capacity, so there is something to cut
   pub accepted : (c : ℕ) (s : Drive) → Start c s → (q : Request) (n : ℕ) → WriteOf q (lba 0) n → n ≤ 16 * c → step s q .answer ≡ Accepted
-  -- parts of either form, named so that there are such blocks, are a cut of a WRITE of either form
+  -- nameable parts, each of either form, are a cut of a WRITE of either form
   pub cut :
-      (q : Request) (a : Lba) (n : ℕ) (ks : List Named) → WriteOf q a n → 2 ≤ length ks → total ks ≡ n → nameable (a .0) ks ≡ true
+      (q : Request) (a : Lba) (n : ℕ) (ks : List Portion) → WriteOf q a n → 2 ≤ length ks → total ks ≡ n → nameable (a .0) ks ≡ true
       → CutOf q (partsOf (a .0) ks (q .payload))
-  -- an accepted WRITE is then in as many parts as are named
+  -- an accepted WRITE is then in as many parts as there are portions
   pub parts :
-      (q : Request) (a : Lba) (n : ℕ) (ks : List Named) → WriteOf q a n → 2 ≤ length ks → total ks ≡ n → nameable (a .0) ks ≡ true
+      (q : Request) (a : Lba) (n : ℕ) (ks : List Portion) → WriteOf q a n → 2 ≤ length ks → total ks ≡ n → nameable (a .0) ks ≡ true
       → length (recut Accepted ks q) ≡ length ks

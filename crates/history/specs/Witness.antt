@@ -10,7 +10,8 @@ use Rattle.drive.specs.Bytes.{zeros}
 use Rattle.drive.specs.Step.{Drive, drive, Request, request}
 use Rattle.history.specs.Types.{Disc}
 use Rattle.history.specs.Sequence.{Turn, result}
-use Rattle.history.specs.Examples.{writeCdb, wholeWrite, firstPart, secondPart}
+use Rattle.history.specs.Forms.{ten, writeCdb}
+use Rattle.history.specs.Examples.{wholeWrite, firstPart, secondPart}
 
 -- the numbers of a sequence's answers
 unfoldable pub numbers : List Turn → Drive → List ℕ
@@ -48,8 +49,8 @@ judged (h ∷ hs) d =
 -- fragment, WRITE 64 of 20 to the tail while those five are pending, READ 0 of 16
 abbrev pub before : List Shape
 before =
-    shape (0x2A ∷ 0 ∷ 0 ∷ []) 0 0 ∷ shape (writeCdb 0 1) 0 0 ∷ shape (0xFF ∷ replicate 11 0) 0 0
-    ∷ shape (0x53 ∷ 0 ∷ 0 ∷ 0 ∷ 0 ∷ 0 ∷ 0 ∷ 0 ∷ 48 ∷ 0 ∷ 0 ∷ 0 ∷ []) 0 0 ∷ shape (writeCdb 0 5) 10240 0 ∷ shape (writeCdb 64 20) 40960 0
+    shape (0x2A ∷ 0 ∷ 0 ∷ []) 0 0 ∷ shape (writeCdb ten 0 1) 0 0 ∷ shape (0xFF ∷ replicate 11 0) 0 0
+    ∷ shape (0x53 ∷ 0 ∷ 0 ∷ 0 ∷ 0 ∷ 0 ∷ 0 ∷ 0 ∷ 48 ∷ 0 ∷ 0 ∷ 0 ∷ []) 0 0 ∷ shape (writeCdb ten 0 5) 10240 0 ∷ shape (writeCdb ten 64 20) 40960 0
     ∷ shape (0x28 ∷ 0 ∷ 0 ∷ 0 ∷ 0 ∷ 0 ∷ 0 ∷ 0 ∷ 16 ∷ 0 ∷ 0 ∷ 0 ∷ []) 0 32768 ∷ []
 
 -- WRITE 84 of 2, which is cut into WRITE 84 of 1 and WRITE (12) 85 of 1
@@ -79,10 +80,10 @@ secondRun = map (filled 0) before ++ (cutFirst ∷ cutSecond ∷ map (filled 0) 
 
 -- WRITE 0 of 16, the 51h after it, and WRITE 16 of 16
 abbrev pub firstBlock : Request
-firstBlock = filled 7 (shape (writeCdb 0 16) 32768 0)
+firstBlock = filled 7 (shape (writeCdb ten 0 16) 32768 0)
 
 abbrev pub informationRequest : Request
 informationRequest = filled 0 (shape (0x51 ∷ 0 ∷ 0 ∷ 0 ∷ 0 ∷ 0 ∷ 0 ∷ 0 ∷ 34 ∷ 0 ∷ 0 ∷ 0 ∷ []) 0 34)
 
 abbrev pub secondBlock : Request
-secondBlock = filled 9 (shape (writeCdb 16 16) 32768 0)
+secondBlock = filled 9 (shape (writeCdb ten 16 16) 32768 0)

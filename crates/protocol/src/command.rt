@@ -66,8 +66,8 @@ fn word32(cdb: &[u8], at: usize) -> u32
 }
 
 impl Command {
-    // The command of a command block; bytes that are missing count as 0. READ and WRITE have two forms each, READ (10) and READ (12),
-    // which differ in nothing but the bytes of the length.
+    // The command of a command block; bytes that are missing count as 0. READ and WRITE have two forms each, (10) and (12), which
+    // differ in nothing but the bytes of the length.
     pub fn decode(cdb: &[u8]) -> Command
         ensures { λ r. ⌜ r ≡ decode (now (cdb .entry)) ⌝ }
     {

@@ -33,7 +33,7 @@ use Rattle.drive.specs.Requests.{WriteOf, ReadOf}
 use Rattle.drive.specs.Alike.{recordedByte, pendingSectors, Alike}
 use Rattle.history.specs.Types.{Disc, Appended, Answer, Accepted, Drive as byDrive, DriveRefusal, BlankCheck, EndOfUserArea, LinkRefusal, CommandBlockLength, MediumSize, UnsoundState, TransferLength, Number, Read}
 use Rattle.history.specs.Sequence.{Start, Turn, Told, found, requests, result, final, Admissible, Undisturbed, AllAccepted, blocksOf}
-use Rattle.history.specs.Forms.{twelve, opcode, longest, writeBlock}
+use Rattle.history.specs.Forms.{Form, ten, twelve, readOpcode, writeOpcode, longest, fields, writeCdb}
 use Rattle.history.specs.Cut.{Parts, none, part, CutOf, SameCommand, Again, ends, same, cut, Agreeing}
 use Rattle.history.specs.Demand.{Demand3}
 use Rattle.history.specs.Account.{Account, opened, extentOf, sectorAt, written, flushed, credited, noted, account, contentAt, recordedAt, pendingAt, readableAt}
@@ -41,11 +41,10 @@ use Rattle.history.specs.Kept.{Keeps, KeptAccount}
 use Rattle.history.specs.Brought.{Written, writeOf, acceptedWrite, writes, broughtTo, sole, ReadBack, broughtInto, ListedKeeps, KeptAsListed}
 use Rattle.history.specs.Past.{RecordedByHistory}
 use Rattle.history.specs.Stale.{Change, unchanged, Given, after, turn, given}
-use Rattle.history.specs.Examples.{writeCdb, writeCdb12}
 use Rattle.history.specs.Witness.{Shape, shape, discAfter}
-use Rattle.history.specs.Cases.{answers, replies, counts, Flash, blankOver, Log, firstFive, nextThirteen, writing, writing12, asking, reading, reading12, readingSome, flushing, newer, older, earliest, early, TwoControllers, ByteForByte, BlockStays, reserving, inTwo, Fitting, afterAll, Reader, Requested, CasesOn, FirstWrite, Longest, Cases}
-use Rattle.history.specs.Wide.{Named, partsOf, total, nameable}
-use Rattle.history.proofs.Laws.Parts.{write-request, write-request12}
+use Rattle.history.specs.Cases.{answers, replies, counts, Flash, blankOver, Log, firstFive, nextThirteen, writing, asking, reading, readingSome, flushing, newer, older, earliest, early, TwoControllers, ByteForByte, BlockStays, reserving, inTwo, Fitting, afterAll, Reader, Requested, CasesOn, FirstWrite, Limits, Cases}
+use Rattle.history.specs.Wide.{Portion, partsOf, total, nameable}
+use Rattle.history.proofs.Laws.Forms.{write-cdb, both-name}
 use Rattle.history.proofs.Laws.Demand.{demand-3}
 use Rattle.history.proofs.Laws.Kept.{kept-account}
 use Rattle.history.proofs.Laws.ReadBack.{read-back, kept-as-listed}
@@ -93,20 +92,20 @@ five-length l =
 thirteen-length : (l : Log) → length (nextThirteen l) ≡ 26624
 thirteen-length l = length-append (l .four) _ ∙ omega (arith, length-append (l .five) [], l .fourLength, l .fiveLength)
 
-written-of : (a n : ℕ) (x : List ℕ) (k : ℕ) → length x ≡ k → k ≡ 2048 * n → WriteOf (writing a n x) (lba a) n
-written-of a n x k h e = write-request (lba a) n x (h ∙ e)
+written-of : (f : Form) (a n : ℕ) (x : List ℕ) → a < 256 → n < 256 → length x ≡ 2048 * n → WriteOf (writing f a n x) (lba a) n
+written-of f a n x near few h = write-cdb f a n (omega (arith, near)) (both-name f n (omega (arith, few))) x h
 
-cut-in-three : (l : Log) → CutOf (writing 0 5 (firstFive l)) (writing 0 2 (l .one) ∷ writing12 2 1 (l .two) ∷ writing 3 2 (l .three) ∷ [])
+cut-in-three : (l : Log) → CutOf (writing ten 0 5 (firstFive l)) (writing ten 0 2 (l .one) ∷ writing twelve 2 1 (l .two) ∷ writing ten 3 2 (l .three) ∷ [])
 cut-in-three l =
     record {
       address = lba 0;
       count = 5;
-      whole = written-of 0 5 (firstFive l) 10240 (five-length l) refl;
+      whole = written-of ten 0 5 (firstFive l) (omega arith) (omega arith) (five-length l);
       several = omega arith;
       parts =
-          part (lba 0) 2 3 (writing 0 2 (l .one)) _ _ (omega arith) (written-of 0 2 (l .one) 4096 (l .oneLength) refl)
-          (part (lba 2) 1 2 (writing12 2 1 (l .two)) _ _ (omega arith) (write-request12 (lba 2) 1 (l .two) (l .twoLength))
-          (part (lba 3) 2 0 (writing 3 2 (l .three)) [] [] (omega arith) (written-of 3 2 (l .three) 4096 (l .threeLength) refl) (none _)));
+          part (lba 0) 2 3 (writing ten 0 2 (l .one)) _ _ (omega arith) (written-of ten 0 2 (l .one) (omega arith) (omega arith) (l .oneLength))
+          (part (lba 2) 1 2 (writing twelve 2 1 (l .two)) _ _ (omega arith) (written-of twelve 2 1 (l .two) (omega arith) (omega arith) (l .twoLength))
+          (part (lba 3) 2 0 (writing ten 3 2 (l .three)) [] [] (omega arith) (written-of ten 3 2 (l .three) (omega arith) (omega arith) (l .threeLength)) (none _)));
     }
 
 cut-in-two :
@@ -129,11 +128,11 @@ cut-in-two q one two a n m w w₁ w₂ some more joined =
     none-more m = omega arith
 
 -- the second WRITE, a WRITE (12), in two parts of the other form
-cut-of-thirteen : (l : Log) → CutOf (writing12 5 13 (nextThirteen l)) (writing 5 3 (l .four) ∷ writing 8 10 (l .five) ∷ [])
+cut-of-thirteen : (l : Log) → CutOf (writing twelve 5 13 (nextThirteen l)) (writing ten 5 3 (l .four) ∷ writing ten 8 10 (l .five) ∷ [])
 cut-of-thirteen l =
-    cut-in-two (writing12 5 13 (nextThirteen l)) (writing 5 3 (l .four)) (writing 8 10 (l .five)) 5 3 10
-    (write-request12 (lba 5) 13 (nextThirteen l) (thirteen-length l)) (write-request (lba 5) 3 (l .four) (l .fourLength))
-    (write-request (lba 8) 10 (l .five) (l .fiveLength)) (omega arith) (omega arith) refl
+    cut-in-two (writing twelve 5 13 (nextThirteen l)) (writing ten 5 3 (l .four)) (writing ten 8 10 (l .five)) 5 3 10
+    (written-of twelve 5 13 (nextThirteen l) (omega arith) (omega arith) (thirteen-length l)) (written-of ten 5 3 (l .four) (omega arith) (omega arith) (l .fourLength))
+    (written-of ten 8 10 (l .five) (omega arith) (omega arith) (l .fiveLength)) (omega arith) (omega arith) refl
 
 same-again : (q u : Request) → q .cdb ≡ u .cdb → q .payload ≡ u .payload → length (q .buffer) ≡ length (u .buffer) → SameCommand q u
 same-again q u b x r = record { cdb = b; payload = x; room = r }
@@ -141,43 +140,43 @@ same-again q u b x r = record { cdb = b; payload = x; room = r }
 -- the shapes of the newer controller's commands
 abbrev newerShapes : List Shape
 newerShapes =
-    shape (writeCdb 0 5) 10240 0 ∷ shape (asking 0 .cdb) 0 36 ∷ shape (writeCdb12 5 13) 26624 0 ∷ shape (reading12 2 0 .cdb) 0 32768
-    ∷ shape (flushing .cdb) 0 0 ∷ shape (reading 32 0 .cdb) 0 32768 ∷ shape (writeCdb 32 3) 6144 0 ∷ []
+    shape (writeCdb ten 0 5) 10240 0 ∷ shape (asking 0 .cdb) 0 36 ∷ shape (writeCdb twelve 5 13) 26624 0 ∷ shape (reading twelve 2 0 .cdb) 0 32768
+    ∷ shape (flushing .cdb) 0 0 ∷ shape (reading ten 32 0 .cdb) 0 32768 ∷ shape (writeCdb ten 32 3) 6144 0 ∷ []
 
 abbrev newerAnswers : List Answer
 newerAnswers = replicate 5 Accepted ++ (byDrive BlankCheck ∷ Accepted ∷ [])
 
 abbrev earliestShapes : List Shape
-earliestShapes = shape (writeCdb 0 5) 10240 0 ∷ []
+earliestShapes = shape (writeCdb ten 0 5) 10240 0 ∷ []
 
 abbrev earlyShapes : List Shape
-earlyShapes = shape (writeCdb 0 5) 10240 0 ∷ shape (asking 0 .cdb) 0 36 ∷ shape (writeCdb12 5 13) 26624 0 ∷ []
+earlyShapes = shape (writeCdb ten 0 5) 10240 0 ∷ shape (asking 0 .cdb) 0 36 ∷ shape (writeCdb twelve 5 13) 26624 0 ∷ []
 
 newer-shapes : (s : Drive) (l : Log) (x : ℕ) (j : ℕ → Change) → shapes (given (newer l x j) s) ≡ newerShapes
 unfolding given
 newer-shapes s l x j =
     λ i.
-    shape (writeCdb 0 5) (five-length l i) 0 ∷ shape (asking 0 .cdb) 0 (length-replicate {A = ℕ} 36 x i)
-    ∷ shape (writeCdb12 5 13) (thirteen-length l i) 0 ∷ shape (reading12 2 0 .cdb) 0 (length-replicate {A = ℕ} 32768 x i)
-    ∷ shape (flushing .cdb) 0 0 ∷ shape (reading 32 0 .cdb) 0 (length-replicate {A = ℕ} 32768 x i) ∷ shape (writeCdb 32 3) (l .sixLength i) 0 ∷ []
+    shape (writeCdb ten 0 5) (five-length l i) 0 ∷ shape (asking 0 .cdb) 0 (length-replicate {A = ℕ} 36 x i)
+    ∷ shape (writeCdb twelve 5 13) (thirteen-length l i) 0 ∷ shape (reading twelve 2 0 .cdb) 0 (length-replicate {A = ℕ} 32768 x i)
+    ∷ shape (flushing .cdb) 0 0 ∷ shape (reading ten 32 0 .cdb) 0 (length-replicate {A = ℕ} 32768 x i) ∷ shape (writeCdb ten 32 3) (l .sixLength i) 0 ∷ []
 
 earliest-shapes : (s : Drive) (l : Log) (j : ℕ → Change) → shapes (given (earliest l j) s) ≡ earliestShapes
 unfolding given
-earliest-shapes s l j = λ i. shape (writeCdb 0 5) (five-length l i) 0 ∷ []
+earliest-shapes s l j = λ i. shape (writeCdb ten 0 5) (five-length l i) 0 ∷ []
 
 early-shapes : (s : Drive) (l : Log) (x : ℕ) (j : ℕ → Change) → shapes (given (early l x j) s) ≡ earlyShapes
 unfolding given
 early-shapes s l x j =
     λ i.
-    shape (writeCdb 0 5) (five-length l i) 0 ∷ shape (asking 0 .cdb) 0 (length-replicate {A = ℕ} 36 x i)
-    ∷ shape (writeCdb12 5 13) (thirteen-length l i) 0 ∷ []
+    shape (writeCdb ten 0 5) (five-length l i) 0 ∷ shape (asking 0 .cdb) 0 (length-replicate {A = ℕ} 36 x i)
+    ∷ shape (writeCdb twelve 5 13) (thirteen-length l i) 0 ∷ []
 
 -- a READ after them, and a WRITE after RESERVE 48
 abbrev lateShapes : ℕ → ℕ → List Shape
-lateShapes a n = newerShapes ++ (shape (readingSome a n 0 .cdb) 0 (2048 * n) ∷ [])
+lateShapes a n = newerShapes ++ (shape (readingSome ten a n 0 .cdb) 0 (2048 * n) ∷ [])
 
 abbrev wholeShapes : ℕ → ℕ → List Shape
-wholeShapes p n = shape (reserving .cdb) 0 0 ∷ shape (writeCdb 0 p) n 0 ∷ []
+wholeShapes p n = shape (reserving .cdb) 0 0 ∷ shape (writeCdb ten 0 p) n 0 ∷ []
 
 -- the disc and the account after shapes
 abbrev listOf : ℕ → List Shape → Disc
@@ -229,7 +228,7 @@ record Computed (c : ℕ) : Type 0 where
 
 -- on the smallest disc and on the largest
 computed : Computed 256 × Computed 143444
-unfolding decisions discAfter accountBy given noted credited written flushed splitTail reserve decode listed some every find sumRecorded usedFirst firstAtZero followsFrom inOrder endsWithin recordedWithin zeroedWithin incompleteLast tailLast tailOrFull pendingNamed finalizedComplete sound allowedState isRefusalSense allowedSense blank dataLength replyRoom lengthsFit accepted accept refuse flush flushPlan synchronizeCache allReadable mediumShare sending read flushOthers flushOthersPlan gather writeTo writeFound write nextWritableOrZero freeSectors trackBytes trackVerdict trackFound trackNumbered readTrackInformation perform judgeCommand judge
+unfolding decisions discAfter accountBy given noted credited written flushed splitTail reserve decode readOpcode writeOpcode fields listed some every find sumRecorded usedFirst firstAtZero followsFrom inOrder endsWithin recordedWithin zeroedWithin incompleteLast tailLast tailOrFull pendingNamed finalizedComplete sound allowedState isRefusalSense allowedSense blank dataLength replyRoom lengthsFit accepted accept refuse flush flushPlan synchronizeCache allReadable mediumShare sending read flushOthers flushOthersPlan gather writeTo writeFound write nextWritableOrZero freeSectors trackBytes trackVerdict trackFound trackNumbered readTrackInformation perform judgeCommand judge
 computed = (
   record {
     range = refl;
@@ -291,18 +290,18 @@ module _ (c : ℕ) (m : Computed c) (s : Drive) (start : Start c s) (l : Log) (x
 -- the older controller's sequence is the newer one's again
 module _ (s e : Drive) (l : Log) (x y : ℕ) (j k : ℕ → Change) where
   abbrev parts₁ : List Given
-  parts₁ = after (k 0) (writing 0 2 (l .one)) ∷ after (k 1) (writing12 2 1 (l .two)) ∷ after (k 2) (writing 3 2 (l .three)) ∷ []
+  parts₁ = after (k 0) (writing ten 0 2 (l .one)) ∷ after (k 1) (writing twelve 2 1 (l .two)) ∷ after (k 2) (writing ten 3 2 (l .three)) ∷ []
 
   abbrev rest₁ : List Given
   rest₁ =
-      after (k 3) (asking y) ∷ after (k 4) (writing 5 3 (l .four)) ∷ after (k 5) (writing 8 10 (l .five)) ∷ after (k 6) (reading12 2 y)
-      ∷ after (k 7) flushing ∷ after (k 8) (reading 32 y) ∷ after (k 9) (writing 32 3 (l .six)) ∷ []
+      after (k 3) (asking y) ∷ after (k 4) (writing ten 5 3 (l .four)) ∷ after (k 5) (writing ten 8 10 (l .five)) ∷ after (k 6) (reading twelve 2 y)
+      ∷ after (k 7) flushing ∷ after (k 8) (reading ten 32 y) ∷ after (k 9) (writing ten 32 3 (l .six)) ∷ []
 
   abbrev parts₂ : List Given
-  parts₂ = after (k 4) (writing 5 3 (l .four)) ∷ after (k 5) (writing 8 10 (l .five)) ∷ []
+  parts₂ = after (k 4) (writing ten 5 3 (l .four)) ∷ after (k 5) (writing ten 8 10 (l .five)) ∷ []
 
   abbrev rest₂ : List Given
-  rest₂ = after (k 6) (reading12 2 y) ∷ after (k 7) flushing ∷ after (k 8) (reading 32 y) ∷ after (k 9) (writing 32 3 (l .six)) ∷ []
+  rest₂ = after (k 6) (reading twelve 2 y) ∷ after (k 7) flushing ∷ after (k 8) (reading ten 32 y) ∷ after (k 9) (writing ten 32 3 (l .six)) ∷ []
 
   abbrev after₁ : Drive
   after₁ = final (given parts₁ e) e
@@ -321,10 +320,10 @@ module _ (s e : Drive) (l : Log) (x y : ℕ) (j k : ℕ → Change) where
       cut s _ _ (given parts₁ e) (given rest₁ after₁) _ one (cut-in-three l)
       (same _ _ _ _ _ (same-again (asking x) (asking y) refl refl (length-replicate {A = ℕ} 36 x ∙ sym (length-replicate {A = ℕ} 36 y)))
       (cut _ _ _ (given parts₂ told₁) (given rest₂ after₂) _ two (cut-of-thirteen l)
-      (same _ _ _ _ _ (same-again (reading12 2 x) (reading12 2 y) refl refl (length-replicate {A = ℕ} 32768 x ∙ sym (length-replicate {A = ℕ} 32768 y)))
+      (same _ _ _ _ _ (same-again (reading twelve 2 x) (reading twelve 2 y) refl refl (length-replicate {A = ℕ} 32768 x ∙ sym (length-replicate {A = ℕ} 32768 y)))
       (same _ _ _ _ _ (same-again flushing flushing refl refl refl)
-      (same _ _ _ _ _ (same-again (reading 32 x) (reading 32 y) refl refl (length-replicate {A = ℕ} 32768 x ∙ sym (length-replicate {A = ℕ} 32768 y)))
-      (same _ _ _ _ _ (same-again (writing 32 3 (l .six)) (writing 32 3 (l .six)) refl refl refl) (ends _)))))
+      (same _ _ _ _ _ (same-again (reading ten 32 x) (reading ten 32 y) refl refl (length-replicate {A = ℕ} 32768 x ∙ sym (length-replicate {A = ℕ} 32768 y)))
+      (same _ _ _ _ _ (same-again (writing ten 32 3 (l .six)) (writing ten 32 3 (l .six)) refl refl refl) (ends _)))))
       refl))
       refl
 
@@ -406,13 +405,13 @@ module _ (c : ℕ) (m : Computed c) (demand : Demand3) (f g : Flash c) (l : Log)
 unchanged-newer : (s : Drive) (l : Log) (x : ℕ) → Undisturbed (given (newer l x (λ i. unchanged)) s) s
 unchanged-newer s l x =
     given-undisturbed
-    (writing 0 5 (firstFive l) ∷ asking x ∷ writing12 5 13 (nextThirteen l) ∷ reading12 2 x ∷ flushing ∷ reading 32 x ∷ writing 32 3 (l .six) ∷ []) s
+    (writing ten 0 5 (firstFive l) ∷ asking x ∷ writing twelve 5 13 (nextThirteen l) ∷ reading twelve 2 x ∷ flushing ∷ reading ten 32 x ∷ writing ten 32 3 (l .six) ∷ []) s
 
 unchanged-older : (s : Drive) (l : Log) (x : ℕ) → Undisturbed (given (older l x (λ i. unchanged)) s) s
 unchanged-older s l x =
     given-undisturbed
-    (writing 0 2 (l .one) ∷ writing12 2 1 (l .two) ∷ writing 3 2 (l .three) ∷ asking x ∷ writing 5 3 (l .four) ∷ writing 8 10 (l .five)
-    ∷ reading12 2 x ∷ flushing ∷ reading 32 x ∷ writing 32 3 (l .six) ∷ []) s
+    (writing ten 0 2 (l .one) ∷ writing twelve 2 1 (l .two) ∷ writing ten 3 2 (l .three) ∷ asking x ∷ writing ten 5 3 (l .four) ∷ writing ten 8 10 (l .five)
+    ∷ reading twelve 2 x ∷ flushing ∷ reading ten 32 x ∷ writing ten 32 3 (l .six) ∷ []) s
 
 byte-for-byte :
     (c : ℕ) → Computed c → Demand3 → (f : Flash c) (l : Log) (x y : ℕ)
@@ -427,7 +426,7 @@ byte-for-byte c m demand f l x y =
 
 -- a recorded block stays
 abbrev later : Log → ℕ → (ℕ → Change) → List Given
-later l x j = after (j 3) (reading12 2 x) ∷ after (j 4) flushing ∷ after (j 5) (reading 32 x) ∷ after (j 6) (writing 32 3 (l .six)) ∷ []
+later l x j = after (j 3) (reading twelve 2 x) ∷ after (j 4) flushing ∷ after (j 5) (reading ten 32 x) ∷ after (j 6) (writing ten 32 3 (l .six)) ∷ []
 
 newer-split :
     (s : Drive) (l : Log) (x : ℕ) (j : ℕ → Change)
@@ -461,11 +460,11 @@ joined-length : (x y : List ℕ) (n m : ℕ) → length x ≡ n → length y ≡
 joined-length x y n m h k = length-append x (y ++ []) ∙ omega (arith, length-append y [], h, k)
 
 abbrev whole-then : List ℕ → ℕ → (ℕ → Change) → List Given
-whole-then x p j = after (j 0) reserving ∷ after (j 1) (writing 0 p x) ∷ []
+whole-then x p j = after (j 0) reserving ∷ after (j 1) (writing ten 0 p x) ∷ []
 
 whole-shapes : (s : Drive) (x : List ℕ) (p b : ℕ) (j : ℕ → Change) → length x ≡ b → shapes (given (whole-then x p j) s) ≡ wholeShapes p b
 unfolding given
-whole-shapes s x p b j size = λ i. shape (reserving .cdb) 0 0 ∷ shape (writeCdb 0 p) (size i) 0 ∷ []
+whole-shapes s x p b j size = λ i. shape (reserving .cdb) 0 0 ∷ shape (writeCdb ten 0 p) (size i) 0 ∷ []
 
 whole-answers :
     (c : ℕ) (s : Drive) → Start c s → (x : List ℕ) (p b : ℕ) (j : ℕ → Change) → length x ≡ b
@@ -475,7 +474,7 @@ whole-answers c s start x p b j size =
 
 module _
     (c : ℕ) (demand : Demand3) (s : Drive) (start : Start c s) (x y : List ℕ) (n p : ℕ) (j : ℕ → Change)
-    (whole : CutOf (writing 0 p (joined x y)) (writing 0 40 x ∷ writing 40 n y ∷ []))
+    (whole : CutOf (writing ten 0 p (joined x y)) (writing ten 0 40 x ∷ writing twelve 40 n y ∷ []))
   where
     abbrev one : List Given
     one = whole-then (joined x y) p j
@@ -489,11 +488,11 @@ module _
     parts-answers =
         let ts = given (after (j 0) reserving ∷ []) s in
         let r = final ts s in
-        let t = turn (after (j 1) (writing 0 p (joined x y))) r in
-        let gs = after (j 1) (writing 0 40 x) ∷ after (j 2) (writing 40 n y) ∷ [] in
+        let t = turn (after (j 1) (writing ten 0 p (joined x y))) r in
+        let gs = after (j 1) (writing ten 0 40 x) ∷ after (j 2) (writing twelve 40 n y) ∷ [] in
         let w =
         demand .whole c s start ts (given-admissible (after (j 0) reserving ∷ []) s) t (given gs r)
-        (turn-alike (after (j 1) (writing 0 p (joined x y))) r) (given-admissible gs r) whole in (
+        (turn-alike (after (j 1) (writing ten 0 p (joined x y))) r) (given-admissible gs r) whole in (
           λ a b. (λ i. b i ∷ w .0 a .0 i ∷ w .0 a .1 .0 i ∷ []),
           λ a. w .1 (ap (λ (l : List Answer). getD l 1 Accepted) a, (ap (λ (l : List Answer). getD l 2 Accepted) a, tt)),
         )
@@ -509,8 +508,14 @@ fits c m demand f x y z one two three j =
     let start = flash-start c f (m .range) in
     let large = joined-length x y 81920 18432 one two in
     let small = joined-length x z 81920 16384 one three in
-    let no = parts-answers c demand s start x y 9 49 j (cut-in-two (writing 0 49 (joined x y)) (writing 0 40 x) (writing 40 9 y) 0 40 9 (write-request (lba 0) 49 (joined x y) large) (write-request (lba 0) 40 x one) (write-request (lba 40) 9 y two) (omega arith) (omega arith) refl) in
-    let yes = parts-answers c demand s start x z 8 48 j (cut-in-two (writing 0 48 (joined x z)) (writing 0 40 x) (writing 40 8 z) 0 40 8 (write-request (lba 0) 48 (joined x z) small) (write-request (lba 0) 40 x one) (write-request (lba 40) 8 z three) (omega arith) (omega arith) refl) in
+    let no =
+    parts-answers c demand s start x y 9 49 j
+    (cut-in-two (writing ten 0 49 (joined x y)) (writing ten 0 40 x) (writing twelve 40 9 y) 0 40 9 (written-of ten 0 49 (joined x y) (omega arith) (omega arith) large)
+    (written-of ten 0 40 x (omega arith) (omega arith) one) (written-of twelve 40 9 y (omega arith) (omega arith) two) (omega arith) (omega arith) refl) in
+    let yes =
+    parts-answers c demand s start x z 8 48 j
+    (cut-in-two (writing ten 0 48 (joined x z)) (writing ten 0 40 x) (writing twelve 40 8 z) 0 40 8 (written-of ten 0 48 (joined x z) (omega arith) (omega arith) small)
+    (written-of ten 0 40 x (omega arith) (omega arith) one) (written-of twelve 40 8 z (omega arith) (omega arith) three) (omega arith) (omega arith) refl) in
     let refused = whole-answers c s start (joined x y) 49 100352 j large ∙ m .partly in
     let taken = whole-answers c s start (joined x z) 48 98304 j small ∙ m .wholly in
     record {
@@ -519,16 +524,16 @@ fits c m demand f x y z one two three j =
     }
 
 abbrev late : ℕ → ℕ → Log → ℕ → (ℕ → Change) → List Given
-late a n l x j = newer l x j ++ (after (j 7) (readingSome a n x) ∷ [])
+late a n l x j = newer l x j ++ (after (j 7) (readingSome ten a n x) ∷ [])
 
 late-shapes : (s : Drive) (a n : ℕ) (l : Log) (x : ℕ) (j : ℕ → Change) → shapes (given (late a n l x j) s) ≡ lateShapes a n
 unfolding given
 late-shapes s a n l x j =
     λ i.
-    shape (writeCdb 0 5) (five-length l i) 0 ∷ shape (asking 0 .cdb) 0 (length-replicate {A = ℕ} 36 x i)
-    ∷ shape (writeCdb12 5 13) (thirteen-length l i) 0 ∷ shape (reading12 2 0 .cdb) 0 (length-replicate {A = ℕ} 32768 x i)
-    ∷ shape (flushing .cdb) 0 0 ∷ shape (reading 32 0 .cdb) 0 (length-replicate {A = ℕ} 32768 x i) ∷ shape (writeCdb 32 3) (l .sixLength i) 0
-    ∷ shape (readingSome a n 0 .cdb) 0 (length-replicate {A = ℕ} (2048 * n) x i) ∷ []
+    shape (writeCdb ten 0 5) (five-length l i) 0 ∷ shape (asking 0 .cdb) 0 (length-replicate {A = ℕ} 36 x i)
+    ∷ shape (writeCdb twelve 5 13) (thirteen-length l i) 0 ∷ shape (reading twelve 2 0 .cdb) 0 (length-replicate {A = ℕ} 32768 x i)
+    ∷ shape (flushing .cdb) 0 0 ∷ shape (reading ten 32 0 .cdb) 0 (length-replicate {A = ℕ} 32768 x i) ∷ shape (writeCdb ten 32 3) (l .sixLength i) 0
+    ∷ shape (readingSome ten a n 0 .cdb) 0 (length-replicate {A = ℕ} (2048 * n) x i) ∷ []
 
 late-answers :
     (c : ℕ) → Computed c → (f : Flash c) (a n : ℕ) (l : Log) (x : ℕ) (j : ℕ → Change)
@@ -579,17 +584,17 @@ module _ (c : ℕ) (m : Computed c) (kept : KeptAccount) (f : Flash c) (l : Log)
 
   read-early :
       (a : ℕ) → a < 16 → sectorAt a (getD (replies logTurns disc₀) 3 []) ≡ contentAt earlyTurns disc₀ (2 + a)
-  unfolding given final answers replies decode
+  unfolding given final answers replies decode readOpcode writeOpcode fields
   read-early a h =
       let r = final earlyTurns disc₀ in
-      kept .back c disc₀ start₀ earlyTurns early-admissible (turn (after (j 3) (reading12 2 x)) r) (turn-alike (after (j 3) (reading12 2 x)) r) (lba 2) 16 refl
+      kept .back c disc₀ start₀ earlyTurns early-admissible (turn (after (j 3) (reading twelve 2 x)) r) (turn-alike (after (j 3) (reading twelve 2 x)) r) (lba 2) 16 refl
       (newer-answer c m disc₀ start₀ l x j 3) a h
 
   read-late :
-      (a : ℕ) → a < 16 → sectorAt a (afterAll logTurns disc₀ (after (j 7) (reading 16 x)) .reply) ≡ contentAt logTurns disc₀ (16 + a)
-  unfolding given final answers replies decode
+      (a : ℕ) → a < 16 → sectorAt a (afterAll logTurns disc₀ (after (j 7) (reading ten 16 x)) .reply) ≡ contentAt logTurns disc₀ (16 + a)
+  unfolding given final answers replies decode readOpcode writeOpcode fields
   read-late a h =
-      kept .back c disc₀ start₀ logTurns log-admissible (turn (after (j 7) (reading 16 x)) logEnd) (turn-alike (after (j 7) (reading 16 x)) logEnd) (lba 16) 16 refl
+      kept .back c disc₀ start₀ logTurns log-admissible (turn (after (j 7) (reading ten 16 x)) logEnd) (turn-alike (after (j 7) (reading ten 16 x)) logEnd) (lba 16) 16 refl
       (late-answers c m f 16 16 l x j (m .lateAnswered .1)) a h
 
   early-known : (a : ℕ) → atAddress (listOf c earlyShapes) (lba a) ≡ Number 1 → contentAt earlyTurns disc₀ a ≡ accountOf c earlyTurns earlyShapes .content a
@@ -617,17 +622,18 @@ module _ (c : ℕ) (m : Computed c) (kept : KeptAccount) (f : Flash c) (l : Log)
   log-readable a e =
       ap (λ (b : Bool). b || pendingAt logTurns disc₀ a) (log-recorded a e) ∙ ap (λ (b : Bool). ltb a 32 || b) (log-waiting a e)
 
-  some-read : (n : ℕ) → decode (readingSome 31 n x .cdb) ≡ Read (lba 31) n → ReadOf (readingSome 31 n x) (lba 31) n
+  some-read : (n : ℕ) → decode (readingSome ten 31 n x .cdb) ≡ Read (lba 31) n → ReadOf (readingSome ten 31 n x) (lba 31) n
+  unfolding fields
   some-read n e =
       let size = length-replicate {A = ℕ} (2048 * n) x in
       record { cdb = refl; command = e; payload = refl; room = omega (arith, size) }
 
   log-reads :
-      (n : ℕ) → decode (readingSome 31 n x .cdb) ≡ Read (lba 31) n → 1 ≤ n
-      → (((i : ℕ) → i < n → readableAt logTurns disc₀ (31 + i) ≡ true) → afterAll logTurns disc₀ (after (j 7) (readingSome 31 n x)) .answer ≡ Accepted)
-      × (afterAll logTurns disc₀ (after (j 7) (readingSome 31 n x)) .answer ≡ Accepted → (i : ℕ) → i < n → readableAt logTurns disc₀ (31 + i) ≡ true)
+      (n : ℕ) → decode (readingSome ten 31 n x .cdb) ≡ Read (lba 31) n → 1 ≤ n
+      → (((i : ℕ) → i < n → readableAt logTurns disc₀ (31 + i) ≡ true) → afterAll logTurns disc₀ (after (j 7) (readingSome ten 31 n x)) .answer ≡ Accepted)
+      × (afterAll logTurns disc₀ (after (j 7) (readingSome ten 31 n x)) .answer ≡ Accepted → (i : ℕ) → i < n → readableAt logTurns disc₀ (31 + i) ≡ true)
   log-reads n e some =
-      let g = after (j 7) (readingSome 31 n x) in
+      let g = after (j 7) (readingSome ten 31 n x) in
       kept .readable c disc₀ start₀ logTurns log-admissible (turn g logEnd) (turn-alike g logEnd) (lba 31) n (some-read n e) some
 
   log-size : logEnd .disc .capacity ≡ c
@@ -640,12 +646,12 @@ module _ (c : ℕ) (m : Computed c) (kept : KeptAccount) (f : Flash c) (l : Log)
   up-to-last (suc (suc (suc zero))) h = log-readable 34 (m .newerPlaces .5)
   up-to-last (suc (suc (suc (suc i)))) h = absurd (omega (arith, h))
 
-  four-read : decode (readingSome 31 4 x .cdb) ≡ Read (lba 31) 4
-  unfolding decode
+  four-read : decode (readingSome ten 31 4 x .cdb) ≡ Read (lba 31) 4
+  unfolding decode readOpcode fields
   four-read = refl
 
-  five-read : decode (readingSome 31 5 x .cdb) ≡ Read (lba 31) 5
-  unfolding decode
+  five-read : decode (readingSome ten 31 5 x .cdb) ≡ Read (lba 31) 5
+  unfolding decode readOpcode fields
   five-read = refl
 
   log-kept : Keeps (account 1 logTurns disc₀) (listOf c newerShapes) 1
@@ -683,7 +689,7 @@ module _ (c : ℕ) (m : Computed c) (kept : KeptAccount) (f : Flash c) (l : Log)
         accepted = log-reads 4 four-read (omega arith) .0 up-to-last;
         beyondLast = λ t. contradiction (log-reads 5 five-read (omega arith) .1 t 4 (omega arith)) (log-readable 35 (m .newerPlaces .6));
         refused =
-            let g = after (j 7) (readingSome 31 5 x) in
+            let g = after (j 7) (readingSome ten 31 5 x) in
             let least = leb-true 256 c (and-left (leb 256 c) (leb c 143444) (m .range)) in
             kept .blank c disc₀ start₀ logTurns log-admissible (turn g logEnd) (turn-alike g logEnd) (lba 31) 5 (some-read 5 five-read)
             (omega (arith, log-size, least)) 4 (omega arith) (log-readable 35 (m .newerPlaces .6));
@@ -717,51 +723,51 @@ module _ (c : ℕ) (m : Computed c) (back : ReadBack) (count : KeptAsListed) (hi
 
   -- the sequence around the second WRITE
   abbrev front₁ : List Given
-  front₁ = after (j 0) (writing 0 5 (firstFive l)) ∷ after (j 1) (asking x) ∷ []
+  front₁ = after (j 0) (writing ten 0 5 (firstFive l)) ∷ after (j 1) (asking x) ∷ []
 
   abbrev write₁ : Given
-  write₁ = after (j 2) (writing12 5 13 (nextThirteen l))
+  write₁ = after (j 2) (writing twelve 5 13 (nextThirteen l))
 
-  brought₁ : sectorAt 7 (afterAll turns₁ disc₁ (after (j 7) (reading 0 x)) .reply) ≡ sectorAt 2 (nextThirteen l)
-  unfolding given final answers replies decode
+  brought₁ : sectorAt 7 (afterAll turns₁ disc₁ (after (j 7) (reading ten 0 x)) .reply) ≡ sectorAt 2 (nextThirteen l)
+  unfolding given final answers replies decode readOpcode writeOpcode fields
   brought₁ =
       let ts = given front₁ disc₁ in
       let w = turn write₁ (final ts disc₁) in
       let us = given (later l x j) (result w (final ts disc₁) .after) in
       back .later c disc₁ start₁ ts w us admissible₁ (lba 5) 13 refl (newer-answer c m disc₁ start₁ l x j 2)
-      (turn (after (j 7) (reading 0 x)) end₁) (turn-alike (after (j 7) (reading 0 x)) end₁) (lba 0) 16 refl
+      (turn (after (j 7) (reading ten 0 x)) end₁) (turn-alike (after (j 7) (reading ten 0 x)) end₁) (lba 0) 16 refl
       (late-answers c m f 0 16 l x j (m .lateAnswered .0)) 2 7 (omega arith) (omega arith) refl
 
   -- the sectors of accepted WRITEs, by the answers
   bring : List Answer → List Written
   bring r =
-      acceptedWrite (getD r 0 Accepted) (writing 0 5 (firstFive l)) ++ (acceptedWrite (getD r 1 Accepted) (asking x)
-      ++ (acceptedWrite (getD r 2 Accepted) (writing12 5 13 (nextThirteen l)) ++ (acceptedWrite (getD r 3 Accepted) (reading12 2 x)
-      ++ (acceptedWrite (getD r 4 Accepted) flushing ++ (acceptedWrite (getD r 5 Accepted) (reading 32 x)
-      ++ (acceptedWrite (getD r 6 Accepted) (writing 32 3 (l .six)) ++ []))))))
+      acceptedWrite (getD r 0 Accepted) (writing ten 0 5 (firstFive l)) ++ (acceptedWrite (getD r 1 Accepted) (asking x)
+      ++ (acceptedWrite (getD r 2 Accepted) (writing twelve 5 13 (nextThirteen l)) ++ (acceptedWrite (getD r 3 Accepted) (reading twelve 2 x)
+      ++ (acceptedWrite (getD r 4 Accepted) flushing ++ (acceptedWrite (getD r 5 Accepted) (reading ten 32 x)
+      ++ (acceptedWrite (getD r 6 Accepted) (writing ten 32 3 (l .six)) ++ []))))))
 
-  none₁ : sectorAt 4 (afterAll turns₁ disc₁ (after (j 7) (reading 16 x)) .reply) ≡ zeros 2048
-  unfolding given final answers replies decode writes acceptedWrite writeOf broughtTo sole bring
+  none₁ : sectorAt 4 (afterAll turns₁ disc₁ (after (j 7) (reading ten 16 x)) .reply) ≡ zeros 2048
+  unfolding given final answers replies decode readOpcode writeOpcode fields writes acceptedWrite writeOf broughtTo sole bring
   none₁ =
-      back .back c disc₁ start₁ turns₁ admissible₁ (turn (after (j 7) (reading 16 x)) end₁) (turn-alike (after (j 7) (reading 16 x)) end₁) (lba 16) 16 refl
+      back .back c disc₁ start₁ turns₁ admissible₁ (turn (after (j 7) (reading ten 16 x)) end₁) (turn-alike (after (j 7) (reading ten 16 x)) end₁) (lba 16) 16 refl
       (late-answers c m f 16 16 l x j (m .lateAnswered .1)) 4 (omega arith)
       ∙ ap (λ (r : List Answer). sole (broughtTo 20 (bring r))) (newer-answers c m disc₁ start₁ l x j)
 
   -- pending sectors, by the last WRITE and by all of them
-  waiting₁ : sectorAt 1 (afterAll turns₁ disc₁ (after (j 7) (readingSome 32 3 x)) .reply) ≡ sectorAt 1 (l .six)
-  unfolding given final answers replies decode
+  waiting₁ : sectorAt 1 (afterAll turns₁ disc₁ (after (j 7) (readingSome ten 32 3 x)) .reply) ≡ sectorAt 1 (l .six)
+  unfolding given final answers replies decode readOpcode writeOpcode fields
   waiting₁ =
-      let front = front₁ ++ (write₁ ∷ after (j 3) (reading12 2 x) ∷ after (j 4) flushing ∷ after (j 5) (reading 32 x) ∷ []) in
+      let front = front₁ ++ (write₁ ∷ after (j 3) (reading twelve 2 x) ∷ after (j 4) flushing ∷ after (j 5) (reading ten 32 x) ∷ []) in
       let ts = given front disc₁ in
-      let w = turn (after (j 6) (writing 32 3 (l .six))) (final ts disc₁) in
-      let g = after (j 7) (readingSome 32 3 x) in
+      let w = turn (after (j 6) (writing ten 32 3 (l .six))) (final ts disc₁) in
+      let g = after (j 7) (readingSome ten 32 3 x) in
       back .later c disc₁ start₁ ts w [] admissible₁ (lba 32) 3 refl (newer-answer c m disc₁ start₁ l x j 6)
       (turn g end₁) (turn-alike g end₁) (lba 32) 3 refl (late-answers c m f 32 3 l x j (m .lateAnswered .2)) 1 1 (omega arith) (omega arith) refl
 
-  waiting-last₁ : sectorAt 2 (afterAll turns₁ disc₁ (after (j 7) (readingSome 32 3 x)) .reply) ≡ sectorAt 2 (l .six)
-  unfolding given final answers replies decode writes acceptedWrite writeOf broughtTo sole bring
+  waiting-last₁ : sectorAt 2 (afterAll turns₁ disc₁ (after (j 7) (readingSome ten 32 3 x)) .reply) ≡ sectorAt 2 (l .six)
+  unfolding given final answers replies decode readOpcode writeOpcode fields writes acceptedWrite writeOf broughtTo sole bring
   waiting-last₁ =
-      let g = after (j 7) (readingSome 32 3 x) in
+      let g = after (j 7) (readingSome ten 32 3 x) in
       back .back c disc₁ start₁ turns₁ admissible₁ (turn g end₁) (turn-alike g end₁) (lba 32) 3 refl
       (late-answers c m f 32 3 l x j (m .lateAnswered .2)) 2 (omega arith)
       ∙ ap (λ (r : List Answer). sole (broughtTo 34 (bring r))) (newer-answers c m disc₁ start₁ l x j)
@@ -816,7 +822,7 @@ module _ (c : ℕ) (m : Computed c) (back : ReadBack) (count : KeptAsListed) (hi
 -- the first WRITE of any disc, in any parts
 module _
     (demand : Demand3) (c : ℕ) (s e : Drive) (start : Start c s) (other : Start c e) (g : Given) (n : ℕ) (w : WriteOf (g .request) (lba 0) n)
-    (fit : n ≤ 16 * c) (ks : List Named) (several : 2 ≤ length ks) (sum : total ks ≡ n) (names : nameable 0 ks ≡ true) (hs : List Given)
+    (fit : n ≤ 16 * c) (ks : List Portion) (several : 2 ≤ length ks) (sum : total ks ≡ n) (names : nameable 0 ks ≡ true) (hs : List Given)
     (asked : map (λ (h : Given). h .request) hs ≡ partsOf 0 ks (g .request .payload))
   where
     taken : result (turn g s) s .answer ≡ Accepted
@@ -850,16 +856,17 @@ module _
           disc = sym (r .1 .disc);
         }
 
--- the longest WRITE, and what is none
-longest-write : Demand3 → Longest
-unfolding opcode longest writeBlock
-longest-write demand =
+-- the longest WRITEs, and what is none
+limits : Demand3 → Limits
+unfolding writeOpcode longest fields
+limits demand =
     record {
-      twelve = λ x h. demand .forms .each twelve 4294967295 4294967295 (omega arith) (omega arith) x h;
-      ten =
+      byTen = λ x h. demand .forms .each ten 4294967295 65535 (omega arith) (omega arith) x h;
+      byTwelve = λ x h. demand .forms .each twelve 4294967295 4294967295 (omega arith) (omega arith) x h;
+      noLonger =
           λ b h o a e.
           elim (demand .forms .only b h a 65536 e) [ inl f ↦ (let n = f .count in omega arith) | inr f ↦ (let p = f .opcode in omega (arith, o, p)) ];
-      past =
+      noFurther =
           λ b h n e.
           elim (demand .forms .only b h (lba 4294967296) n e) [ inl f ↦ (let a = f .address in omega arith) | inr f ↦ (let a = f .address in omega arith) ];
     }
@@ -879,7 +886,7 @@ drawn c m demand kept back count history =
 pub cases : Cases
 cases =
     record {
-      longest = longest-write demand-3;
+      limits = limits demand-3;
       smallest = drawn 256 (computed .0) demand-3 kept-account read-back kept-as-listed recorded-by-history;
       largest = drawn 143444 (computed .1) demand-3 kept-account read-back kept-as-listed recorded-by-history;
       everywhere = first-write demand-3;

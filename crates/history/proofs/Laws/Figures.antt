@@ -23,6 +23,7 @@ use Rattle.drive.specs.Bytes.{zeros}
 use Rattle.drive.specs.Step.{Drive}
 use Rattle.history.specs.Types.{Disc, Write, SynchronizeCache}
 use Rattle.history.specs.Sequence.{Start, final}
+use Rattle.history.specs.Forms.{writeOpcode, fields}
 use Rattle.history.specs.Examples.{steady}
 use Rattle.history.specs.Account.{Extent, sectorAt, Account, opened, written, flushed, credited, account}
 use Rattle.history.specs.Kept.{Keeps}
@@ -72,7 +73,7 @@ left = discAfter runShapes (blank 300)
 computed :
     (numbered left 1 .recorded ≡ 3) × (numbered left 1 .zeroed ≡ 43) × (pendingIn left 1 ≡ 0) × (numbered left 2 .recorded ≡ 2)
     × (numbered left 2 .zeroed ≡ 10) × (pendingIn left 2 ≡ 0)
-unfolding discAfter decode listed some every find sumRecorded usedFirst firstAtZero followsFrom inOrder endsWithin recordedWithin zeroedWithin incompleteLast tailLast tailOrFull pendingNamed finalizedComplete sound allowedState isRefusalSense allowedSense blank dataLength replyRoom lengthsFit accepted accept refuse refuseLink flush flushPlan allReadable read flushOthers flushOthersPlan gather writeTo writeFound write splitTail reserve appendTail closeIncomplete closeFragment close synchronizeCache perform judgeCommand judge
+unfolding discAfter decode writeOpcode fields listed some every find sumRecorded usedFirst firstAtZero followsFrom inOrder endsWithin recordedWithin zeroedWithin incompleteLast tailLast tailOrFull pendingNamed finalizedComplete sound allowedState isRefusalSense allowedSense blank dataLength replyRoom lengthsFit accepted accept refuse refuseLink flush flushPlan allReadable read flushOthers flushOthersPlan gather writeTo writeFound write splitTail reserve appendTail closeIncomplete closeFragment close synchronizeCache perform judgeCommand judge
 computed = (refl, refl, refl, refl, refl, refl)
 
 -- from every start of 300 blocks: the five sectors of the reserved fragment, flushed by a WRITE to the tail and then filled to its three

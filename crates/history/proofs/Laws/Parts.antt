@@ -10,16 +10,15 @@ use Rattle.drive.specs.Step.{Drive, Request, request, verdictOn, carriedOut, st
 use Rattle.drive.specs.Requests.{WriteOf}
 use Rattle.drive.proofs.Laws.Cut.{Served, write-verdict, accepted-served, whole-parts, parts-whole, cut-recorded, cut-after}
 use Rattle.history.specs.Types.{Lba, Accepted, Write, Verdict}
-use Rattle.history.specs.Examples.{writeCdb, writeCdb12}
 use Rattle.history.specs.Cut.{Parts, none, part}
 use Rattle.history.proofs.Laws.Runs.{runs, RunAccepted, runBlocks}
 
--- a WRITE of n sectors at an address, as some request: the parts still to come are one such WRITE. The definitions read a block as a
--- list of numbers of any size, so one number of it can hold a whole address
-abbrev pub writeRequest : Lba → ℕ → List ℕ → Request
-writeRequest a n x = request (writeCdb (a .0) n) x []
+-- a WRITE of n sectors at an address, as some request: the parts still to come are one such WRITE. The definitions read a command block as
+-- a list of numbers of any size, so one number of it can hold a whole address
+abbrev writeRequest : Lba → ℕ → List ℕ → Request
+writeRequest a n x = request (0x2A ∷ 0 ∷ 0 ∷ 0 ∷ 0 ∷ a .0 ∷ 0 ∷ 0 ∷ n ∷ 0 ∷ 0 ∷ 0 ∷ []) x []
 
-pub write-request : (a : Lba) (n : ℕ) (x : List ℕ) → length x ≡ 2048 * n → WriteOf (writeRequest a n x) a n
+write-request : (a : Lba) (n : ℕ) (x : List ℕ) → length x ≡ 2048 * n → WriteOf (writeRequest a n x) a n
 unfolding decode
 write-request a n x h =
     let address : 0 + (0 + a .0) ≡ a .0 = omega arith in
@@ -27,17 +26,6 @@ write-request a n x h =
     record {
       cdb = refl;
       command = ap (λ (k : ℕ). Write (lba k) (0 + n)) address ∙ ap (λ (k : ℕ). Write a k) count;
-      payload = h;
-    }
-
--- the same by WRITE (12)
-pub write-request12 : (a : Lba) (n : ℕ) (x : List ℕ) → length x ≡ 2048 * n → WriteOf (request (writeCdb12 (a .0) n) x []) a n
-unfolding decode
-write-request12 a n x h =
-    let whole : (k : ℕ) → 0 + (0 + k) ≡ k = λ k. omega arith in
-    record {
-      cdb = refl;
-      command = ap (λ (k : ℕ). Write (lba k) (0 + (0 + n))) (whole (a .0)) ∙ ap (λ (k : ℕ). Write a k) (whole n);
       payload = h;
     }
 

@@ -23,7 +23,7 @@ use Rattle.drive.specs.Reply.{sentBytes}
 use Rattle.drive.specs.Step.{Drive, Request, lent, verdictOn, carriedOut, step}
 use Rattle.history.specs.Types.{Disc, Verdict, Accepted}
 use Rattle.history.specs.Sequence.{Start}
-use Rattle.history.specs.Examples.{writeCdb}
+use Rattle.history.specs.Forms.{ten, writeOpcode, fields, writeCdb}
 use Rattle.history.specs.Witness.{firstBlock, informationRequest, secondBlock}
 use Rattle.history.proofs.Laws.Served.{start-lent}
 
@@ -38,19 +38,19 @@ known-verdict s q d n m l e f g =
 
 -- what the lower layer decides, computed: three verdicts, one on the disc that the other left
 abbrev one : Verdict
-one = judge (blank 300) (writeCdb 0 16) 32768 0
+one = judge (blank 300) (writeCdb ten 0 16) 32768 0
 
 abbrev two : Verdict
 two = judge (one .disc) (informationRequest .cdb) 0 34
 
 abbrev three : Verdict
-three = judge (two .disc) (writeCdb 16 16) 32768 0
+three = judge (two .disc) (writeCdb ten 16 16) 32768 0
 
 computed :
     (one .answer ≡ Accepted) × (one .recorded ≡ 1)
     × ((m p : List ℕ) → sentBytes (two .plan .transfer) (two .reply) m p ≡ 0x00 ∷ 0x20 ∷ 0x05 ∷ 1 ∷ 1 ∷ 1 ∷ 1 ∷ replicate 27 0)
     × (three .answer ≡ Accepted) × (three .recorded ≡ 1)
-unfolding sentBytes decode listed some every find sumRecorded firstOfSession usedFirst firstAtZero followsFrom inOrder endsWithin recordedWithin zeroedWithin incompleteLast tailLast tailOrFull pendingNamed finalizedComplete sound allowedState isRefusalSense allowedSense blank dataLength replyRoom lengthsFit accepted accept flush flushPlan flushOthers flushOthersPlan gather writeTo writeFound write sessionState discStatus discBytes readDiscInformation perform judgeCommand judge
+unfolding sentBytes decode writeOpcode fields listed some every find sumRecorded firstOfSession usedFirst firstAtZero followsFrom inOrder endsWithin recordedWithin zeroedWithin incompleteLast tailLast tailOrFull pendingNamed finalizedComplete sound allowedState isRefusalSense allowedSense blank dataLength replyRoom lengthsFit accepted accept flush flushPlan flushOthers flushOthersPlan gather writeTo writeFound write sessionState discStatus discBytes readDiscInformation perform judgeCommand judge
 computed = (refl, refl, λ m p. refl, refl, refl)
 
 module _ (s : Drive) (start : Start 300 s) where

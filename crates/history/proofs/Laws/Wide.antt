@@ -26,17 +26,17 @@ use Rattle.drive.proofs.Laws.Bytes.{length-zeros}
 use Rattle.drive.proofs.Laws.Cut.{write-verdict}
 use Rattle.history.specs.Types.{Lba, Disc, Verdict, Answer, Accepted, Link, Drive as byDrive, Command, TestUnitReady, RequestSense, ReadCapacity, Read, Write, SynchronizeCache, ReserveTrack, CloseTrackSession, ReadDiscInformation, ReadTrackInformation, Unlisted}
 use Rattle.history.specs.Sequence.{Start, Turn, result, final}
-use Rattle.history.specs.Forms.{longest, addresses, writeBlock}
+use Rattle.history.specs.Forms.{longest, addresses, writeCdb}
 use Rattle.history.specs.Cut.{Parts, none, part, CutOf, Again, ends, same, cut}
 use Rattle.history.specs.Stale.{pendingByte, Given, turn, given}
-use Rattle.history.specs.Wide.{filledBy, Named, partsOf, total, nameable, isCut, recutCommand, recut, second, Wide}
-use Rattle.history.proofs.Laws.Forms.{write-block}
+use Rattle.history.specs.Wide.{filledBy, Portion, partsOf, total, nameable, isCut, recutCommand, recut, second, Wide}
+use Rattle.history.proofs.Laws.Forms.{write-cdb}
 use Rattle.history.proofs.Laws.Served.{start-served}
 use Rattle.history.proofs.Laws.Stale.{length-stirred, stirred-stale, given-admissible, given-requests}
 
--- parts as they are named
+-- portions make parts
 parts-of :
-    (a : ℕ) (ks : List Named) (x : List ℕ) → nameable a ks ≡ true → length x ≡ 2048 * total ks → Parts (lba a) (total ks) x (partsOf a ks x)
+    (a : ℕ) (ks : List Portion) (x : List ℕ) → nameable a ks ≡ true → length x ≡ 2048 * total ks → Parts (lba a) (total ks) x (partsOf a ks x)
 unfolding partsOf total nameable
 parts-of a [] x t h = subst (λ (y : List ℕ). Parts (lba a) 0 y []) (sym (empty x h)) (none (lba a))
   where
@@ -56,17 +56,17 @@ parts-of a (k ∷ ks) x t h =
     let size : length (take (2048 * n) x) ≡ 2048 * n = length-take-le (2048 * n) x (omega (arith, h)) in
     let rest : length (drop (2048 * n) x) ≡ 2048 * total ks = length-drop (2048 * n) x ∙ omega (arith, h) in
     subst (λ (y : List ℕ). Parts (lba a) (n + total ks) y (partsOf a (k ∷ ks) x)) (take-append-drop (2048 * n) x)
-    (part (lba a) n (total ks) (request (writeBlock (k .form) a n) (take (2048 * n) x) []) (drop (2048 * n) x) (partsOf (a + n) ks (drop (2048 * n) x)) some
-    (write-block (k .form) a n near few (take (2048 * n) x) size)
+    (part (lba a) n (total ks) (request (writeCdb (k .form) a n) (take (2048 * n) x) []) (drop (2048 * n) x) (partsOf (a + n) ks (drop (2048 * n) x)) some
+    (write-cdb (k .form) a n near few (take (2048 * n) x) size)
     (parts-of (a + n) ks (drop (2048 * n) x) (and-right (some-sector && few-sectors && ltb a addresses) rest-named t) rest))
 
-length-parts : (a : ℕ) (ks : List Named) (x : List ℕ) → length (partsOf a ks x) ≡ length ks
+length-parts : (a : ℕ) (ks : List Portion) (x : List ℕ) → length (partsOf a ks x) ≡ length ks
 unfolding partsOf
 length-parts a [] x = refl
 length-parts a (k ∷ ks) x = ap suc (length-parts (a + k .sectors) ks (drop (2048 * k .sectors) x))
 
 -- what the test says
-module _ (q : Request) (a n : ℕ) (ks : List Named) where
+module _ (q : Request) (a n : ℕ) (ks : List Portion) where
   abbrev block-fits : Bool
   block-fits = eqb (length (q .cdb)) 12
 
@@ -109,7 +109,7 @@ module _ (q : Request) (a n : ℕ) (ks : List Named) where
       (eq-eqb (total ks) n (c .whole))) (c .named)
 
 -- the parts of a command again are a cut, or there is but the command
-cut-of : (q : Request) (a : Lba) (n : ℕ) (ks : List Named) → decode (q .cdb) ≡ Write a n → Cuts q (a .0) n ks → CutOf q (partsOf (a .0) ks (q .payload))
+cut-of : (q : Request) (a : Lba) (n : ℕ) (ks : List Portion) → decode (q .cdb) ≡ Write a n → Cuts q (a .0) n ks → CutOf q (partsOf (a .0) ks (q .payload))
 cut-of q a n ks is c =
     record {
       address = a;
@@ -122,7 +122,7 @@ cut-of q a n ks is c =
     }
 
 pub parts-cut :
-    (q : Request) (a : Lba) (n : ℕ) (ks : List Named) → WriteOf q a n → 2 ≤ length ks → total ks ≡ n → nameable (a .0) ks ≡ true
+    (q : Request) (a : Lba) (n : ℕ) (ks : List Portion) → WriteOf q a n → 2 ≤ length ks → total ks ≡ n → nameable (a .0) ks ≡ true
     → CutOf q (partsOf (a .0) ks (q .payload))
 parts-cut q a n ks w several whole names =
     cut-of q a n ks (w .command) (record { cdb = w .cdb; payload = w .payload; several = several; whole = whole; named = names })
@@ -130,7 +130,7 @@ parts-cut q a n ks w several whole names =
 abbrev Recut : Request → List Request → Type 0
 Recut q qs = (qs ≡ q ∷ []) ⊎ (CutOf q qs)
 
-recut-command : (ks : List Named) (q : Request) (c : Command) → decode (q .cdb) ≡ c → Recut q (recutCommand ks q c)
+recut-command : (ks : List Portion) (q : Request) (c : Command) → decode (q .cdb) ≡ c → Recut q (recutCommand ks q c)
 unfolding recutCommand
 recut-command ks q (Write a n) is =
     by-cases (isCut q (a .0) n ks)
@@ -150,7 +150,7 @@ recut-command ks q (ReadDiscInformation dataType allocation) is = inl refl
 recut-command ks q (ReadTrackInformation addressType n allocation) is = inl refl
 recut-command ks q Unlisted is = inl refl
 
-recut-is : (a : Answer) (ks : List Named) (q : Request) → (recut a ks q ≡ q ∷ []) ⊎ ((a ≡ Accepted) × CutOf q (recut a ks q))
+recut-is : (a : Answer) (ks : List Portion) (q : Request) → (recut a ks q ≡ q ∷ []) ⊎ ((a ≡ Accepted) × CutOf q (recut a ks q))
 unfolding recut
 recut-is Accepted ks q = elim (recut-command ks q (decode (q .cdb)) refl) [ inl e ↦ inl e | inr c ↦ inr (refl, c) ]
 recut-is (Link r) ks q = inl refl
@@ -217,7 +217,7 @@ again-one g ts (f ∷ (k ∷ fs)) hs s e q w = absurd (let r = cons-tail q in le
 
 -- the whole sequence
 again-given :
-    (cuts : List (List Named)) (gs hs : List Given) (s e : Drive) → asked hs ≡ second cuts gs s → Again s (given gs s) (given hs e)
+    (cuts : List (List Portion)) (gs hs : List Given) (s e : Drive) → asked hs ≡ second cuts gs s → Again s (given gs s) (given hs e)
 unfolding second given
 again-given cuts [] hs s e q = subst (λ (l : List Given). Again s [] (given l e)) (sym (nothing-asked hs q)) (ends s)
 again-given [] (g ∷ gs) hs s e q =
@@ -242,7 +242,7 @@ again-given (ks ∷ cuts) (g ∷ gs) hs s e q =
 
 -- a WRITE in so many parts
 recut-parts :
-    (q : Request) (a : Lba) (n : ℕ) (ks : List Named) → WriteOf q a n → 2 ≤ length ks → total ks ≡ n → nameable (a .0) ks ≡ true
+    (q : Request) (a : Lba) (n : ℕ) (ks : List Portion) → WriteOf q a n → 2 ≤ length ks → total ks ≡ n → nameable (a .0) ks ≡ true
     → length (recut Accepted ks q) ≡ length ks
 unfolding recut recutCommand
 recut-parts q a n ks w several whole names =

@@ -3,6 +3,7 @@ use Prim.Native.Nat.{ℕ}
 use mathlib.Core.Path.{_≡_, refl, sym, ap, _∙_, subst}
 use mathlib.Core.Bool.{true}
 use mathlib.Core.List.{List, [], _∷_, _++_, map, map-append}
+use native.Mathlib.Omega.{arith}
 use lib.ListN.{length, replicate, length-replicate}
 use Rattle.protocol.specs.Answer.{number, isRefusalSense, allowedSense}
 use Rattle.disc.specs.Blank.{blank}
@@ -23,7 +24,8 @@ use Rattle.drive.proofs.Laws.Alike.{lent-after, step-judges}
 use Rattle.history.specs.Types.{Disc, Accepted}
 use Rattle.history.specs.Sequence.{Start, Turn, final}
 use Rattle.history.specs.Cut.{Again, ends, same, cut}
-use Rattle.history.specs.Examples.{writeCdb, asLeft, steady}
+use Rattle.history.specs.Forms.{ten, writeOpcode, fields, writeCdb}
+use Rattle.history.specs.Examples.{asLeft, steady}
 use Rattle.history.specs.Witness.{numbers, Shape, shape, shapeOf, discAfter, filled, judged, before, cutWrite, cutFirst, cutSecond, rest, zeroStart, firstRun, secondRun}
 use Rattle.history.proofs.Laws.Served.{start-lent}
 use Rattle.history.proofs.Laws.Examples.{whole-sectors, cut-in-two}
@@ -81,21 +83,21 @@ again-prefix (p ∷ ps) s e ts us w =
 
 -- what the list of the example comes to, computed: the WRITE in its place, and all answers
 computed :
-    (judge (discAfter before (blank 300)) (writeCdb 84 2) 4096 0 .answer ≡ Accepted)
-    × (judged (before ++ (shape (writeCdb 84 2) 4096 0 ∷ rest)) (blank 300) ≡ 1 ∷ 4 ∷ 0x052000 ∷ 0 ∷ 0 ∷ 0 ∷ 0 ∷ 0 ∷ 0 ∷ 0 ∷ [])
-unfolding discAfter judged decode listed some every find sumRecorded usedFirst firstAtZero followsFrom inOrder endsWithin recordedWithin zeroedWithin incompleteLast tailLast tailOrFull pendingNamed finalizedComplete sound allowedState isRefusalSense allowedSense blank dataLength replyRoom lengthsFit accepted accept refuse refuseLink flush flushPlan allReadable read flushOthers flushOthersPlan gather writeTo writeFound write splitTail reserve appendTail closeIncomplete closeFragment close synchronizeCache perform judgeCommand judge
+    (judge (discAfter before (blank 300)) (writeCdb ten 84 2) 4096 0 .answer ≡ Accepted)
+    × (judged (before ++ (shape (writeCdb ten 84 2) 4096 0 ∷ rest)) (blank 300) ≡ 1 ∷ 4 ∷ 0x052000 ∷ 0 ∷ 0 ∷ 0 ∷ 0 ∷ 0 ∷ 0 ∷ 0 ∷ [])
+unfolding discAfter judged decode writeOpcode fields listed some every find sumRecorded usedFirst firstAtZero followsFrom inOrder endsWithin recordedWithin zeroedWithin incompleteLast tailLast tailOrFull pendingNamed finalizedComplete sound allowedState isRefusalSense allowedSense blank dataLength replyRoom lengthsFit accepted accept refuse refuseLink flush flushPlan allReadable read flushOthers flushOthersPlan gather writeTo writeFound write splitTail reserve appendTail closeIncomplete closeFragment close synchronizeCache perform judgeCommand judge
 computed = (refl, refl)
 
 -- the whole example by its shapes
 abbrev pub runShapes : List Shape
-runShapes = before ++ (shape (writeCdb 84 2) 4096 0 ∷ rest)
+runShapes = before ++ (shape (writeCdb ten 84 2) 4096 0 ∷ rest)
 
 pub run-shapes : map shapeOf firstRun ≡ runShapes
 run-shapes =
     map-append shapeOf (map (filled 0) before) (cutWrite ∷ map (filled 0) rest)
     ∙ (ap (λ (hs : List Shape). hs ++ map shapeOf (cutWrite ∷ map (filled 0) rest)) (filled-shapes 0 before)
-    ∙ (ap (λ (n : ℕ). before ++ (shape (writeCdb 84 2) n 0 ∷ map shapeOf (map (filled 0) rest))) whole-sectors
-    ∙ ap (λ (hs : List Shape). before ++ (shape (writeCdb 84 2) 4096 0 ∷ hs)) (filled-shapes 0 rest)))
+    ∙ (ap (λ (n : ℕ). before ++ (shape (writeCdb ten 84 2) n 0 ∷ map shapeOf (map (filled 0) rest))) whole-sectors
+    ∙ ap (λ (hs : List Shape). before ++ (shape (writeCdb ten 84 2) 4096 0 ∷ hs)) (filled-shapes 0 rest)))
 
 again-steady : (rs : List Request) (s e : Drive) → Again s (steady rs s) (steady rs e)
 unfolding steady
@@ -121,15 +123,15 @@ module _ (s : Drive) (start : Start 300 s) where
   write-accepted : step place cutWrite .answer ≡ Accepted
   write-accepted =
       step-judges place cutWrite place-lent .0
-      ∙ (ap (λ (d : Disc). judge d (writeCdb 84 2) (length (cutWrite .payload)) 0 .answer) place-disc
-      ∙ (ap (λ (n : ℕ). judge (discAfter before (blank 300)) (writeCdb 84 2) n 0 .answer) whole-sectors ∙ computed .0))
+      ∙ (ap (λ (d : Disc). judge d (writeCdb ten 84 2) (length (cutWrite .payload)) 0 .answer) place-disc
+      ∙ (ap (λ (n : ℕ). judge (discAfter before (blank 300)) (writeCdb ten 84 2) n 0 .answer) whole-sectors ∙ computed .0))
 
   -- the answers: L1, L4, 5/20/00, and seven commands accepted
   pub witness-numbers : numbers (steady firstRun s) s ≡ 1 ∷ 4 ∷ 0x052000 ∷ 0 ∷ 0 ∷ 0 ∷ 0 ∷ 0 ∷ 0 ∷ 0 ∷ []
   witness-numbers =
       steady-numbers firstRun s (start-lent 300 s start)
       ∙ (ap (λ (hs : List Shape). judged hs (s .disc)) run-shapes
-      ∙ (ap (judged (before ++ (shape (writeCdb 84 2) 4096 0 ∷ rest))) (start .disc) ∙ computed .1))
+      ∙ (ap (judged (before ++ (shape (writeCdb ten 84 2) 4096 0 ∷ rest))) (start .disc) ∙ computed .1))
 
   -- the same again with the WRITE cut, from any other start
   pub witness-again : (e : Drive) → Again s (steady firstRun s) (steady secondRun e)
@@ -144,7 +146,7 @@ module _ (s : Drive) (start : Start 300 s) where
       (sym (steady-append ps (cutFirst ∷ cutSecond ∷ rs) e))
       (again-prefix ps s e _ _
       (cut place (asLeft cutWrite place) (steady rs (step place cutWrite .after)) (steady (cutFirst ∷ cutSecond ∷ []) x) (steady rs y) _
-      write-accepted (cut-in-two 84) (again-steady rs (step place cutWrite .after) y) refl)))
+      write-accepted (cut-in-two 84 (omega arith)) (again-steady rs (step place cutWrite .after) y) refl)))
 
 -- a start of 300 blocks is there
 pub zero-start : Start 300 zeroStart

@@ -2,6 +2,7 @@
 //! takes memory only where a byte is written. Its `unsafe` code is in the module `pages`.
 
 #![deny(unsafe_code)]
+
 use pages::Pages;
 use std::io;
 use std::ops::{Deref, DerefMut};

@@ -30,6 +30,8 @@ impl Command {
             0x25 => Command::ReadCapacity,
             0x28 => Command::Read { from: Address(four(2)), sectors: two(7) },
             0x2A => Command::Write { to: Address(four(2)), sectors: two(7) },
+            0xA8 => Command::Read { from: Address(four(2)), sectors: four(6) },
+            0xAA => Command::Write { to: Address(four(2)), sectors: four(6) },
             0x35 => Command::SynchronizeCache,
             0x53 => Command::Reserve { sectors: four(5) },
             0x5B => Command::Close { function: cdb[2] & 0b111, number: two(4) },

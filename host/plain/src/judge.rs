@@ -54,7 +54,7 @@ impl Disc {
         }
     }
 
-    /// 28h: length 0 is accepted wherever it points; 5/21/00 past the disc, then 8/00/00 where a
+    /// 28h and A8h: length 0 is accepted wherever it points; 5/21/00 past the disc, then 8/00/00 where a
     /// sector is neither recorded nor pending.
     fn judge_read(&self, from: Address, sectors: u64) -> Result<Step, Sense> {
         if sectors == 0 {
@@ -67,9 +67,9 @@ impl Disc {
         self.readable_run(from, sectors).map(Step::Read).ok_or(Sense::BLANK_CHECK)
     }
 
-    /// 2Ah: length 0 is accepted wherever it points, also on a finalized disc; then 7/27/00;
-    /// 5/21/02 where no next writable address is met, as they stand before any flush; 5/63/00
-    /// past the fragment's end.
+    /// 2Ah and AAh: length 0 is accepted wherever it points, also on a finalized disc; then 7/27/00;
+    /// 5/21/02 where no next writable address is met, as they stand before any flush; 5/63/00 past
+    /// the fragment's end.
     fn judge_write(&self, to: Address, sectors: u64) -> Result<Step, Sense> {
         if sectors == 0 {
             let flushes = self.slips(Fault::EmptyWriteFlushes);

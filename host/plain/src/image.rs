@@ -45,8 +45,9 @@ fn command_on_image(
     let cdb = lent.twelve_bytes()?;
     lent.check_lengths(image.first().map(|&word| word.into()))?;
     let words: &mut [u32; IMAGE_WORDS] = image.try_into().map_err(|_| Refusal::UnsoundState)?;
+    let fault = fault.filter(|fault| fault.is_met_by(&cdb));
     let mut disc = Disc::from_image(words, fault)?;
-    let result = disc.obey(Command::decode(&cdb), lent);
+    let result = disc.obey(Command::decode(&cdb, fault), lent);
     if matches!(result, Ok(_) | Err(Refusal::Drive(_))) {
         disc.write_image(words);
     }

@@ -36,6 +36,11 @@ impl Address {
     pub fn sectors_to(self, end: Address) -> u64 {
         end.0.saturating_sub(self.0)
     }
+
+    /// Its low 32 bits, as a mistake takes them.
+    pub(crate) fn cut(self) -> Address {
+        Address(u64::from(self.0 as u32))
+    }
 }
 
 impl Add<u64> for Block {

@@ -3,6 +3,7 @@
 use crate::pool::fill_from_pool;
 use crate::{Drive, Random, Request};
 use gladhamre::{Answer, Lent, State, BLOCK_BYTES, SECTOR_BYTES, STATE_WORDS};
+use mapped::Mapped;
 
 /// One drive with its state and buffers.
 #[derive(Clone)]
@@ -33,7 +34,7 @@ impl<'a> Bench<'a> {
 
     /// Sends a command; gives its answer and the bytes of its reply.
     pub fn command(&mut self, request: &Request) -> (Answer, Vec<u8>) {
-        let mut reply = vec![0; request.reply_length];
+        let mut reply = Mapped::zeros(request.reply_length).expect("address space");
         let lent = Lent {
             cdb: &request.cdb,
             data: request.data(),
@@ -42,8 +43,7 @@ impl<'a> Bench<'a> {
             reply: &mut reply,
         };
         let answer = self.drive.command(self.state.words_mut(), lent);
-        reply.truncate(answer.reply_count as usize);
-        (answer, reply)
+        (answer, reply[..answer.reply_count as usize].to_vec())
     }
 
     /// Other bytes past the pending count and in some blocks that are not recorded.

@@ -8,8 +8,9 @@ use crate::{Coverage, Drive, Random, Request};
 use gladhamre::{
     Answer, Lent, State, BLOCK_BYTES, RECORD_LIMIT, RECORD_WORDS, SECTOR_BYTES, STATE_WORDS,
 };
-use std::fmt;
+use mapped::Mapped;
 use std::ops::Range;
+use std::{fmt, mem};
 
 /// Words allocated for a state image: a record and some more than it has, to lend too many.
 pub const IMAGE_ROOM: usize = STATE_WORDS + RECORD_WORDS + 3;
@@ -19,6 +20,12 @@ const PENDING_ROOM: usize = BLOCK_BYTES + SECTOR_BYTES;
 
 /// Bytes after a reply buffer.
 const REPLY_GUARD: usize = 64;
+
+/// Of a longer reply buffer only the front and the end are looked at: the longest has 8.8 TB.
+const LONG_REPLY: usize = 4 << 20;
+
+/// How much of them, beside the reply.
+const REPLY_EDGE: usize = 4_096;
 
 /// The media are compared as a whole after one command for so many of their bytes, and at the end
 /// of a sequence.
@@ -40,6 +47,7 @@ struct Side<'a> {
     image: Vec<u32>,
     medium: Vec<u8>,
     pending: Vec<u8>,
+    /// The reply buffer after a command, as far as it is looked at.
     reply: Vec<u8>,
 }
 
@@ -54,18 +62,59 @@ impl<'a> Side<'a> {
         }
     }
 
-    /// The stale bytes of the reply buffer are some more than are lent.
+    /// The stale bytes are those of the reply buffer, with some more than are lent.
     fn command(&mut self, request: &Request, stale_reply: &[u8]) -> Answer {
-        self.reply.clear();
-        self.reply.extend_from_slice(stale_reply);
+        if request.reply_length > LONG_REPLY {
+            return self.command_with_long_reply(request, stale_reply);
+        }
+        let mut reply = mem::take(&mut self.reply);
+        reply.clear();
+        reply.extend_from_slice(stale_reply);
+        let answer = self.answer(request, &mut reply[..request.reply_length]);
+        self.reply = reply;
+        answer
+    }
+
+    /// The same with a buffer that takes memory only where it is touched. The stale bytes are those of
+    /// its front and its end.
+    fn command_with_long_reply(&mut self, request: &Request, stale_reply: &[u8]) -> Answer {
+        let mut buffer = Mapped::zeros(request.reply_length + REPLY_GUARD).expect("address space");
+        let end = buffer.len() - REPLY_EDGE;
+        let (stale_front, stale_end) = stale_reply.split_at(REPLY_EDGE);
+        buffer[..REPLY_EDGE].copy_from_slice(stale_front);
+        buffer[end..].copy_from_slice(stale_end);
+        let answer = self.answer(request, &mut buffer[..request.reply_length]);
+        let front = (answer.reply_count as usize + REPLY_EDGE).min(end);
+        self.reply = [&buffer[..front], &buffer[end..]].concat();
+        answer
+    }
+
+    /// A refusal leaves the reply buffer.
+    fn leaves_reply(&self, answer: &Answer, stale_reply: &[u8]) -> Result<(), String> {
+        match answer.number {
+            0 => Ok(()),
+            _ => same("byte of the reply buffer, before and after", stale_reply, &self.reply),
+        }
+    }
+
+    fn answer(&mut self, request: &Request, reply: &mut [u8]) -> Answer {
         let lent = Lent {
             cdb: &request.cdb,
             data: request.data(),
             medium: &mut self.medium[..request.medium_length],
             pending: &mut self.pending[..request.pending_length],
-            reply: &mut self.reply[..request.reply_length],
+            reply,
         };
         self.drive.command(&mut self.image[..request.state_words], lent)
+    }
+}
+
+/// How many stale bytes a reply buffer has to begin with.
+fn stale_length(reply_length: usize) -> usize {
+    if reply_length > LONG_REPLY {
+        2 * REPLY_EDGE
+    } else {
+        reply_length + REPLY_GUARD
     }
 }
 
@@ -161,15 +210,17 @@ impl<'a> Pair<'a> {
     ) -> Result<Answer, Difference> {
         let before = self.state();
         let offset = random.below(OFFSETS as u64) as usize;
-        let stale_reply = &pool()[offset..offset + request.reply_length + REPLY_GUARD];
+        let stale_reply = &pool()[offset..offset + stale_length(request.reply_length)];
         let left = self.left.command(request, stale_reply);
         let right = self.right.command(request, stale_reply);
         let after = self.state();
         self.compare_after(&left, &right, &before, &after)
+            .and_then(|()| self.left.leaves_reply(&left, stale_reply))
             .map_err(|what| self.difference(&what, request, &before))?;
         match &request.twelve() {
             Some(cdb) => self.coverage.note(&Event {
                 cdb,
+                request,
                 answer: &left,
                 before: &before,
                 after: &after,

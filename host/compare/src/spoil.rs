@@ -32,6 +32,7 @@ impl Generator {
 
     fn wrong_data_length(&mut self, right: usize) -> usize {
         match self.random.below(6) {
+            _ if self.is_cut(right) => right as u32 as usize,
             0 => right + 1,
             1 => right.saturating_sub(1),
             2 => right + SECTOR_BYTES,
@@ -43,10 +44,16 @@ impl Generator {
 
     fn shorter(&mut self, length: usize) -> usize {
         match self.random.below(3) {
+            _ if self.is_cut(length) => length as u32 as usize,
             0 => length.saturating_sub(1),
             1 => 0,
             _ => self.random.below(length as u64) as usize,
         }
+    }
+
+    /// Whether a length of more than 32 bits is cut to them.
+    fn is_cut(&mut self, length: usize) -> bool {
+        u32::try_from(length).is_err() && self.random.once_in(2)
     }
 
     fn wrong_medium_length(&mut self, right: usize, allocated: usize) -> usize {

@@ -67,6 +67,10 @@ mod pages {
         length: usize,
     }
 
+    // The mapping belongs to the `Pages` alone, and no thread has more right to it than another.
+    unsafe impl Send for Pages {}
+    unsafe impl Sync for Pages {}
+
     impl Pages {
         /// So many zeros, at least one.
         pub fn map(length: usize) -> io::Result<Pages> {

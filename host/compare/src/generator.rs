@@ -62,7 +62,11 @@ impl Generator {
         request.medium_length = request.medium_length.min(allocated);
         request.data_offset = self.random.below(OFFSETS as u64) as usize;
         request.reply_length += self.extra_room();
-        if self.random.once_in(self.mood.spoils_once_in()) {
+        let once_in = match request.wants_long_buffer() {
+            true => self.mood.spoils_once_in().min(6),
+            false => self.mood.spoils_once_in(),
+        };
+        if self.random.once_in(once_in) {
             self.spoil(&mut request, allocated);
         }
         request

@@ -32,6 +32,11 @@ impl Request {
         }
     }
 
+    /// Whether data or reply buffer have more bytes than 32 bits can say.
+    pub fn wants_long_buffer(&self) -> bool {
+        self.data_length.max(self.reply_length) > u32::MAX as usize
+    }
+
     pub fn data(&self) -> &'static [u8] {
         pool::data(self.data_offset, self.data_length)
     }

@@ -21,8 +21,9 @@ const PENDING_ROOM: usize = BLOCK_BYTES + SECTOR_BYTES;
 /// Bytes after a reply buffer.
 const REPLY_GUARD: usize = 64;
 
-/// Of a longer reply buffer only the front and the end are looked at: the longest has 8.8 TB.
-const LONG_REPLY: usize = 4 << 20;
+/// A longer reply buffer takes memory only where it is touched, and its front and its end alone are
+/// looked at: the longest has 8.8 TB.
+pub const LONG_REPLY: usize = 4 << 20;
 
 /// How much of them, beside the reply.
 const REPLY_EDGE: usize = 4_096;

@@ -64,6 +64,9 @@ fn of_whole_sequences() {
         Fault::FirstSectorFromMedium,
         Fault::PendingShareFromFront,
         Fault::PendingInLastFragment,
+        Fault::WriteEndWraps,
+        Fault::WriteTwelveUnflushed,
+        Fault::ForcedWriteFlushes,
     ];
     for fault in broken {
         let faulty = Plain { fault: Some(fault) };

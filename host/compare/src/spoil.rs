@@ -5,10 +5,15 @@ use crate::{Generator, Request};
 use gladhamre::{BLOCK_BYTES, HEADER_WORDS, RECORD_WORDS, SECTOR_BYTES, STATE_WORDS};
 
 impl Generator {
-    /// Makes one length wrong, or several.
+    /// Makes one length wrong, or several; more often than others that of a long buffer.
     pub(crate) fn spoil(&mut self, request: &mut Request, allocated: usize) {
         loop {
+            let long = request.wants_long_buffer() && self.random.once_in(2);
             match self.random.below(if self.buffers_right { 3 } else { 6 }) {
+                _ if long && request.data_length > request.reply_length => {
+                    request.data_length = self.wrong_data_length(request.data_length)
+                }
+                _ if long => request.reply_length = self.shorter(request.reply_length),
                 0 => self.spoil_cdb(&mut request.cdb),
                 1 => request.data_length = self.wrong_data_length(request.data_length),
                 2 => request.reply_length = self.shorter(request.reply_length),

@@ -366,7 +366,7 @@ fn some_write(bench: &Bench, random: &mut Random) -> Request {
 
 #[cfg(test)]
 mod tests {
-    use super::FirstRun;
+    use super::{part_lengths, parts, FirstRun};
     use crate::bench::Bench;
     use crate::cdb::{self, Cdb};
     use crate::{Plain, Random, Request};
@@ -392,6 +392,26 @@ mod tests {
         assert_eq!(send(None, cdbs), Ok(()));
         let what = format!("READ gives sector {sector}, neither recorded nor pending");
         assert_eq!(send(Some(fault), cdbs), Err(what));
+    }
+
+    /// The parts of a WRITE add up, and each begins within 32 bits; where the second could not, there
+    /// is no cut.
+    #[test]
+    fn parts_begin_within_32_bits() {
+        let mut random = Random::new(1);
+        let wholes = [(0, 2), (0, u32::MAX), (40, u32::MAX), (u32::MAX - 1, 2), (u32::MAX - 9, 50)];
+        for (address, sectors) in wholes.into_iter().cycle().take(500) {
+            let lengths = part_lengths(address, sectors, &mut random);
+            assert!(lengths.len() >= 2 && lengths.iter().all(|&length| length > 0));
+            let (last, others) = lengths.split_last().expect("two");
+            let begun = others.iter().map(|&length| u64::from(length)).sum::<u64>();
+            assert_eq!(begun + u64::from(*last), sectors.into());
+            assert!(u64::from(address) + begun <= u32::MAX.into());
+        }
+        for sectors in [2, 100, u32::MAX] {
+            let whole = Request::fitting(cdb::write_12(u32::MAX, sectors), 256);
+            assert_eq!(parts(&whole, &mut random), []);
+        }
     }
 
     #[test]

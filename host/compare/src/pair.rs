@@ -336,3 +336,61 @@ fn same<T: PartialEq + fmt::Debug>(what: &str, left: &[T], right: &[T]) -> Resul
     let at = (0..left.len()).find(differs).unwrap_or(0);
     Err(format!("{what} {at}: {:X?} and {:X?}", left[at], right[at]))
 }
+
+#[cfg(test)]
+mod tests {
+    use super::{Difference, Pair, LONG_REPLY};
+    use crate::{cdb, Drive, Plain, Random, Request};
+    use gladhamre::{Answer, Lent};
+
+    /// The plain drive, but for a byte of the reply buffer that a refusal changes.
+    struct Touching {
+        place: fn(usize) -> usize,
+    }
+
+    impl Drive for Touching {
+        fn name(&self) -> String {
+            "a drive that touches the reply buffer".into()
+        }
+
+        fn blank(&self, capacity: u32, image: &mut [u32]) -> u32 {
+            Plain::default().blank(capacity, image)
+        }
+
+        fn command(&self, image: &mut [u32], lent: Lent) -> Answer {
+            let Lent { cdb, data, medium, pending, reply } = lent;
+            let lent = Lent { cdb, data, medium, pending, reply: &mut *reply };
+            let answer = Plain::default().command(image, lent);
+            let place = (self.place)(reply.len());
+            reply[place] ^= u8::from(answer.number != 0);
+            answer
+        }
+    }
+
+    /// READs that are refused, with buffers of a sector and of terabytes.
+    fn refused_reads(left: &dyn Drive, right: &dyn Drive) -> [Result<Answer, Difference>; 2] {
+        let mut pair = Pair::new(left, right, 256);
+        pair.blank(256).expect("both make it");
+        [cdb::read_12(0, 1), cdb::read_12(0, u32::MAX)]
+            .map(|cdb| pair.command(&Request::fitting(cdb, 256), &mut Random::new(1)))
+    }
+
+    #[test]
+    fn reply_buffers_are_left() {
+        assert!(cdb::reply_room(&cdb::read_12(0, u32::MAX)) > LONG_REPLY);
+        let answers = refused_reads(&Plain::default(), &Plain::default());
+        let numbers = answers.map(|answer| answer.expect("both drives are the same").number);
+        assert_eq!(numbers, [0x080000, 0x052100]);
+    }
+
+    /// At the front and at the end, by one drive and by both.
+    #[test]
+    fn touched_reply_buffers_are_found() {
+        let places: [fn(usize) -> usize; 2] = [|_| 0, |length| length - 1];
+        for place in places {
+            let touching = Touching { place };
+            assert!(refused_reads(&Plain::default(), &touching).iter().all(Result::is_err));
+            assert!(refused_reads(&touching, &touching).iter().all(Result::is_err));
+        }
+    }
+}

@@ -78,3 +78,13 @@ fn of_whole_sequences() {
         }
     }
 }
+
+/// So does its check of a WRITE (12) of more than 65,535 sectors.
+#[test]
+fn of_long_writes() {
+    assert_eq!(demand3::check_long(&Plain::default(), seed()), Ok(()));
+    for fault in [Fault::TwelveLengthCut, Fault::PendingBytesKept] {
+        let found = demand3::check_long(&Plain { fault: Some(fault) }, seed());
+        assert!(found.is_err(), "{fault:?} is not found");
+    }
+}

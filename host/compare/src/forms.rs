@@ -118,10 +118,10 @@ pub const OF_FORMS: [Situation; 55] = [
     ("WRITE of length 0 on a finalized disc", |event| {
         event.is_write(0) && event.length() == 0 && event.before.finalized() == 1
     }),
-    ("WRITE of length 0 where nothing can be written, on no finalized disc", |event| {
+    ("WRITE of length 0 at no next writable address of a disc with room", |event| {
         event.is_write(0)
             && event.length() == 0
-            && event.before.finalized() == 0
+            && event.has_room()
             && event.fragment_end().is_none()
     }),
     ("WRITE of one sector", |event| event.is_write(0) && event.length() == 1),
@@ -227,6 +227,11 @@ impl Event<'_> {
 
     fn cut_sum(&self) -> u64 {
         self.sum() & LAST
+    }
+
+    /// Whether a fragment is incomplete.
+    fn has_room(&self) -> bool {
+        self.before.records().any(|record| record.recorded < record.length)
     }
 
     /// Whether any sector is recorded or pending.

@@ -18,11 +18,20 @@ impl Disc {
     fn answer(&mut self, lent: &mut Lent) -> Result<Accepted, Refusal> {
         let cdb = lent.twelve_bytes()?;
         lent.check_lengths(Some(self.capacity))?;
-        self.obey(Command::decode(&cdb, self.fault), lent)
+        self.obey(&cdb, lent)
     }
 
-    /// L4 and the drive, once command block, medium and pending buffer have the right lengths.
-    pub(crate) fn obey(&mut self, command: Command, lent: &mut Lent) -> Result<Accepted, Refusal> {
+    /// L4 and the drive, once command block, medium and pending buffer have the right lengths. A
+    /// mistake that this command block does not meet is switched off meanwhile.
+    pub(crate) fn obey(&mut self, cdb: &[u8; 12], lent: &mut Lent) -> Result<Accepted, Refusal> {
+        let fault = self.fault;
+        self.fault = fault.filter(|fault| fault.is_met_by(cdb));
+        let result = self.serve(Command::decode(cdb, self.fault), lent);
+        self.fault = fault;
+        result
+    }
+
+    fn serve(&mut self, command: Command, lent: &mut Lent) -> Result<Accepted, Refusal> {
         let judged = self.judge(command);
         let late =
             self.slips(Fault::TransferTestedLate) || self.slips(Fault::TwelveTransferTestedLate);

@@ -3,7 +3,7 @@
 use crate::buffers::Buffers;
 use crate::cases::Case;
 use compare::{Drive, Linked, Plain};
-use gladhamre::cdb::WRITE;
+use gladhamre::cdb::is_write;
 use std::hint::black_box;
 use std::time::{Duration, Instant};
 
@@ -95,7 +95,7 @@ fn copy(case: &Case, buffers: &mut Buffers, batches: usize) -> f64 {
     let bytes = case.bytes;
     let begun = Instant::now();
     for _ in 0..batches * BATCH {
-        if case.cdb[0] == WRITE {
+        if is_write(&case.cdb) {
             buffers.medium[..bytes].copy_from_slice(black_box(&buffers.data[..bytes]));
             black_box(&mut buffers.medium);
         } else {

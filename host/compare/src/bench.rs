@@ -1,8 +1,10 @@
 //! One drive with its state and buffers.
 
+use crate::pair::LONG_REPLY;
 use crate::pool::fill_from_pool;
 use crate::{Drive, Random, Request};
 use gladhamre::{Answer, Lent, State, BLOCK_BYTES, SECTOR_BYTES, STATE_WORDS};
+use mapped::Mapped;
 
 /// One drive with its state and buffers.
 #[derive(Clone)]
@@ -33,17 +35,26 @@ impl<'a> Bench<'a> {
 
     /// Sends a command; gives its answer and the bytes of its reply.
     pub fn command(&mut self, request: &Request) -> (Answer, Vec<u8>) {
+        if request.reply_length > LONG_REPLY {
+            let mut reply = Mapped::zeros(request.reply_length).expect("address space");
+            let answer = self.answer(request, &mut reply);
+            return (answer, reply[..answer.reply_count as usize].to_vec());
+        }
         let mut reply = vec![0; request.reply_length];
+        let answer = self.answer(request, &mut reply);
+        reply.truncate(answer.reply_count as usize);
+        (answer, reply)
+    }
+
+    fn answer(&mut self, request: &Request, reply: &mut [u8]) -> Answer {
         let lent = Lent {
             cdb: &request.cdb,
             data: request.data(),
             medium: &mut self.medium[..request.medium_length],
             pending: &mut self.pending[..request.pending_length],
-            reply: &mut reply,
+            reply,
         };
-        let answer = self.drive.command(self.state.words_mut(), lent);
-        reply.truncate(answer.reply_count as usize);
-        (answer, reply)
+        self.drive.command(self.state.words_mut(), lent)
     }
 
     /// Other bytes past the pending count and in some blocks that are not recorded.

@@ -1,6 +1,7 @@
 //! What a comparison has reached.
 
 use crate::cdb::{self, Cdb};
+use crate::discs;
 use crate::event::Event;
 use crate::situations;
 use gladhamre::State;
@@ -13,8 +14,11 @@ pub struct Coverage {
     pub commands: u64,
     /// How often each command got each answer.
     pub answers: BTreeMap<(&'static str, u32), u64>,
-    /// How often each of the situations came.
+    /// How often each of the situations came, and how often by READ (12) or WRITE (12).
     situations: Met,
+    of_long_forms: Met,
+    /// How often each form of READ and WRITE got each answer on each kind of disc.
+    on_discs: BTreeMap<(&'static str, &'static str, u32), u64>,
     pub blocks_recorded: u64,
     pub most_records: usize,
     pub most_sessions: u32,
@@ -38,6 +42,42 @@ impl Default for Met {
     }
 }
 
+/// How often a situation came.
+pub struct Meetings {
+    pub name: &'static str,
+    pub count: u64,
+    /// By READ (12) or WRITE (12).
+    pub of_long_forms: u64,
+}
+
+impl Meetings {
+    /// Whether it came, and in both forms where it can.
+    pub fn is_complete(&self) -> bool {
+        match situations::is_of_both_forms(self.name) {
+            true => self.of_long_forms > 0 && self.of_long_forms < self.count,
+            false => self.count > 0,
+        }
+    }
+}
+
+impl fmt::Display for Meetings {
+    fn fmt(&self, out: &mut fmt::Formatter) -> fmt::Result {
+        write!(out, "{:>12} ", self.count)?;
+        match situations::is_of_both_forms(self.name) {
+            true => write!(out, "{:>10} ", self.of_long_forms)?,
+            false => write!(out, "{:>10} ", "")?,
+        }
+        out.write_str(self.name)
+    }
+}
+
+/// The forms of READ and WRITE, and whether it is a WRITE.
+const FORMS: [(&str, bool); 4] =
+    [("28h READ", false), ("A8h READ (12)", false), ("2Ah WRITE", true), ("AAh WRITE (12)", true)];
+
+/// Every answer of READ or WRITE on a sound state.
+const ANSWERS_OF_RUNS: [u32; 7] = [0, 4, 0x052100, 0x080000, 0x072700, 0x052102, 0x056300];
+
 impl Coverage {
     /// Counts a command whose command block does not have twelve bytes.
     pub fn note_cut_cdb(&mut self, number: u32) {
@@ -50,11 +90,27 @@ impl Coverage {
         self.commands += 1;
         let number = event.answer.number;
         *self.answers.entry((command_name(event.cdb), number)).or_default() += 1;
-        if !(1..=4).contains(&number) {
+        // up to L3 the state may be unsound
+        if number == 0 || number > 3 {
+            self.note_situations(event);
+        }
+        if number == 0 || number > 4 {
             self.blocks_recorded += event.answer.recorded;
             self.note_state(event.after);
-            for (count, (_, is_met)) in self.situations.0.iter_mut().zip(situations::all()) {
-                *count += u64::from(is_met(event));
+        }
+    }
+
+    fn note_situations(&mut self, event: &Event) {
+        let long_form = matches!(event.cdb[0], cdb::READ_12 | cdb::WRITE_12);
+        for (index, (_, is_met)) in situations::all().enumerate() {
+            let met = u64::from(is_met(event));
+            self.situations.0[index] += met;
+            self.of_long_forms.0[index] += if long_form { met } else { 0 };
+        }
+        if cdb::is_read(event.cdb) || cdb::is_write(event.cdb) {
+            let command = command_name(event.cdb);
+            for (kind, _) in discs::KINDS.iter().filter(|(_, is_such)| is_such(event.before)) {
+                *self.on_discs.entry((command, kind, event.answer.number)).or_default() += 1;
             }
         }
     }
@@ -90,6 +146,10 @@ impl Coverage {
             *self.answers.entry(key).or_default() += count;
         }
         add_counts(&mut self.situations.0, &other.situations.0);
+        add_counts(&mut self.of_long_forms.0, &other.of_long_forms.0);
+        for (&key, &count) in &other.on_discs {
+            *self.on_discs.entry(key).or_default() += count;
+        }
         self.blocks_recorded += other.blocks_recorded;
         self.most_records = self.most_records.max(other.most_records);
         self.most_sessions = self.most_sessions.max(other.most_sessions);
@@ -101,14 +161,45 @@ impl Coverage {
     }
 
     /// How often each situation came.
-    pub fn situations(&self) -> impl Iterator<Item = (u64, &'static str)> + '_ {
-        let named = self.situations.0.iter().zip(situations::all());
-        named.map(|(&count, (name, _))| (count, name))
+    pub fn situations(&self) -> impl Iterator<Item = Meetings> + '_ {
+        let counts = self.situations.0.iter().zip(&self.of_long_forms.0);
+        counts.zip(situations::all()).map(|((&count, &of_long_forms), (name, _))| Meetings {
+            name,
+            count,
+            of_long_forms,
+        })
     }
 
-    /// How often each of those came in which it counts what is readable.
-    pub fn readable_situations(&self) -> impl Iterator<Item = (u64, &'static str)> + '_ {
+    /// How often each of those came in which it counts what is readable, or how long a READ or a WRITE
+    /// is.
+    pub fn situations_of_runs(&self) -> impl Iterator<Item = Meetings> + '_ {
         self.situations().skip(situations::OF_FRAGMENTS.len())
+    }
+
+    /// The answers that a form of READ or WRITE should have got on some kind of disc, and never got.
+    pub fn missed_on_discs(&self) -> Vec<String> {
+        let mut missed = Vec::new();
+        for (command, is_write) in FORMS {
+            for (kind, _) in discs::KINDS {
+                let wanted = ANSWERS_OF_RUNS.into_iter().filter(|&number| {
+                    discs::can_answer(is_write, number, kind)
+                        && !self.on_discs.contains_key(&(command, kind, number))
+                });
+                missed.extend(
+                    wanted.map(|number| format!("{command} on {kind}: {}", answer_name(number))),
+                );
+            }
+        }
+        missed
+    }
+
+    fn answers_on(&self, command: &str, kind: &str) -> String {
+        let of_both = |&&(name, on, _): &&(&str, &str, u32)| name == command && on == kind;
+        let found = self.on_discs.iter().filter(|(key, _)| of_both(key));
+        let counts: Vec<String> = found
+            .map(|((.., number), count)| format!("{} {count}", answer_name(*number)))
+            .collect();
+        counts.join(", ")
     }
 
     fn answers_of(&self, command: &str) -> String {
@@ -134,9 +225,15 @@ impl fmt::Display for Coverage {
         for name in names {
             writeln!(out, "  {name}: {}", self.answers_of(name))?;
         }
-        writeln!(out, "situations:")?;
-        for (count, name) in self.situations() {
-            writeln!(out, "{count:>12} {name}")?;
+        writeln!(out, "answers of READ and WRITE on each kind of disc:")?;
+        for (command, _) in FORMS {
+            for (kind, _) in discs::KINDS {
+                writeln!(out, "  {command} on {kind}: {}", self.answers_on(command, kind))?;
+            }
+        }
+        writeln!(out, "situations, and how often by READ (12) or WRITE (12):")?;
+        for meetings in self.situations() {
+            writeln!(out, "{meetings}")?;
         }
         writeln!(
             out,
@@ -166,6 +263,8 @@ pub fn command_name(cdb: &Cdb) -> &'static str {
         (cdb::READ_CAPACITY, _, _) => "25h",
         (cdb::READ, _, _) => "28h READ",
         (cdb::WRITE, _, _) => "2Ah WRITE",
+        (cdb::READ_12, _, _) => "A8h READ (12)",
+        (cdb::WRITE_12, _, _) => "AAh WRITE (12)",
         (cdb::SYNCHRONIZE_CACHE, _, _) => "35h",
         (cdb::READ_DISC_INFORMATION, _, _) => "51h",
         (cdb::READ_FRAGMENT_INFORMATION, 0, _) => "52h address",

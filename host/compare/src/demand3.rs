@@ -7,7 +7,7 @@ use crate::event::Event;
 use crate::history::{Ledger, Writes};
 use crate::outline::{Outline, Place};
 use crate::pool::OFFSETS;
-use crate::rounds::{crowds_once_in, theme};
+use crate::rounds::{crowds_once_in, theme, LONG_CAPACITY};
 use crate::{Drive, Generator, Random, Request};
 use gladhamre::{Answer, SECTOR_BYTES};
 
@@ -16,6 +16,9 @@ use gladhamre::{Answer, SECTOR_BYTES};
 pub struct Tally {
     pub commands: u64,
     pub writes_cut: u64,
+    /// How many of them were WRITEs (12), and how many were cut into parts of both forms.
+    pub long_form_cut: u64,
+    pub cut_into_both_forms: u64,
     pub parts: u64,
     /// WRITEs tried whole and in parts from the same state, and how many of them were accepted.
     pub tried: u64,
@@ -23,6 +26,17 @@ pub struct Tally {
     /// READs sent again whose sectors are pending, all of them or the last.
     pub pending_reads: u64,
     pub most_records: usize,
+}
+
+impl Tally {
+    fn note_cut(&mut self, turn: &Turn, parts: &[Request]) {
+        let is_long = |request: &Request| request.cdb[0] == cdb::WRITE_12;
+        let long_parts = parts.iter().filter(|part| is_long(part)).count();
+        self.writes_cut += 1;
+        self.parts += parts.len() as u64;
+        self.long_form_cut += u64::from(is_long(&turn.request));
+        self.cut_into_both_forms += u64::from((1..parts.len()).contains(&long_parts));
+    }
 }
 
 /// A command of the first run with its answer.
@@ -57,8 +71,8 @@ impl FirstRun {
         let reads_pending = request.twelve().is_some_and(|cdb| {
             let (medium, pending) = (&bench.medium, &bench.pending);
             let (before, after) = (&before, &bench.state);
-            let event = Event { cdb: &cdb, answer: &answer, before, after, medium, pending };
-            event.reads_pending()
+            let (cdb, request, answer) = (&cdb, &request, &answer);
+            Event { cdb, request, answer, before, after, medium, pending }.reads_pending()
         });
         self.turns.push(Turn { request, answer, reply, reads_pending });
         Ok(())
@@ -87,6 +101,32 @@ pub fn check(drive: &dyn Drive, capacity: u32, seed: u64, tally: &mut Tally) -> 
         second_run(&mut third, &turns, &mut random, false, tally)?;
         first.same_disc(&third)?;
         first.same_bytes(&third)?;
+    }
+    Ok(())
+}
+
+/// Checks one WRITE (12) of more than 65,535 sectors: whole, cut into WRITEs that are no WRITE (12),
+/// and into parts of both forms.
+pub fn check_long(drive: &dyn Drive, seed: u64) -> Result<(), String> {
+    let mut random = Random::new(seed);
+    let start = random.draw();
+    let sectors = random.between(65_537, 68_000) as u32;
+    let mut first = Bench::blank(drive, LONG_CAPACITY, &mut Random::new(start))?;
+    let mut run = FirstRun::new(LONG_CAPACITY);
+    run.send(&mut first, Request::fitting(cdb::write_12(0, sectors), LONG_CAPACITY))?;
+    run.check(&first)?;
+    let turn = &run.turns[0];
+    if turn.answer.number != 0 {
+        return Err(format!("a WRITE (12) of {sectors} sectors is refused"));
+    }
+    let short = [cdb::WRITE, cdb::WRITE];
+    let both = [cdb::WRITE, cdb::WRITE_12];
+    for (length, forms) in [(65_535, short), (sectors - 65_535, short), (1, both)] {
+        let parts = parts_of(&turn.request, &[length, sectors - length], &forms, &mut random);
+        let mut cut = Bench::blank(drive, LONG_CAPACITY, &mut Random::new(start))?;
+        send_parts(&mut cut, turn, &parts, &mut random, false)?;
+        first.same_disc(&cut)?;
+        first.same_bytes(&cut)?;
     }
     Ok(())
 }
@@ -141,8 +181,7 @@ fn second_run(
             tally.pending_reads += u64::from(turn.reads_pending);
             repeat(bench, turn)
         } else {
-            tally.writes_cut += 1;
-            tally.parts += parts.len() as u64;
+            tally.note_cut(turn, &parts);
             send_parts(bench, turn, &parts, random, disturbed)
         };
         outcome.map_err(|what| {
@@ -191,7 +230,7 @@ fn send_parts(
 
 /// The parts of an accepted WRITE, none if it stays whole.
 fn cut(turn: &Turn, random: &mut Random) -> Vec<Request> {
-    let is_write = turn.request.cdb[..].first() == Some(&cdb::WRITE);
+    let is_write = turn.request.twelve().is_some_and(|cdb| cdb::is_write(&cdb));
     let long_enough = turn.request.data_length >= 2 * SECTOR_BYTES;
     if turn.answer.number != 0 || !is_write || !long_enough || random.once_in(4) {
         return Vec::new();
@@ -199,41 +238,63 @@ fn cut(turn: &Turn, random: &mut Random) -> Vec<Request> {
     parts(&turn.request, random)
 }
 
-/// Cuts a WRITE of two sectors or more.
+/// Cuts a WRITE of two sectors or more into parts of both forms. There are none where the second
+/// would begin past 32 bits.
 fn parts(whole: &Request, random: &mut Random) -> Vec<Request> {
     let (address, sectors) = whole.twelve().map_or((0, 0), |cdb| cdb::run(&cdb));
-    let mut parts = Vec::new();
-    let mut done = 0;
-    for length in part_lengths(sectors, random) {
-        let mut cdb = [0; 12];
-        random.fill(&mut cdb);
-        cdb[0] = cdb::WRITE;
-        cdb::set_run(&mut cdb, address + u32::from(done), length);
-        let mut part = Request::fitting(cdb, 0);
-        part.medium_length = whole.medium_length;
-        part.data_offset = whole.data_offset + usize::from(done) * SECTOR_BYTES;
-        part.reply_length = random.below(100) as usize;
-        parts.push(part);
-        done += length;
+    let lengths = part_lengths(address, sectors, random);
+    if lengths.len() < 2 {
+        return Vec::new();
     }
-    parts
+    let forms = lengths.iter().map(|&length| match u16::try_from(length) {
+        Ok(_) if random.once_in(2) => cdb::WRITE,
+        _ => cdb::WRITE_12,
+    });
+    let forms: Vec<u8> = forms.collect();
+    parts_of(whole, &lengths, &forms, random)
 }
 
-/// Lengths of at least 1 that add up: single sectors, or a few parts.
-fn part_lengths(sectors: u16, random: &mut Random) -> Vec<u16> {
-    if sectors <= 100 && random.once_in(4) {
-        return vec![1; sectors.into()];
+/// The parts of these lengths and forms.
+fn parts_of(whole: &Request, lengths: &[u32], forms: &[u8], random: &mut Random) -> Vec<Request> {
+    let address = whole.twelve().map_or(0, |cdb| cdb::value(&cdb));
+    let mut done = 0;
+    let part = |(&length, &form): (&u32, &u8)| {
+        let mut cdb = [0; 12];
+        random.fill(&mut cdb);
+        cdb[0] = form;
+        match form {
+            cdb::WRITE => cdb::set_run(&mut cdb, address + done, length as u16),
+            _ => cdb::set_run_12(&mut cdb, address + done, length),
+        }
+        let mut part = Request::fitting(cdb, 0);
+        part.medium_length = whole.medium_length;
+        part.data_offset = whole.data_offset + done as usize * SECTOR_BYTES;
+        part.reply_length = random.below(100) as usize;
+        done += length;
+        part
+    };
+    lengths.iter().zip(forms).map(part).collect()
+}
+
+/// Lengths of at least 1 that add up: single sectors, or a few parts, each of which begins within 32
+/// bits.
+fn part_lengths(address: u32, sectors: u32, random: &mut Random) -> Vec<u32> {
+    let last_start = (sectors - 1).min(u32::MAX - address);
+    if sectors <= 100 && last_start + 1 == sectors && random.once_in(4) {
+        return vec![1; sectors as usize];
     }
-    let mut left = sectors;
+    let mut done = 0;
     let mut lengths = Vec::new();
     for _ in 0..random.between(1, 5) {
-        if left > 1 {
-            let length = random.between(1, u64::from(left) - 1) as u16;
+        let left = last_start - done;
+        let most = if random.once_in(2) { left } else { left.min(5_000) };
+        if left > 0 {
+            let length = random.between(1, most.into()) as u32;
             lengths.push(length);
-            left -= length;
+            done += length;
         }
     }
-    lengths.push(left);
+    lengths.push(sectors - done);
     lengths
 }
 
@@ -244,7 +305,11 @@ fn try_cut(bench: &Bench, random: &mut Random, tally: &mut Tally) -> Result<(), 
     let mut cut = bench.clone();
     whole.change_stale(random);
     let accepted = whole.command(&request).0.number == 0;
-    let all_accepted = parts(&request, random).iter().all(|part| {
+    let parts = parts(&request, random);
+    if parts.is_empty() {
+        return Ok(());
+    }
+    let all_accepted = parts.iter().all(|part| {
         cut.change_stale(random);
         cut.command(part).0.number == 0
     });
@@ -262,7 +327,7 @@ fn try_cut(bench: &Bench, random: &mut Random, tally: &mut Tally) -> Result<(), 
     Ok(())
 }
 
-/// A WRITE of 2 to 65,535 sectors, mostly at a next writable address.
+/// A WRITE of at least 2 sectors and of either form, mostly at a next writable address.
 fn some_write(bench: &Bench, random: &mut Random) -> Request {
     let outline = Outline::new(&bench.state);
     let open: Vec<&Place> = outline.places.iter().filter(|place| place.is_incomplete()).collect();
@@ -273,19 +338,27 @@ fn some_write(bench: &Bench, random: &mut Random) -> Request {
             (place.next, place.room)
         }
     };
-    let sectors = match random.below(8) {
+    let longest = u64::from(u32::MAX);
+    let sectors = match random.below(10) {
         0 => 65_535,
         1 => random.between(2, 65_535),
         2 => room + 1,
         3 | 4 => room,
+        5 => random.pick(&[65_536, 1 << 31, longest]),
+        6 => longest - random.below(next + 1),
         _ => random.between(2, 40),
     };
-    let address = match random.below(8) {
+    let address = match random.below(10) {
         0 => random.draw() >> 33,
         1 => next + 1,
+        2 => longest - random.below(20),
         _ => next,
     };
-    let cdb = cdb::write(address as u32, sectors.clamp(2, 65_535) as u16);
+    let (address, sectors) = (address as u32, sectors.max(2) as u32);
+    let cdb = match u16::try_from(sectors) {
+        Ok(sectors) if random.once_in(2) => cdb::write(address, sectors),
+        _ => cdb::write_12(address, sectors),
+    };
     let mut request = Request::fitting(cdb, bench.state.capacity());
     request.data_offset = random.below(OFFSETS as u64) as usize;
     request
@@ -293,7 +366,7 @@ fn some_write(bench: &Bench, random: &mut Random) -> Request {
 
 #[cfg(test)]
 mod tests {
-    use super::FirstRun;
+    use super::{part_lengths, parts, FirstRun};
     use crate::bench::Bench;
     use crate::cdb::{self, Cdb};
     use crate::{Plain, Random, Request};
@@ -319,6 +392,26 @@ mod tests {
         assert_eq!(send(None, cdbs), Ok(()));
         let what = format!("READ gives sector {sector}, neither recorded nor pending");
         assert_eq!(send(Some(fault), cdbs), Err(what));
+    }
+
+    /// The parts of a WRITE add up, and each begins within 32 bits; where the second could not, there
+    /// is no cut.
+    #[test]
+    fn parts_begin_within_32_bits() {
+        let mut random = Random::new(1);
+        let wholes = [(0, 2), (0, u32::MAX), (40, u32::MAX), (u32::MAX - 1, 2), (u32::MAX - 9, 50)];
+        for (address, sectors) in wholes.into_iter().cycle().take(500) {
+            let lengths = part_lengths(address, sectors, &mut random);
+            assert!(lengths.len() >= 2 && lengths.iter().all(|&length| length > 0));
+            let (last, others) = lengths.split_last().expect("two");
+            let begun = others.iter().map(|&length| u64::from(length)).sum::<u64>();
+            assert_eq!(begun + u64::from(*last), sectors.into());
+            assert!(u64::from(address) + begun <= u32::MAX.into());
+        }
+        for sectors in [2, 100, u32::MAX] {
+            let whole = Request::fitting(cdb::write_12(u32::MAX, sectors), 256);
+            assert_eq!(parts(&whole, &mut random), []);
+        }
     }
 
     #[test]

@@ -1,6 +1,7 @@
 //! One command with the states before and after it, and what can be asked of it.
 
 use crate::cdb::{self, Cdb};
+use crate::Request;
 use gladhamre::{Answer, Record, State, RECORD_LIMIT};
 
 /// Blocks between two sessions.
@@ -9,6 +10,7 @@ const SESSION_GAP: u32 = 128;
 /// One command with the states before and after it.
 pub struct Event<'a> {
     pub cdb: &'a Cdb,
+    pub request: &'a Request,
     pub answer: &'a Answer,
     pub before: &'a State,
     pub after: &'a State,
@@ -27,6 +29,28 @@ pub fn lacks_one(state: &State) -> bool {
     !is_full(state) && state.record(RECORD_LIMIT - 2) != Record::default()
 }
 
+/// Where in the list the fragment with the pending sectors stands.
+#[derive(Clone, Copy, Debug, PartialEq, Eq)]
+pub enum Position {
+    Only,
+    First,
+    Middle,
+    Last,
+}
+
+impl Position {
+    /// None where no sectors are pending.
+    pub fn of(state: &State) -> Option<Position> {
+        match (state.pending_fragment() as usize, state.records().count()) {
+            (0, _) => None,
+            (1, 1) => Some(Position::Only),
+            (1, _) => Some(Position::First),
+            (number, count) if number == count => Some(Position::Last),
+            _ => Some(Position::Middle),
+        }
+    }
+}
+
 fn is_tail(record: &Record) -> bool {
     record.kind == 1 && record.recorded < record.length
 }
@@ -38,6 +62,16 @@ impl Event<'_> {
 
     pub fn refused(&self, opcode: u8, number: u32) -> bool {
         self.cdb[0] == opcode && self.answer.number == number
+    }
+
+    /// A READ of either form, answered so.
+    pub fn is_read(&self, number: u32) -> bool {
+        cdb::is_read(self.cdb) && self.answer.number == number
+    }
+
+    /// A WRITE of either form, answered so.
+    pub fn is_write(&self, number: u32) -> bool {
+        cdb::is_write(self.cdb) && self.answer.number == number
     }
 
     pub fn closed(&self, function: u8) -> bool {
@@ -65,8 +99,8 @@ impl Event<'_> {
         cdb::run(self.cdb).0.into()
     }
 
-    pub fn length(&self) -> u16 {
-        cdb::run(self.cdb).1
+    pub fn length(&self) -> u64 {
+        cdb::run(self.cdb).1.into()
     }
 
     pub fn number(&self) -> u32 {

@@ -62,7 +62,11 @@ impl Generator {
         request.medium_length = request.medium_length.min(allocated);
         request.data_offset = self.random.below(OFFSETS as u64) as usize;
         request.reply_length += self.extra_room();
-        if self.random.once_in(self.mood.spoils_once_in()) {
+        let once_in = match request.wants_long_buffer() {
+            true => self.mood.spoils_once_in().min(6),
+            false => self.mood.spoils_once_in(),
+        };
+        if self.random.once_in(once_in) {
             self.spoil(&mut request, allocated);
         }
         request
@@ -119,7 +123,6 @@ impl Generator {
     }
 
     fn set_read(&mut self, outline: &Outline, cdb: &mut Cdb) {
-        cdb[0] = cdb::READ;
         let pending = outline.pending().filter(|_| self.random.once_in(2));
         let recorded = self.place(outline, |place| place.recorded_end > place.first);
         let (from, sectors) = match (pending, recorded) {
@@ -127,8 +130,25 @@ impl Generator {
             (None, Some(place)) if !self.random.once_in(3) => self.read_near(&place),
             _ => self.read_anywhere(outline),
         };
+        let (from, sectors) = self.or_far_run(outline, from, sectors);
         let sectors = if self.random.once_in(30) { 0 } else { sectors };
-        cdb::set_run(cdb, from as u32, sectors as u16);
+        self.set_run(cdb, [cdb::READ, cdb::READ_12], from, sectors);
+    }
+
+    /// Opcode, address and length of a READ or a WRITE, in either form; in the long one where the
+    /// short one has no room for the length.
+    fn set_run(&mut self, cdb: &mut Cdb, forms: [u8; 2], address: u64, sectors: u64) {
+        let [short, long] = forms;
+        match u16::try_from(sectors) {
+            Ok(sectors) if self.random.once_in(2) => {
+                cdb[0] = short;
+                cdb::set_run(cdb, address as u32, sectors);
+            }
+            _ => {
+                cdb[0] = long;
+                cdb::set_run_12(cdb, address as u32, sectors as u32);
+            }
+        }
     }
 
     /// A run that begins and ends at, beside or among the pending sectors; now and then it comes from
@@ -192,7 +212,6 @@ impl Generator {
     }
 
     fn set_write(&mut self, outline: &Outline, cdb: &mut Cdb) {
-        cdb[0] = cdb::WRITE;
         let wanted = self.write_target(outline);
         let (to, sectors) = match wanted {
             Some(place) if !self.random.once_in(8) => {
@@ -201,7 +220,8 @@ impl Generator {
             Some(place) => (self.near_miss(&place), self.random.between(0, 40)),
             None => (self.boundary(outline), self.random.between(0, 40)),
         };
-        cdb::set_run(cdb, to as u32, sectors.min(65_535) as u16);
+        let (to, sectors) = self.or_far_run(outline, to, sectors);
+        self.set_run(cdb, [cdb::WRITE, cdb::WRITE_12], to, sectors);
     }
 
     /// Some incomplete fragment: reserved ones first where the tail should stay blank.
@@ -370,13 +390,10 @@ impl Generator {
         cdb::set_allocation(cdb, allocation);
     }
 
-    /// Any bytes, a listed opcode now and then. A READ is kept short: its reply buffer is filled.
+    /// Any bytes, a listed opcode now and then.
     fn set_junk(&mut self, cdb: &mut Cdb) {
         if self.random.once_in(4) {
             cdb[0] = self.random.pick(&cdb::OPCODES);
-        }
-        if cdb[0] == cdb::READ {
-            cdb[7] = 0;
         }
     }
 

@@ -60,7 +60,7 @@ impl Writes {
             return;
         };
         let (address, sectors) = cdb::run(&cdb);
-        if cdb[0] != cdb::WRITE || answer.number != 0 || sectors == 0 {
+        if !cdb::is_write(&cdb) || answer.number != 0 || sectors == 0 {
             return;
         }
         let mut ends = before.records().map(|record| 16 * (record.start + record.length));
@@ -68,7 +68,7 @@ impl Writes {
             self.accepted[index] += u64::from(sectors);
         }
         let places = self.data.iter_mut().skip(address as usize);
-        for (sector, place) in places.take(sectors.into()).enumerate() {
+        for (sector, place) in places.take(sectors as usize).enumerate() {
             *place = Some(request.data_offset + sector * SECTOR_BYTES);
         }
     }
@@ -90,7 +90,7 @@ impl Writes {
         before: &State,
     ) -> Result<(), String> {
         let from = match request.twelve() {
-            Some(cdb) if cdb[0] == cdb::READ => cdb::run(&cdb).0 as usize,
+            Some(cdb) if cdb::is_read(&cdb) => cdb::value(&cdb) as usize,
             _ => return Ok(()),
         };
         let recorded = recorded_blocks(before);

@@ -9,8 +9,11 @@
 mod bench;
 mod coverage;
 pub mod demand3;
+mod discs;
 mod drive;
 mod event;
+mod far;
+mod forms;
 mod generator;
 mod history;
 mod mood;

@@ -51,7 +51,7 @@ impl Mood {
         }
     }
 
-    /// A length of something is wrong once in so many requests.
+    /// A length of something is wrong once in so many requests, more often where much is lent.
     pub fn spoils_once_in(self) -> u64 {
         if self == Mood::Hostile {
             2

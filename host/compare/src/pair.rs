@@ -8,8 +8,9 @@ use crate::{Coverage, Drive, Random, Request};
 use gladhamre::{
     Answer, Lent, State, BLOCK_BYTES, RECORD_LIMIT, RECORD_WORDS, SECTOR_BYTES, STATE_WORDS,
 };
-use std::fmt;
+use mapped::Mapped;
 use std::ops::Range;
+use std::{fmt, mem};
 
 /// Words allocated for a state image: a record and some more than it has, to lend too many.
 pub const IMAGE_ROOM: usize = STATE_WORDS + RECORD_WORDS + 3;
@@ -19,6 +20,13 @@ const PENDING_ROOM: usize = BLOCK_BYTES + SECTOR_BYTES;
 
 /// Bytes after a reply buffer.
 const REPLY_GUARD: usize = 64;
+
+/// A longer reply buffer takes memory only where it is touched, and its front and its end alone are
+/// looked at: the longest has 8.8 TB.
+pub const LONG_REPLY: usize = 4 << 20;
+
+/// How much of them, beside the reply.
+const REPLY_EDGE: usize = 4_096;
 
 /// The media are compared as a whole after one command for so many of their bytes, and at the end
 /// of a sequence.
@@ -40,6 +48,7 @@ struct Side<'a> {
     image: Vec<u32>,
     medium: Vec<u8>,
     pending: Vec<u8>,
+    /// The reply buffer after a command, as far as it is looked at.
     reply: Vec<u8>,
 }
 
@@ -54,18 +63,59 @@ impl<'a> Side<'a> {
         }
     }
 
-    /// The stale bytes of the reply buffer are some more than are lent.
+    /// The stale bytes are those of the reply buffer, with some more than are lent.
     fn command(&mut self, request: &Request, stale_reply: &[u8]) -> Answer {
-        self.reply.clear();
-        self.reply.extend_from_slice(stale_reply);
+        if request.reply_length > LONG_REPLY {
+            return self.command_with_long_reply(request, stale_reply);
+        }
+        let mut reply = mem::take(&mut self.reply);
+        reply.clear();
+        reply.extend_from_slice(stale_reply);
+        let answer = self.answer(request, &mut reply[..request.reply_length]);
+        self.reply = reply;
+        answer
+    }
+
+    /// The same with a buffer that takes memory only where it is touched. The stale bytes are those of
+    /// its front and its end.
+    fn command_with_long_reply(&mut self, request: &Request, stale_reply: &[u8]) -> Answer {
+        let mut buffer = Mapped::zeros(request.reply_length + REPLY_GUARD).expect("address space");
+        let end = buffer.len() - REPLY_EDGE;
+        let (stale_front, stale_end) = stale_reply.split_at(REPLY_EDGE);
+        buffer[..REPLY_EDGE].copy_from_slice(stale_front);
+        buffer[end..].copy_from_slice(stale_end);
+        let answer = self.answer(request, &mut buffer[..request.reply_length]);
+        let front = (answer.reply_count as usize + REPLY_EDGE).min(end);
+        self.reply = [&buffer[..front], &buffer[end..]].concat();
+        answer
+    }
+
+    /// A refusal leaves the reply buffer.
+    fn leaves_reply(&self, answer: &Answer, stale_reply: &[u8]) -> Result<(), String> {
+        match answer.number {
+            0 => Ok(()),
+            _ => same("byte of the reply buffer, before and after", stale_reply, &self.reply),
+        }
+    }
+
+    fn answer(&mut self, request: &Request, reply: &mut [u8]) -> Answer {
         let lent = Lent {
             cdb: &request.cdb,
             data: request.data(),
             medium: &mut self.medium[..request.medium_length],
             pending: &mut self.pending[..request.pending_length],
-            reply: &mut self.reply[..request.reply_length],
+            reply,
         };
         self.drive.command(&mut self.image[..request.state_words], lent)
+    }
+}
+
+/// How many stale bytes a reply buffer has to begin with.
+fn stale_length(reply_length: usize) -> usize {
+    if reply_length > LONG_REPLY {
+        2 * REPLY_EDGE
+    } else {
+        reply_length + REPLY_GUARD
     }
 }
 
@@ -161,15 +211,17 @@ impl<'a> Pair<'a> {
     ) -> Result<Answer, Difference> {
         let before = self.state();
         let offset = random.below(OFFSETS as u64) as usize;
-        let stale_reply = &pool()[offset..offset + request.reply_length + REPLY_GUARD];
+        let stale_reply = &pool()[offset..offset + stale_length(request.reply_length)];
         let left = self.left.command(request, stale_reply);
         let right = self.right.command(request, stale_reply);
         let after = self.state();
         self.compare_after(&left, &right, &before, &after)
+            .and_then(|()| self.left.leaves_reply(&left, stale_reply))
             .map_err(|what| self.difference(&what, request, &before))?;
         match &request.twelve() {
             Some(cdb) => self.coverage.note(&Event {
                 cdb,
+                request,
                 answer: &left,
                 before: &before,
                 after: &after,
@@ -283,4 +335,62 @@ fn same<T: PartialEq + fmt::Debug>(what: &str, left: &[T], right: &[T]) -> Resul
     let differs = |&at: &usize| left[at] != right[at];
     let at = (0..left.len()).find(differs).unwrap_or(0);
     Err(format!("{what} {at}: {:X?} and {:X?}", left[at], right[at]))
+}
+
+#[cfg(test)]
+mod tests {
+    use super::{Difference, Pair, LONG_REPLY};
+    use crate::{cdb, Drive, Plain, Random, Request};
+    use gladhamre::{Answer, Lent};
+
+    /// The plain drive, but for a byte of the reply buffer that a refusal changes.
+    struct Touching {
+        place: fn(usize) -> usize,
+    }
+
+    impl Drive for Touching {
+        fn name(&self) -> String {
+            "a drive that touches the reply buffer".into()
+        }
+
+        fn blank(&self, capacity: u32, image: &mut [u32]) -> u32 {
+            Plain::default().blank(capacity, image)
+        }
+
+        fn command(&self, image: &mut [u32], lent: Lent) -> Answer {
+            let Lent { cdb, data, medium, pending, reply } = lent;
+            let lent = Lent { cdb, data, medium, pending, reply: &mut *reply };
+            let answer = Plain::default().command(image, lent);
+            let place = (self.place)(reply.len());
+            reply[place] ^= u8::from(answer.number != 0);
+            answer
+        }
+    }
+
+    /// READs that are refused, with buffers of a sector and of terabytes.
+    fn refused_reads(left: &dyn Drive, right: &dyn Drive) -> [Result<Answer, Difference>; 2] {
+        let mut pair = Pair::new(left, right, 256);
+        pair.blank(256).expect("both make it");
+        [cdb::read_12(0, 1), cdb::read_12(0, u32::MAX)]
+            .map(|cdb| pair.command(&Request::fitting(cdb, 256), &mut Random::new(1)))
+    }
+
+    #[test]
+    fn reply_buffers_are_left() {
+        assert!(cdb::reply_room(&cdb::read_12(0, u32::MAX)) > LONG_REPLY);
+        let answers = refused_reads(&Plain::default(), &Plain::default());
+        let numbers = answers.map(|answer| answer.expect("both drives are the same").number);
+        assert_eq!(numbers, [0x080000, 0x052100]);
+    }
+
+    /// At the front and at the end, by one drive and by both.
+    #[test]
+    fn touched_reply_buffers_are_found() {
+        let places: [fn(usize) -> usize; 2] = [|_| 0, |length| length - 1];
+        for place in places {
+            let touching = Touching { place };
+            assert!(refused_reads(&Plain::default(), &touching).iter().all(Result::is_err));
+            assert!(refused_reads(&touching, &touching).iter().all(Result::is_err));
+        }
+    }
 }

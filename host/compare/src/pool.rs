@@ -1,11 +1,13 @@
 //! A pool of random bytes: data of commands and stale contents of buffers are slices of it.
 
-use crate::Random;
+use crate::{cdb, Random};
 use gladhamre::SECTOR_BYTES;
+use mapped::Mapped;
 use std::sync::OnceLock;
 
-/// The sectors of the longest WRITE.
-const LONGEST: usize = 65_535;
+/// The sectors of the longest WRITE with data of its own: more than 65,535, and all that a disc of
+/// [`LONG_CAPACITY`](crate::rounds::LONG_CAPACITY) blocks takes.
+const LONGEST: usize = 68_800;
 
 /// Where a slice of any length may begin.
 pub const OFFSETS: usize = 1 << 20;
@@ -18,6 +20,16 @@ pub fn pool() -> &'static [u8] {
         Random::new(0).fill(&mut bytes);
         bytes
     })
+}
+
+/// The data of a command: from the pool, or zeros where there are more than it has.
+pub fn data(offset: usize, length: usize) -> &'static [u8] {
+    static ZEROS: OnceLock<Mapped> = OnceLock::new();
+    let zeros = || Mapped::zeros(cdb::LONGEST_DATA + OFFSETS).expect("address space");
+    match pool().get(offset..offset + length) {
+        Some(bytes) => bytes,
+        None => &ZEROS.get_or_init(zeros)[..length],
+    }
 }
 
 /// Fills a buffer of any length from the pool.

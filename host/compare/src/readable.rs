@@ -2,7 +2,7 @@
 //! reports while sectors are pending.
 
 use crate::cdb;
-use crate::event::{is_full, Event};
+use crate::event::{is_full, Event, Position};
 use crate::situations::Situation;
 use gladhamre::{Record, SECTOR_BYTES};
 use std::ops::Range;
@@ -177,7 +177,7 @@ pub const OF_READABLE_SECTORS: [Situation; 59] = [
         event.reads_one_past() && event.has_noise_past_count()
     }),
     ("READ of length 0 while sectors are pending", |event| {
-        event.accepted(cdb::READ) && event.length() == 0 && event.before.pending_count() > 0
+        event.is_read(0) && event.length() == 0 && event.before.pending_count() > 0
     }),
     ("25h where nothing is readable", |event| {
         event.accepted(cdb::READ_CAPACITY)
@@ -217,15 +217,6 @@ pub const OF_READABLE_SECTORS: [Situation; 59] = [
 
 const BLANK_CHECK: u32 = 0x080000;
 
-/// Where in the list the fragment with the pending sectors stands.
-#[derive(PartialEq)]
-enum Position {
-    Only,
-    First,
-    Middle,
-    Last,
-}
-
 /// The first sector of a fragment.
 fn first(record: &Record) -> u64 {
     16 * u64::from(record.start)
@@ -244,12 +235,12 @@ fn end(record: &Record) -> u64 {
 impl Event<'_> {
     /// A READ of at least one sector, answered so.
     fn reads(&self, number: u32) -> bool {
-        self.cdb[0] == cdb::READ && self.answer.number == number && self.length() > 0
+        self.is_read(number) && self.length() > 0
     }
 
     /// The sectors of a READ.
     fn run(&self) -> Range<u64> {
-        self.address()..self.address() + u64::from(self.length())
+        self.address()..self.address() + self.length()
     }
 
     /// The fragment that has the pending sectors.
@@ -265,13 +256,7 @@ impl Event<'_> {
     }
 
     fn holder_is(&self, position: Position) -> bool {
-        let found = match (self.before.pending_fragment() as usize, self.before.records().count()) {
-            (1, 1) => Position::Only,
-            (1, _) => Position::First,
-            (number, count) if number == count => Position::Last,
-            _ => Position::Middle,
-        };
-        found == position
+        Position::of(self.before) == Some(position)
     }
 
     /// A READ answered so, from a readable sector of the fragment with the pending sectors on.
@@ -316,6 +301,11 @@ impl Event<'_> {
         self.before
             .records()
             .any(|record| (first(&record)..recorded_end(&record)).contains(&address))
+    }
+
+    /// Whether the sector is recorded or pending.
+    pub fn is_readable(&self, address: u64) -> bool {
+        self.is_recorded(address) || self.pending_run().contains(&address)
     }
 
     /// The last recorded address of the disc.

@@ -1,14 +1,14 @@
 //! What is sent to a drive in one command.
 
 use crate::cdb::{self, Cdb};
-use crate::pool::pool;
+use crate::pool;
 use gladhamre::{BLOCK_BYTES, STATE_WORDS};
 
 /// A command with the lengths of everything that is lent for it.
 #[derive(Clone, Debug, PartialEq, Eq)]
 pub struct Request {
     pub cdb: Vec<u8>,
-    /// Where in the pool the data begin.
+    /// Where in the pool the data begin, if it has so many.
     pub data_offset: usize,
     pub data_length: usize,
     pub reply_length: usize,
@@ -32,8 +32,13 @@ impl Request {
         }
     }
 
+    /// Whether data or reply buffer have more bytes than 32 bits can say.
+    pub fn wants_long_buffer(&self) -> bool {
+        self.data_length.max(self.reply_length) > u32::MAX as usize
+    }
+
     pub fn data(&self) -> &'static [u8] {
-        &pool()[self.data_offset..self.data_offset + self.data_length]
+        pool::data(self.data_offset, self.data_length)
     }
 
     /// The twelve bytes, if there are twelve.

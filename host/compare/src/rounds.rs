@@ -1,7 +1,9 @@
 //! The rounds of a comparison: sequences from a blank disc, states injected, junk.
 
-use crate::cdb::{opcode_only, TEST_UNIT_READY};
+use crate::cdb::{self, opcode_only, Cdb, TEST_UNIT_READY};
+use crate::coverage::answer_name;
 use crate::pair::IMAGE_ROOM;
+use crate::pool::OFFSETS;
 use crate::{states, unsound, Coverage, Difference, Drive, Generator, Mood, Pair, Random, Request};
 use gladhamre::{State, RECORD_LIMIT, STATE_WORDS};
 use plain::Rule;
@@ -9,6 +11,9 @@ use plain::Rule;
 /// Capacities of the discs that sequences run on. The first two are full before the list is; the
 /// third has room for a full list of short fragments, and hardly for a session after it.
 pub const CAPACITIES: [u32; 4] = [256, 300, 480, 1_000];
+
+/// The capacity of a disc with room for WRITEs of more than 65,535 sectors.
+pub const LONG_CAPACITY: u32 = 4_300;
 
 /// The capacity of the largest disc.
 pub const CAPACITY_LIMIT: u32 = 143_444;
@@ -83,6 +88,59 @@ pub fn largest_disc(pair: &mut Pair, seed: u64) -> Result<(), Difference> {
             .map_err(|difference| within("sequence", seed, number, &difference))?;
     }
     sound_states(pair, seed, 100)
+}
+
+/// WRITEs and READs of more than 65,535 sectors that are accepted: up to pending sectors, and of a whole
+/// fragment while sectors of another are pending.
+pub fn long_runs(pair: &mut Pair, seed: u64) -> Result<(), Difference> {
+    let mut random = Random::new(seed + 5);
+    let sectors = 16 * LONG_CAPACITY;
+    let length = random.between(65_536, 66_000) as u32;
+    let fragment = 16 * random.between(4_096, 4_200) as u32;
+    pair.blank(LONG_CAPACITY)?;
+    let written = [
+        (cdb::write_12(0, sectors + 1), 0x056300),
+        (cdb::write_12(0, length), 0),
+        (cdb::read_12(0, length), 0),
+        (cdb::read_12(0, length + 1), 0x080000),
+        (cdb::read_12(0, sectors + 1), 0x052100),
+        (cdb::read(65_000, 536), 0),
+        (cdb::write(length, 100), 0),
+        (cdb::write_12(length + 100, sectors - length - 100), 0),
+        (cdb::write_12(sectors, 1), 0x052102),
+    ];
+    send_all(pair, &mut random, &written)?;
+    pair.blank(LONG_CAPACITY)?;
+    let reserved = [
+        (cdb::reserve(fragment), 0),
+        (cdb::write(fragment + 16, 5), 0),
+        (cdb::write_12(0, fragment + 1), 0x056300),
+        (cdb::write_12(0, fragment), 0),
+        (cdb::read_12(0, fragment), 0),
+        (cdb::read_12(0, fragment + 1), 0x080000),
+        (cdb::read_12(fragment + 16, 16), 0),
+    ];
+    send_all(pair, &mut random, &reserved)?;
+    pair.compare_media()
+}
+
+/// Commands with the answers that both drives must give.
+fn send_all(
+    pair: &mut Pair,
+    random: &mut Random,
+    commands: &[(Cdb, u32)],
+) -> Result<(), Difference> {
+    for &(cdb, number) in commands {
+        let mut request = Request::fitting(cdb, pair.state().capacity());
+        request.data_offset = random.below(OFFSETS as u64) as usize;
+        let answer = pair.command(&request, random)?;
+        if answer.number != number {
+            let (wanted, given) = (answer_name(number), answer_name(answer.number));
+            let what = format!("{cdb:02X?}: {given} instead of {wanted}");
+            return Err(Difference(what));
+        }
+    }
+    Ok(())
 }
 
 fn sequence(pair: &mut Pair, generator: &mut Generator, capacity: u32) -> Result<(), Difference> {

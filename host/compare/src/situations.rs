@@ -3,6 +3,7 @@
 
 use crate::cdb;
 use crate::event::{is_full, lacks_one, Event};
+use crate::forms::OF_FORMS;
 use crate::readable::OF_READABLE_SECTORS;
 use gladhamre::RECORD_LIMIT;
 
@@ -10,22 +11,27 @@ use gladhamre::RECORD_LIMIT;
 pub type Situation = (&'static str, fn(&Event) -> bool);
 
 /// How many there are.
-pub const COUNT: usize = OF_FRAGMENTS.len() + OF_READABLE_SECTORS.len();
+pub const COUNT: usize = OF_FRAGMENTS.len() + OF_READABLE_SECTORS.len() + OF_FORMS.len();
 
-/// Every situation, those of readable sectors last.
+/// Every situation, those of readable sectors and of forms last.
 pub fn all() -> impl Iterator<Item = Situation> {
-    OF_FRAGMENTS.into_iter().chain(OF_READABLE_SECTORS)
+    OF_FRAGMENTS.into_iter().chain(OF_READABLE_SECTORS).chain(OF_FORMS)
+}
+
+/// Whether the situation is one of READ or WRITE, whatever the form.
+pub fn is_of_both_forms(name: &str) -> bool {
+    name.starts_with("READ ") || name.starts_with("WRITE ")
 }
 
 /// The situations in which it counts how the fragments are.
 pub const OF_FRAGMENTS: [Situation; 63] = [
-    ("WRITE flushes another fragment", |event| event.accepted(cdb::WRITE) && event.flushed()),
-    ("WRITE fills its fragment exactly", |event| event.accepted(cdb::WRITE) && event.completed()),
+    ("WRITE flushes another fragment", |event| event.is_write(0) && event.flushed()),
+    ("WRITE fills its fragment exactly", |event| event.is_write(0) && event.completed()),
     ("WRITE of length 0 while sectors are pending", |event| {
-        event.accepted(cdb::WRITE) && event.length() == 0 && event.before.pending_count() > 0
+        event.is_write(0) && event.length() == 0 && event.before.pending_count() > 0
     }),
     ("WRITE where a flush would make the address right", |event| {
-        event.refused(cdb::WRITE, 0x052102) && event.address() == event.next_after_flush()
+        event.is_write(0x052102) && event.address() == event.next_after_flush()
     }),
     ("RESERVE while sectors are pending", |event| {
         event.accepted(cdb::RESERVE) && event.before.pending_count() > 0
@@ -215,13 +221,13 @@ pub const OF_FRAGMENTS: [Situation; 63] = [
         event.located() && event.reaches_last_record()
     }),
     ("READ in the last record", |event| {
-        event.accepted(cdb::READ) && event.length() > 0 && event.reaches_last_record()
+        event.is_read(0) && event.length() > 0 && event.reaches_last_record()
     }),
     ("WRITE leaves sectors pending in the last record", |event| {
-        event.accepted(cdb::WRITE) && event.after.pending_fragment() == RECORD_LIMIT as u32
+        event.is_write(0) && event.after.pending_fragment() == RECORD_LIMIT as u32
     }),
     ("WRITE to another fragment flushes the last record", |event| {
-        event.accepted(cdb::WRITE)
+        event.is_write(0)
             && event.flushed()
             && event.before.pending_fragment() == RECORD_LIMIT as u32
     }),

@@ -5,10 +5,15 @@ use crate::{Generator, Request};
 use gladhamre::{BLOCK_BYTES, HEADER_WORDS, RECORD_WORDS, SECTOR_BYTES, STATE_WORDS};
 
 impl Generator {
-    /// Makes one length wrong, or several.
+    /// Makes one length wrong, or several; more often than others that of a long buffer.
     pub(crate) fn spoil(&mut self, request: &mut Request, allocated: usize) {
         loop {
+            let long = request.wants_long_buffer() && self.random.once_in(2);
             match self.random.below(if self.buffers_right { 3 } else { 6 }) {
+                _ if long && request.data_length > request.reply_length => {
+                    request.data_length = self.wrong_data_length(request.data_length)
+                }
+                _ if long => request.reply_length = self.shorter(request.reply_length),
                 0 => self.spoil_cdb(&mut request.cdb),
                 1 => request.data_length = self.wrong_data_length(request.data_length),
                 2 => request.reply_length = self.shorter(request.reply_length),
@@ -32,6 +37,7 @@ impl Generator {
 
     fn wrong_data_length(&mut self, right: usize) -> usize {
         match self.random.below(6) {
+            _ if self.is_cut(right) => right as u32 as usize,
             0 => right + 1,
             1 => right.saturating_sub(1),
             2 => right + SECTOR_BYTES,
@@ -43,10 +49,16 @@ impl Generator {
 
     fn shorter(&mut self, length: usize) -> usize {
         match self.random.below(3) {
+            _ if self.is_cut(length) => length as u32 as usize,
             0 => length.saturating_sub(1),
             1 => 0,
             _ => self.random.below(length as u64) as usize,
         }
+    }
+
+    /// Whether a length of more than 32 bits is cut to them.
+    fn is_cut(&mut self, length: usize) -> bool {
+        u32::try_from(length).is_err() && self.random.once_in(2)
     }
 
     fn wrong_medium_length(&mut self, right: usize, allocated: usize) -> usize {

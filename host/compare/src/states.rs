@@ -19,8 +19,14 @@ enum Ending {
     Finalized,
 }
 
+/// A blank disc comes once in so many times.
+const BLANK_ONCE_IN: u64 = 40;
+
 /// A sound state of that capacity.
 pub fn sound(random: &mut Random, capacity: u32) -> State {
+    if random.once_in(BLANK_ONCE_IN) {
+        return blank(capacity);
+    }
     let endings =
         [Ending::Tail, Ending::Tail, Ending::ListFull, Ending::DiscFull, Ending::Finalized];
     let ending = match random.pick(&endings) {
@@ -28,6 +34,12 @@ pub fn sound(random: &mut Random, capacity: u32) -> State {
         ending => ending,
     };
     with_ending(random, capacity, ending)
+}
+
+fn blank(capacity: u32) -> State {
+    let mut words = [0; STATE_WORDS];
+    assert_eq!(plain::blank(capacity, &mut words), 0, "{capacity} blocks");
+    State::from_words(words)
 }
 
 /// As many records as the limit allows and the disc has room for, with a dividing block between

@@ -27,16 +27,17 @@ fn compare_with(
     pair.coverage
 }
 
-/// States injected, and that READs of every kind come on them.
+/// States injected, and that READs and WRITEs of every kind come on them.
 #[test]
 fn sound_states() {
     let reached = compare_with("sound states", EFFORT.injected_blocks, |pair, seed| {
         rounds::sound_states(pair, seed, EFFORT.sound)
     });
-    for (count, name) in reached.readable_situations() {
-        println!("{count:>12} {name}");
-        assert!(count > 0, "never met: {name}");
+    for meetings in reached.situations_of_runs() {
+        println!("{meetings}");
+        assert!(meetings.is_complete(), "never met, or in one form alone: {meetings}");
     }
+    assert_eq!(reached.missed_on_discs(), [""; 0]);
 }
 
 #[test]
@@ -60,6 +61,12 @@ fn blank_discs() {
     });
 }
 
+/// More sectors at once than 28h and 2Ah can name.
+#[test]
+fn long_runs() {
+    compare_with("long runs", rounds::LONG_CAPACITY, rounds::long_runs);
+}
+
 fn sequences(capacity: u32) -> Coverage {
     compare_with(&format!("sequences on {capacity} blocks"), capacity, |pair, seed| {
         rounds::sequences(pair, capacity, seed, EFFORT.sequences)
@@ -78,9 +85,10 @@ fn sequences_from_blank_discs() {
     });
     println!("{reached}");
     every_answer_came(&reached);
-    for (count, name) in reached.situations() {
-        assert!(count > 0, "never met: {name}");
+    for meetings in reached.situations() {
+        assert!(meetings.is_complete(), "never met, or in one form alone: {meetings}");
     }
+    assert_eq!(reached.missed_on_discs(), [""; 0]);
     assert_eq!(reached.most_records, RECORD_LIMIT);
     assert!(reached.most_sessions >= 5);
     assert!(reached.finalized > 0 && reached.full > 0);
@@ -100,12 +108,14 @@ fn every_answer_came(reached: &Coverage) {
 }
 
 /// Acceptance and the drive refusals that document 01 gives each command.
-const ANSWERS: [(&str, &[u32]); 16] = [
+const ANSWERS: [(&str, &[u32]); 18] = [
     ("00h", &[0]),
     ("03h", &[0]),
     ("25h", &[0]),
     ("28h READ", &[0, 0x052100, 0x080000]),
     ("2Ah WRITE", &[0, 0x072700, 0x052102, 0x056300]),
+    ("A8h READ (12)", &[0, 0x052100, 0x080000]),
+    ("AAh WRITE (12)", &[0, 0x072700, 0x052102, 0x056300]),
     ("35h", &[0]),
     ("51h", &[0, 0x052400]),
     ("52h address", &[0, 0x052100]),

@@ -64,6 +64,9 @@ fn of_whole_sequences() {
         Fault::FirstSectorFromMedium,
         Fault::PendingShareFromFront,
         Fault::PendingInLastFragment,
+        Fault::WriteEndWraps,
+        Fault::WriteTwelveUnflushed,
+        Fault::ForcedWriteFlushes,
     ];
     for fault in broken {
         let faulty = Plain { fault: Some(fault) };
@@ -73,5 +76,15 @@ fn of_whole_sequences() {
             Some(what) => println!("{fault:?} is found: {what}"),
             None => panic!("{fault:?} is not found: {tally:?}"),
         }
+    }
+}
+
+/// So does its check of a WRITE (12) of more than 65,535 sectors.
+#[test]
+fn of_long_writes() {
+    assert_eq!(demand3::check_long(&Plain::default(), seed()), Ok(()));
+    for fault in [Fault::TwelveLengthCut, Fault::PendingBytesKept] {
+        let found = demand3::check_long(&Plain { fault: Some(fault) }, seed());
+        assert!(found.is_err(), "{fault:?} is not found");
     }
 }

@@ -2,6 +2,7 @@
 //! takes memory only where a byte is written. Its `unsafe` code is in the module `pages`.
 
 #![deny(unsafe_code)]
+
 use pages::Pages;
 use std::io;
 use std::ops::{Deref, DerefMut};
@@ -65,6 +66,10 @@ mod pages {
         start: *mut c_void,
         length: usize,
     }
+
+    // The mapping belongs to the `Pages` alone, and no thread has more right to it than another.
+    unsafe impl Send for Pages {}
+    unsafe impl Sync for Pages {}
 
     impl Pages {
         /// So many zeros, at least one.

@@ -2,7 +2,11 @@
 
 use crate::reply;
 use crate::units::sector_bytes;
-use crate::{Address, Refusal};
+use crate::{Address, Fault, Refusal};
+
+/// READ (12) and WRITE (12): the same commands with a length of four bytes.
+pub(crate) const READ_12: u8 = 0xA8;
+pub(crate) const WRITE_12: u8 = 0xAA;
 
 /// A decoded command block. Bytes that document 01 does not name are gone.
 #[derive(Clone, Copy, Debug, PartialEq, Eq)]
@@ -21,7 +25,7 @@ pub enum Command {
 }
 
 impl Command {
-    pub fn decode(cdb: &[u8; 12]) -> Command {
+    pub fn decode(cdb: &[u8; 12], fault: Option<Fault>) -> Command {
         let two = |at: usize| u64::from(u16::from_be_bytes([cdb[at], cdb[at + 1]]));
         let four = |at: usize| (two(at) << 16) | two(at + 2);
         match cdb[0] {
@@ -30,6 +34,14 @@ impl Command {
             0x25 => Command::ReadCapacity,
             0x28 => Command::Read { from: Address(four(2)), sectors: two(7) },
             0x2A => Command::Write { to: Address(four(2)), sectors: two(7) },
+            READ_12 => match long_length(cdb, fault) {
+                Some(sectors) => Command::Read { from: Address(four(2)), sectors },
+                None => Command::Unlisted,
+            },
+            WRITE_12 => match long_length(cdb, fault) {
+                Some(sectors) => Command::Write { to: Address(four(2)), sectors },
+                None => Command::Unlisted,
+            },
             0x35 => Command::SynchronizeCache,
             0x53 => Command::Reserve { sectors: four(5) },
             0x5B => Command::Close { function: cdb[2] & 0b111, number: two(4) },
@@ -47,8 +59,22 @@ impl Command {
 
     /// L4: the data must be exactly what the command takes, and the reply buffer hold what it can
     /// send, whatever the drive will say.
-    pub fn check_transfer(self, data: usize, reply: usize) -> Result<(), Refusal> {
-        if data == self.data_wanted() && reply >= self.reply_room_wanted() {
+    pub fn check_transfer(
+        self,
+        data: usize,
+        reply: usize,
+        fault: Option<Fault>,
+    ) -> Result<(), Refusal> {
+        let data_wanted = match fault {
+            Some(Fault::DataLengthWraps) => self.data_wanted() as u32 as usize,
+            _ => self.data_wanted(),
+        };
+        let room_wanted = match fault {
+            Some(Fault::ReplyRoomWraps) => self.reply_room_wanted() as u32 as usize,
+            Some(Fault::ReadTwelveReplyCut) => 0,
+            _ => self.reply_room_wanted(),
+        };
+        if data == data_wanted && reply >= room_wanted {
             Ok(())
         } else {
             Err(Refusal::TransferLength)
@@ -75,5 +101,18 @@ impl Command {
             }
             _ => 0,
         }
+    }
+}
+
+/// The length of A8h and AAh, in bytes 6-9; none where a mistake makes such an opcode unlisted.
+fn long_length(cdb: &[u8; 12], fault: Option<Fault>) -> Option<u64> {
+    let short = |at: usize| u64::from(u16::from_be_bytes([cdb[at], cdb[at + 1]]));
+    let bytes = [cdb[6], cdb[7], cdb[8], cdb[9]];
+    match fault {
+        Some(Fault::ReadTwelveUnlisted | Fault::WriteTwelveUnlisted) => None,
+        Some(Fault::ReadTwelveLengthOfTen | Fault::WriteTwelveLengthOfTen) => Some(short(7)),
+        Some(Fault::TwelveLengthCut) => Some(short(8)),
+        Some(Fault::TwelveLengthReversed) => Some(u32::from_le_bytes(bytes).into()),
+        _ => Some(u32::from_be_bytes(bytes).into()),
     }
 }

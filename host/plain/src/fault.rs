@@ -1,5 +1,6 @@
 //! Deliberate mistakes, one at a time. Each is tested at one place of the drive.
 
+use crate::command::{READ_12, WRITE_12};
 use crate::Rule;
 
 /// The most fragments that a disc had before the limit was raised.
@@ -16,35 +17,35 @@ pub enum Fault {
     WriteInPart,
     /// A dividing block is readable.
     DividingBlockServed,
-    /// 28h refuses pending sectors.
+    /// READ refuses pending sectors.
     PendingRefused,
-    /// 28h refuses the last pending sector.
+    /// READ refuses the last pending sector.
     LastPendingRefused,
-    /// 28h refuses a run that begins on the medium and ends in the pending buffer.
+    /// READ refuses a run that begins on the medium and ends in the pending buffer.
     BorderRunRefused,
-    /// 28h serves the sector after the pending ones, from the pending buffer.
+    /// READ serves the sector after the pending ones, from the pending buffer.
     StaleSectorServed,
-    /// 28h serves the pending block to its end, from the pending buffer.
+    /// READ serves the pending block to its end, from the pending buffer.
     PendingBlockServed,
-    /// 28h takes a run that begins readable as far as it is.
+    /// READ takes a run that begins readable as far as it is.
     ReadInPart,
-    /// 28h looks at the first and the last sector of a run alone.
+    /// READ looks at the first and the last sector of a run alone.
     ReadTestsEndsAlone,
-    /// 28h looks for the pending sectors in the first fragment.
+    /// READ looks for the pending sectors in the first fragment.
     PendingInFirstFragment,
-    /// 28h looks for the pending sectors in the last fragment.
+    /// READ looks for the pending sectors in the last fragment.
     PendingInLastFragment,
-    /// 28h takes the pending share of a run from the front of the pending buffer.
+    /// READ takes the pending share of a run from the front of the pending buffer.
     PendingShareFromFront,
-    /// 28h takes pending sectors from the medium.
+    /// READ takes pending sectors from the medium.
     PendingServedFromMedium,
-    /// 28h takes the first sector of a run from the medium, also where it is pending.
+    /// READ takes the first sector of a run from the medium, also where it is pending.
     FirstSectorFromMedium,
-    /// 28h leaves the pending share out of the reply's count.
+    /// READ leaves the pending share out of the reply's count.
     PendingShareUncounted,
-    /// 28h of pending sectors flushes them.
+    /// READ of pending sectors flushes them.
     ReadFlushes,
-    /// 28h of pending sectors clears the pending bytes past the count.
+    /// READ of pending sectors clears the pending bytes past the count.
     ReadClearsStaleBytes,
     /// 25h reports the last recorded address.
     CapacityIgnoresPending,
@@ -62,7 +63,7 @@ pub enum Fault {
     PendingBytesKept,
     /// The reply buffer is zeroed past the reply.
     ReplyBufferTouched,
-    /// 28h: 8/00/00 comes before 5/21/00.
+    /// READ: 8/00/00 comes before 5/21/00.
     ReadRefusalsSwapped,
     /// 53h: 5/24/00 comes before 7/27/00.
     ReserveRefusalsSwapped,
@@ -148,6 +149,47 @@ pub enum Fault {
     FinalizeForgotten,
     /// A flush changes the last byte of the medium, wherever its own block is.
     StrayWrite,
+    /// A8h is not listed.
+    ReadTwelveUnlisted,
+    /// AAh is not listed.
+    WriteTwelveUnlisted,
+    /// A8h has its length where 28h has it, in bytes 7-8.
+    ReadTwelveLengthOfTen,
+    /// AAh has its length where 2Ah has it, in bytes 7-8.
+    WriteTwelveLengthOfTen,
+    /// A8h and AAh have lengths of 16 bits, in bytes 8-9.
+    TwelveLengthCut,
+    /// A8h and AAh have their lengths in little-endian order.
+    TwelveLengthReversed,
+    /// READ cuts the sum of address and length to 32 bits to see whether it passes the disc.
+    ReadEndWraps,
+    /// WRITE cuts the sum of address and length to 32 bits to see whether it passes the
+    /// fragment.
+    WriteEndWraps,
+    /// A WRITE whose sum passes 32 bits gets 5/63/00 before all else.
+    WriteOverflowTestedFirst,
+    /// L4 cuts the bytes of data to 32 bits.
+    DataLengthWraps,
+    /// L4 cuts the bytes of a READ's reply to 32 bits.
+    ReplyRoomWraps,
+    /// A8h: 8/00/00 comes before 5/21/00.
+    ReadTwelveRefusalsSwapped,
+    /// AAh does not give 7/27/00 on a finalized disc.
+    WriteTwelveTakesFinalized,
+    /// A8h of length 0 is judged by its address.
+    EmptyReadTwelveJudged,
+    /// AAh of length 0 is judged by its address.
+    EmptyWriteTwelveJudged,
+    /// AAh does not flush another fragment's sectors, which are lost.
+    WriteTwelveUnflushed,
+    /// A8h and AAh: L4 comes after the drive's refusals.
+    TwelveTransferTestedLate,
+    /// A8h sends as many sectors as the reply buffer holds.
+    ReadTwelveReplyCut,
+    /// AAh with bit 3 of byte 1 set, which forces unit access elsewhere, flushes.
+    ForcedWriteFlushes,
+    /// A8h with bit 7 of byte 10 set, which asks for streaming elsewhere, gets 5/24/00.
+    StreamingRefused,
 }
 
 impl Fault {
@@ -158,7 +200,7 @@ impl Fault {
     }
 
     /// The mistakes that commands on sound states can show.
-    pub const OF_COMMANDS: [Fault; 68] = [
+    pub const OF_COMMANDS: [Fault; 88] = [
         Fault::FlushOnRefusal,
         Fault::FlushFillsFragment,
         Fault::WriteInPart,
@@ -227,5 +269,46 @@ impl Fault {
         Fault::EmptySessionRefused,
         Fault::FinalizeForgotten,
         Fault::StrayWrite,
+        Fault::ReadTwelveUnlisted,
+        Fault::WriteTwelveUnlisted,
+        Fault::ReadTwelveLengthOfTen,
+        Fault::WriteTwelveLengthOfTen,
+        Fault::TwelveLengthCut,
+        Fault::TwelveLengthReversed,
+        Fault::ReadEndWraps,
+        Fault::WriteEndWraps,
+        Fault::WriteOverflowTestedFirst,
+        Fault::DataLengthWraps,
+        Fault::ReplyRoomWraps,
+        Fault::ReadTwelveRefusalsSwapped,
+        Fault::WriteTwelveTakesFinalized,
+        Fault::EmptyReadTwelveJudged,
+        Fault::EmptyWriteTwelveJudged,
+        Fault::WriteTwelveUnflushed,
+        Fault::TwelveTransferTestedLate,
+        Fault::ReadTwelveReplyCut,
+        Fault::ForcedWriteFlushes,
+        Fault::StreamingRefused,
     ];
+
+    /// Whether this command block meets the mistake: some are made in one form alone of the two that
+    /// READ and WRITE have, or where a bit is set.
+    pub(crate) fn is_met_by(self, cdb: &[u8; 12]) -> bool {
+        match self {
+            Fault::ReadTwelveUnlisted
+            | Fault::ReadTwelveLengthOfTen
+            | Fault::ReadTwelveRefusalsSwapped
+            | Fault::EmptyReadTwelveJudged
+            | Fault::ReadTwelveReplyCut => cdb[0] == READ_12,
+            Fault::WriteTwelveUnlisted
+            | Fault::WriteTwelveLengthOfTen
+            | Fault::WriteTwelveTakesFinalized
+            | Fault::EmptyWriteTwelveJudged
+            | Fault::WriteTwelveUnflushed => cdb[0] == WRITE_12,
+            Fault::TwelveTransferTestedLate => matches!(cdb[0], READ_12 | WRITE_12),
+            Fault::ForcedWriteFlushes => cdb[0] == WRITE_12 && cdb[1] & 0x08 != 0,
+            Fault::StreamingRefused => cdb[0] == READ_12 && cdb[10] & 0x80 != 0,
+            _ => true,
+        }
+    }
 }

@@ -2,7 +2,6 @@
 //! fragment's number, then six words for each record.
 
 use crate::answer::Accepted;
-use crate::command::Command;
 use crate::disc::{limit_with, Disc, Pending};
 use crate::sound::rules_broken_by;
 use crate::{Answer, Block, Fault, Fragment, Kind, Lent, Refusal, Sense, FRAGMENT_LIMIT};
@@ -46,7 +45,7 @@ fn command_on_image(
     lent.check_lengths(image.first().map(|&word| word.into()))?;
     let words: &mut [u32; IMAGE_WORDS] = image.try_into().map_err(|_| Refusal::UnsoundState)?;
     let mut disc = Disc::from_image(words, fault)?;
-    let result = disc.obey(Command::decode(&cdb), lent);
+    let result = disc.obey(&cdb, lent);
     if matches!(result, Ok(_) | Err(Refusal::Drive(_))) {
         disc.write_image(words);
     }

@@ -54,38 +54,55 @@ impl Disc {
         }
     }
 
-    /// 28h: length 0 is accepted wherever it points; 5/21/00 past the disc, then 8/00/00 where a
+    /// 28h and A8h: length 0 is accepted wherever it points; 5/21/00 past the disc, then 8/00/00 where a
     /// sector is neither recorded nor pending.
     fn judge_read(&self, from: Address, sectors: u64) -> Result<Step, Sense> {
-        if sectors == 0 {
+        if self.slips(Fault::StreamingRefused) {
+            return Err(Sense::INVALID_FIELD);
+        }
+        if sectors == 0 && !self.slips(Fault::EmptyReadTwelveJudged) {
             return Ok(Step::Nothing);
         }
-        let passes_end = from + sectors > self.end().first_sector();
-        if passes_end && !self.slips(Fault::ReadRefusalsSwapped) {
+        let end = match self.slips(Fault::ReadEndWraps) {
+            true => (from + sectors).cut(),
+            false => from + sectors,
+        };
+        let swapped =
+            self.slips(Fault::ReadRefusalsSwapped) || self.slips(Fault::ReadTwelveRefusalsSwapped);
+        if end > self.end().first_sector() && !swapped {
             return Err(Sense::ADDRESS_OUT_OF_RANGE);
         }
         self.readable_run(from, sectors).map(Step::Read).ok_or(Sense::BLANK_CHECK)
     }
 
-    /// 2Ah: length 0 is accepted wherever it points, also on a finalized disc; then 7/27/00;
-    /// 5/21/02 where no next writable address is met, as they stand before any flush; 5/63/00
-    /// past the fragment's end.
+    /// 2Ah and AAh: length 0 is accepted wherever it points, also on a finalized disc; then 7/27/00;
+    /// 5/21/02 where no next writable address is met, as they stand before any flush; 5/63/00 past
+    /// the fragment's end.
     fn judge_write(&self, to: Address, sectors: u64) -> Result<Step, Sense> {
-        if sectors == 0 {
+        if sectors == 0 && !self.slips(Fault::EmptyWriteTwelveJudged) {
             let flushes = self.slips(Fault::EmptyWriteFlushes);
             return Ok(if flushes { Step::Flush } else { Step::Nothing });
         }
-        if self.finalized {
+        let sum = to + sectors;
+        if self.slips(Fault::WriteOverflowTestedFirst) && sum != sum.cut() {
+            return Err(Sense::END_OF_USER_AREA);
+        }
+        if self.finalized && !self.slips(Fault::WriteTwelveTakesFinalized) {
             return Err(Sense::WRITE_PROTECTED);
         }
         let index = (0..self.fragments.len())
             .find(|&index| self.next_writable(index) == Some(to))
             .ok_or(Sense::INVALID_ADDRESS_FOR_WRITE)?;
-        let room = self.fragments[index].end().first_sector() - to;
-        if sectors > room && !self.slips(Fault::WriteInPart) {
+        let end = self.fragments[index].end().first_sector();
+        let passes_end = match self.fault {
+            Some(Fault::WriteInPart) => false,
+            Some(Fault::WriteEndWraps) => sum.cut() > end,
+            _ => sum > end,
+        };
+        if passes_end {
             return Err(Sense::END_OF_USER_AREA);
         }
-        let sectors = sectors.min(room);
+        let sectors = sectors.min(end - to);
         Ok(Step::Write { index, sectors })
     }
 

@@ -18,14 +18,25 @@ impl Disc {
     fn answer(&mut self, lent: &mut Lent) -> Result<Accepted, Refusal> {
         let cdb = lent.twelve_bytes()?;
         lent.check_lengths(Some(self.capacity))?;
-        self.obey(Command::decode(&cdb), lent)
+        self.obey(&cdb, lent)
     }
 
-    /// L4 and the drive, once command block, medium and pending buffer have the right lengths.
-    pub(crate) fn obey(&mut self, command: Command, lent: &mut Lent) -> Result<Accepted, Refusal> {
+    /// L4 and the drive, once command block, medium and pending buffer have the right lengths. A
+    /// mistake that this command block does not meet is switched off meanwhile.
+    pub(crate) fn obey(&mut self, cdb: &[u8; 12], lent: &mut Lent) -> Result<Accepted, Refusal> {
+        let fault = self.fault;
+        self.fault = fault.filter(|fault| fault.is_met_by(cdb));
+        let result = self.serve(Command::decode(cdb, self.fault), lent);
+        self.fault = fault;
+        result
+    }
+
+    fn serve(&mut self, command: Command, lent: &mut Lent) -> Result<Accepted, Refusal> {
         let judged = self.judge(command);
-        if !(self.slips(Fault::TransferTestedLate) && judged.is_err()) {
-            command.check_transfer(lent.data.len(), lent.reply.len())?;
+        let late =
+            self.slips(Fault::TransferTestedLate) || self.slips(Fault::TwelveTransferTestedLate);
+        if !(late && judged.is_err()) {
+            command.check_transfer(lent.data.len(), lent.reply.len(), self.fault)?;
         }
         match judged {
             Ok(step) => {
@@ -75,13 +86,16 @@ impl Disc {
     /// WRITE: sectors of another fragment are flushed first. Gives the blocks recorded.
     fn write(&mut self, index: usize, sectors: u64, lent: &mut Lent) -> u64 {
         let mut flushed = 0;
-        if self.pending.is_some_and(|pending| pending.index != index) {
+        let of_another = self.pending.is_some_and(|pending| pending.index != index);
+        if of_another && !self.slips(Fault::WriteTwelveUnflushed) {
             flushed = self.flush(lent);
         }
         if self.slips(Fault::FlushedBlockUncounted) {
             flushed = 0;
         }
-        flushed + self.gather(index, sectors, lent)
+        let gathered = self.gather(index, sectors, lent);
+        let forced = if self.slips(Fault::ForcedWriteFlushes) { self.flush(lent) } else { 0 };
+        flushed + gathered + forced
     }
 
     /// The pending sectors and the data form one run: its whole blocks go to the medium, the rest

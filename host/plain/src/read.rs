@@ -3,7 +3,7 @@
 
 use crate::disc::Disc;
 use crate::units::{sector_bytes, stretch};
-use crate::{Address, Fault, Lent, BLOCK_SECTORS};
+use crate::{Address, Fault, Lent, BLOCK_SECTORS, SECTOR_BYTES};
 
 /// A readable run: sectors of the medium, then sectors of the pending buffer; either may be none.
 #[derive(Clone, Copy, Debug)]
@@ -92,6 +92,10 @@ impl Disc {
 
     /// READ: the run goes to the reply, and nothing changes. Gives the bytes sent.
     pub(crate) fn read(&mut self, run: Run, lent: &mut Lent) -> usize {
+        let run = match self.slips(Fault::ReadTwelveReplyCut) {
+            true => run.cut((lent.reply.len() / SECTOR_BYTES) as u64),
+            false => run,
+        };
         let sent = run.slipping(self.fault).send(lent);
         let Some(held) = self.pending.filter(|_| run.pending > 0) else { return sent };
         match self.fault {
@@ -109,6 +113,12 @@ impl Disc {
 impl Run {
     fn crosses_border(&self) -> bool {
         self.recorded > 0 && self.pending > 0
+    }
+
+    /// At most so many of its sectors.
+    fn cut(self, most: u64) -> Run {
+        let recorded = self.recorded.min(most);
+        Run { recorded, pending: self.pending.min(most - recorded), ..self }
     }
 
     /// Copies both shares into the reply buffer, the medium's first.

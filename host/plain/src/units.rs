@@ -15,7 +15,7 @@ pub const BLOCK_BYTES: usize = 32_768;
 #[derive(Clone, Copy, Debug, PartialEq, Eq, PartialOrd, Ord)]
 pub struct Block(pub u64);
 
-/// The address of a sector.
+/// The address of a sector. One of a command has 32 bits, and so has a length: sums of 64 cannot wrap.
 #[derive(Clone, Copy, Debug, PartialEq, Eq, PartialOrd, Ord)]
 pub struct Address(pub u64);
 
@@ -35,6 +35,11 @@ impl Address {
     /// The sectors from here up to another address, none if that one comes first.
     pub fn sectors_to(self, end: Address) -> u64 {
         end.0.saturating_sub(self.0)
+    }
+
+    /// Its low 32 bits, as a mistake takes them.
+    pub(crate) fn cut(self) -> Address {
+        Address(u64::from(self.0 as u32))
     }
 }
 
@@ -70,7 +75,7 @@ impl Sub for Address {
     }
 }
 
-/// How many bytes so many sectors have.
+/// How many bytes so many sectors have. A length of 32 bits has bytes of 43.
 pub fn sector_bytes(sectors: u64) -> usize {
     sectors as usize * SECTOR_BYTES
 }

@@ -1,5 +1,6 @@
 //! What the replay programs print is what this drive says: their traces replayed here, line by line.
 
+use mapped::Mapped;
 use plain::{Lent, BLOCK_BYTES, BLOCK_SECTORS, IMAGE_WORDS, SECTOR_BYTES};
 use std::fmt::Write;
 use std::path::{Path, PathBuf};
@@ -18,6 +19,21 @@ fn read(path: &str) -> Vec<u8> {
 
 fn read_text(path: &str) -> String {
     String::from_utf8(read(path)).expect("a text")
+}
+
+/// The length of a READ or a WRITE; any number for other commands.
+fn sectors(cdb: &[u8]) -> usize {
+    let number =
+        |bytes: &[u8]| bytes.iter().fold(0, |number, &byte| number << 8 | usize::from(byte));
+    match cdb[0] {
+        0xA8 | 0xAA => number(&cdb[6..10]),
+        _ => number(&cdb[7..9]),
+    }
+}
+
+/// So many sectors; a trace may ask for more than there is memory.
+fn zeros(sectors: usize) -> Mapped {
+    Mapped::zeros(sectors * SECTOR_BYTES).expect("address space")
 }
 
 /// A drive over a medium of its own, as an image of words.
@@ -40,9 +56,9 @@ impl Drive {
 
     /// One command, with the data that it asks for and more room for the reply than any asks for.
     fn obey(&mut self, cdb: &[u8]) {
-        let sectors = usize::from(u16::from_be_bytes([cdb[7], cdb[8]]));
-        let data = vec![0x5A; if cdb[0] == 0x2A { sectors * SECTOR_BYTES } else { 0 }];
-        let mut reply = vec![0; sectors.max(1) * SECTOR_BYTES];
+        let sectors = sectors(cdb);
+        let data = zeros(if matches!(cdb[0], 0x2A | 0xAA) { sectors } else { 0 });
+        let mut reply = zeros(sectors.max(1));
         let (medium, pending) = (&mut self.medium, &mut self.pending);
         let lent = Lent { cdb, data: &data, medium, pending, reply: &mut reply };
         let answer = plain::command(&mut self.image, lent, None);

@@ -9,12 +9,14 @@ const ROUNDING: usize = 1_024;
 const MOST: usize = 20 * 1_024;
 
 /// Every command that can be accepted.
-const COMMANDS: [&str; 13] = [
+const COMMANDS: [&str; 15] = [
     "00h",
     "03h",
     "25h",
     "28h READ",
     "2Ah WRITE",
+    "A8h READ (12)",
+    "AAh WRITE (12)",
     "35h",
     "51h",
     "52h address",

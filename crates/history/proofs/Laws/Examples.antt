@@ -62,14 +62,14 @@ pub long-part-unnamed : nameable 0 (portion ten 65536 ∷ portion ten 1 ∷ []) 
 unfolding nameable longest
 long-part-unnamed = refl
 
--- no part has 0 sectors, and each begins where the last ended: no gap, no overlap
+-- a WRITE's address and length
 write-count : {a b : Lba} {n m : ℕ} → Write a n ≡ Write b m → n ≡ m
 write-count e = cc
 
 write-address : {a b : Lba} {n m : ℕ} → Write a n ≡ Write b m → a ≡ b
 write-address e = cc
 
--- the parts after the first begin further on
+-- a command block of bytes names an address within 32 bits, and the parts after the first begin further on
 address-of : (b : List ℕ) → IsBytes b → (a : Lba) (n : ℕ) → decode b ≡ Write a n → a .0 < addresses
 address-of b h a n e = elim (write-forms .only b h a n e) [ inl f ↦ f .address | inr f ↦ f .address ]
 
@@ -91,6 +91,7 @@ pub far-part-unnamed : nameable 0xFFFFFFFF (portion twelve 1 ∷ portion twelve 
 unfolding nameable longest
 far-part-unnamed = refl
 
+-- no part has 0 sectors, and each begins where the last ended: no gap, no overlap
 parts-empty : (a b : Lba) (n : ℕ) (x : List ℕ) (q : Request) (qs : List Request) → WriteOf q a 0 → Parts b n x (q ∷ qs) → ⊥
 parts-empty a b n x q qs w (part c k m u rest us h v p) = let e = write-count (sym (w .command) ∙ v .command) in omega (arith, e, h)
 

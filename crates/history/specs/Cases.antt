@@ -236,15 +236,21 @@ pub record FirstWrite (g : Given) (hs : List Given) (s e : Drive) : Type 0 where
   pub blocks : blocksOf (given hs e) e ≡ result (turn g s) s .recorded
   pub disc : final (given hs e) e .disc ≡ result (turn g s) s .after .disc
 
--- the longest WRITEs there are, at the last address: 2Ah of 65,535 sectors and AAh of 4,294,967,295; and what is none
+-- the longest WRITEs there are, at the last address: 2Ah of 65,535 sectors and AAh of 4,294,967,295
+abbrev pub longestTen : List ℕ
+longestTen = 0x2A ∷ 0 ∷ 0xFF ∷ 0xFF ∷ 0xFF ∷ 0xFF ∷ 0 ∷ 0xFF ∷ 0xFF ∷ 0 ∷ 0 ∷ 0 ∷ []
+
+abbrev pub longestTwelve : List ℕ
+longestTwelve = 0xAA ∷ 0 ∷ 0xFF ∷ 0xFF ∷ 0xFF ∷ 0xFF ∷ 0xFF ∷ 0xFF ∷ 0xFF ∷ 0xFF ∷ 0 ∷ 0 ∷ []
+
 pub record Limits : Type 0 where
-  pub byTen :
-      (x : List ℕ) → length x ≡ 134215680
-      → WriteOf (request (0x2A ∷ 0 ∷ 0xFF ∷ 0xFF ∷ 0xFF ∷ 0xFF ∷ 0 ∷ 0xFF ∷ 0xFF ∷ 0 ∷ 0 ∷ 0 ∷ []) x []) (lba 4294967295) 65535
-  pub byTwelve :
-      (x : List ℕ) → length x ≡ 8796093020160
-      → WriteOf (request (0xAA ∷ 0 ∷ 0xFF ∷ 0xFF ∷ 0xFF ∷ 0xFF ∷ 0xFF ∷ 0xFF ∷ 0xFF ∷ 0xFF ∷ 0 ∷ 0 ∷ []) x []) (lba 4294967295) 4294967295
-  pub noLonger : (b : List ℕ) → IsBytes b → byteAt b 0 ≡ 0x2A → (a : Lba) → decode b ≡ Write a 65536 → ⊥
+  pub byTen : (x : List ℕ) → length x ≡ 134215680 → WriteOf (request longestTen x []) (lba 4294967295) 65535
+  pub byTwelve : (x : List ℕ) → length x ≡ 8796093020160 → WriteOf (request longestTwelve x []) (lba 4294967295) 4294967295
+  pub ofBytes : IsBytes longestTen × IsBytes longestTwelve
+  pub opcodes : (a n : ℕ) → (byteAt (writeCdb ten a n) 0 ≡ 0x2A) × (byteAt (writeCdb twelve a n) 0 ≡ 0xAA)
+  -- and what is none: 2Ah of 65,536 sectors, either form of 4,294,967,296, and either form at 4,294,967,296
+  pub noLongerTen : (b : List ℕ) → IsBytes b → byteAt b 0 ≡ 0x2A → (a : Lba) → decode b ≡ Write a 65536 → ⊥
+  pub noLonger : (b : List ℕ) → IsBytes b → (a : Lba) → decode b ≡ Write a 4294967296 → ⊥
   pub noFurther : (b : List ℕ) → IsBytes b → (n : ℕ) → decode b ≡ Write (lba 4294967296) n → ⊥
 
 -- on the smallest disc and on the largest; and on every disc the first WRITE, of any length that fits, in parts of any forms and lengths

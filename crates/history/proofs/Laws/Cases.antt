@@ -863,9 +863,14 @@ limits demand =
     record {
       byTen = λ x h. demand .forms .each ten 4294967295 65535 (omega arith) (omega arith) x h;
       byTwelve = λ x h. demand .forms .each twelve 4294967295 4294967295 (omega arith) (omega arith) x h;
-      noLonger =
+      ofBytes = (demand .forms .bytes ten 4294967295 65535, demand .forms .bytes twelve 4294967295 4294967295);
+      opcodes = λ a n. (demand .forms .form ten a n, demand .forms .form twelve a n);
+      noLongerTen =
           λ b h o a e.
           elim (demand .forms .only b h a 65536 e) [ inl f ↦ (let n = f .count in omega arith) | inr f ↦ (let p = f .opcode in omega (arith, o, p)) ];
+      noLonger =
+          λ b h a e.
+          elim (demand .forms .only b h a 4294967296 e) [ inl f ↦ (let n = f .count in omega arith) | inr f ↦ (let n = f .count in omega arith) ];
       noFurther =
           λ b h n e.
           elim (demand .forms .only b h (lba 4294967296) n e) [ inl f ↦ (let a = f .address in omega arith) | inr f ↦ (let a = f .address in omega arith) ];

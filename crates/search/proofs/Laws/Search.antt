@@ -1,0 +1,210 @@
+-- Eight looks find the fragment that an address lies in, and what a search finds depends on the records that it looks at alone.
+use Prim.Native.Nat.{ℕ, zero, suc, _+_, _-_, _*_, _/_, _^_, _≤_, _<_}
+use mathlib.Core.Path.{_≡_, refl, sym, _∙_, ap}
+use mathlib.Core.Bool.{Bool, true, false, _||_}
+use mathlib.Core.List.{List, [], _∷_}
+use native.Mathlib.Nat.{one-le-pow}
+use native.Mathlib.Omega.{arith}
+use borrow.Author.Tests.{leb-true, le-leb, ltb-true, ltb-false, lt-ltb, eqb-true, eqb-false, eq-eqb, ne-eqb}
+use lib.Dec.{eqb, leb, ltb}
+use lib.ListN.{length, getD}
+use Rattle.search.specs.Types.{Lba, Fragment, Found, Number, Nowhere, Holder, Side, Left, Right, Here}
+use Rattle.search.specs.Search.{step, Search, ends, looks, finds, seen, nobody, middle, onward, halve, halving, held}
+use Rattle.fragments.specs.Address.{firstSector}
+use Rattle.fragments.specs.Fragment.{unusedRecord, unused, end, holds}
+use Rattle.fragments.specs.List.{limit, listed, find, holderOf, recordNumbered}
+use Rattle.fragments.proofs.Laws.Bool.{and-left, and-right, and-both, or-cases, or-false-left, or-false-right, by-cases, cond-yes, cond-no, cond-cases}
+use Rattle.fragments.proofs.Laws.Numbers.{order-cases}
+use Rattle.fragments.proofs.Laws.List.{listed-le, listed-at, listed-used, find-hit, find-none}
+
+-- a search makes no more looks than it is said to
+pub seen-few : (n : ℕ) (fs : List Fragment) (s : Search n) → length (seen fs s) ≤ n
+unfolding seen
+seen-few n fs (ends _ h) = omega arith
+seen-few (suc n) fs (looks _ i next) = omega (arith, seen-few n fs (next (getD fs i unusedRecord)))
+
+-- two lists with the same records there are the same to it
+pub seen-decides :
+    (n : ℕ) (fs gs : List Fragment) (s : Search n)
+    → ((k : ℕ) → k < length (seen fs s) → getD fs (getD (seen fs s) k 0) unusedRecord ≡ getD gs (getD (seen fs s) k 0) unusedRecord)
+    → finds fs s ≡ finds gs s
+unfolding seen finds
+seen-decides n fs gs (ends _ h) same = refl
+seen-decides (suc n) fs gs (looks _ i next) same =
+    let here : getD fs i unusedRecord ≡ getD gs i unusedRecord = same 0 (omega arith) in
+    rw (← here) (seen-decides n fs gs (next (getD fs i unusedRecord)) (λ k l. same (suc k) (omega arith)))
+
+-- along the list the records in use come first, and each ends before the next ones start
+pub record Rising (fs : List Fragment) : Type 0 where
+  pub first : (i : ℕ) → length (listed fs) ≤ i → getD fs i unusedRecord .length ≡ 0
+  pub apart : (i j : ℕ) → i < j → j < length (listed fs) → end (getD fs i unusedRecord) .0 ≤ getD fs j unusedRecord .start .0
+
+-- what a step tells, as bounds
+module _ (a : Lba) (f : Fragment) where
+  holds-from : holds a f ≡ true → firstSector (f .start) .0 ≤ a .0
+  holds-from t = leb-true _ _ (and-left (leb (firstSector (f .start) .0) (a .0)) (ltb (a .0) (firstSector (end f) .0)) t)
+
+  holds-below : holds a f ≡ true → a .0 < firstSector (end f) .0
+  holds-below t = ltb-true _ _ (and-right (leb (firstSector (f .start) .0) (a .0)) (ltb (a .0) (firstSector (end f) .0)) t)
+
+  step-cases :
+      (P : Side → Type 0)
+      → (f .length ≡ 0 → P Left) → (a .0 < firstSector (f .start) .0 → P Left)
+      → ((f .length ≡ 0 → ⊥) → firstSector (f .start) .0 ≤ a .0 → firstSector (end f) .0 ≤ a .0 → P Right)
+      → ((f .length ≡ 0 → ⊥) → holds a f ≡ true → P Here) → P (step a f)
+  step-cases P off above past here =
+      cond-cases P (unused f || ltb (a .0) (firstSector (f .start) .0)) _ _
+      (λ t.
+      or-cases (unused f) (ltb (a .0) (firstSector (f .start) .0))
+      (λ u. off (eqb-true (f .length) 0 u)) (λ u. above (ltb-true _ _ u)) t)
+      (λ t.
+      let on = eqb-false (f .length) 0 (or-false-left (unused f) (ltb (a .0) (firstSector (f .start) .0)) t) in
+      let from = ltb-false (a .0) (firstSector (f .start) .0) (or-false-right (unused f) (ltb (a .0) (firstSector (f .start) .0)) t) in
+      cond-cases P (ltb (a .0) (firstSector (end f) .0)) _ _
+      (λ u. here on (and-both (le-leb (firstSector (f .start) .0) (a .0) from) u))
+      (λ u. past on from (ltb-false _ _ u)))
+
+-- what the definition finds on such a list
+module _ (fs : List Fragment) (a : Lba) (r : Rising fs) where
+  abbrev at : ℕ → Fragment
+  at i = getD fs i unusedRecord
+
+  -- a record at an index holds the address
+  abbrev Holds : ℕ → Type 0
+  Holds i = (i < length (listed fs)) × (holds a (at i) ≡ true)
+
+  -- no two do
+  holds-once : (i j : ℕ) → Holds i → Holds j → i ≡ j
+  holds-once i j p q =
+      order-cases i j
+      (λ h. absurd (omega (arith, holds-below a (at i) (p .1), holds-from a (at j) (q .1), r .apart i j h (q .0))))
+      (λ h. h)
+      (λ h. absurd (omega (arith, holds-below a (at j) (q .1), holds-from a (at i) (p .1), r .apart j i h (p .0))))
+
+  -- a record in use is one of those listed
+  listed-index : (i : ℕ) → (at i .length ≡ 0 → ⊥) → i < length (listed fs)
+  listed-index i on =
+      by-cases (ltb i (length (listed fs))) (λ t. ltb-true _ _ t) (λ t. absurd (on (r .first i (ltb-false _ _ t))))
+
+  found-holds : (n : ℕ) → holderOf fs a ≡ Number n → (i : ℕ) × (n ≡ i + 1) × Holds i
+  found-holds n e =
+      let x = find-hit (λ k f. holds a f) 1 n (listed fs) e in
+      (x .index, omega (arith, x .number), (x .within, rw (listed-at fs (x .index) unusedRecord (x .within)) at (x .passes)))
+
+  held-is : (x : Found) → holderOf fs a ≡ x → (i : ℕ) → Holds i → held fs x ≡ record { number = i + 1; fragment = at i }
+  held-is (Number n) e i p =
+      let y = found-holds n e in
+      let same : n ≡ i + 1 = omega (arith, y .1, holds-once (y .0) i (y .2) p) in
+      let index : n - 1 ≡ i = omega (arith, same) in
+      rw (index, same)
+  held-is Nowhere e i p =
+      absurd (find-none (λ k f. holds a f) 1 (listed fs) e i (p .0) (rw (listed-at fs i unusedRecord (p .0)) (p .1)))
+
+  held-none : (x : Found) → holderOf fs a ≡ x → ((i : ℕ) → Holds i → ⊥) → held fs x ≡ nobody
+  held-none (Number n) e none = let y = found-holds n e in absurd (none (y .0) (y .2))
+  held-none Nowhere e none = refl
+
+  -- the records from low to before high are in question: no other one holds the address
+  abbrev Within : ℕ → ℕ → Type 0
+  Within low high = (i : ℕ) → Holds i → (low ≤ i) × (i < high)
+
+  -- a record that is not in use, or starts above the address, leaves those on its left
+  unused-left : (m : ℕ) → at m .length ≡ 0 → (i : ℕ) → Holds i → i < m
+  unused-left m off i p =
+      order-cases i m (λ h. h)
+      (λ h. absurd (listed-used fs i (p .0) (ap (λ j. at j .length) h ∙ off)))
+      (λ h. absurd (listed-used fs m (omega (arith, h, p .0)) off))
+
+  above-left : (m : ℕ) → a .0 < firstSector (at m .start) .0 → (i : ℕ) → Holds i → i < m
+  above-left m above i p =
+      let from = holds-from a (at i) (p .1) in
+      order-cases i m (λ h. h)
+      (λ h. absurd (let k = ap (λ j. at j .start .0) h in omega (arith, k, from, above)))
+      (λ h. absurd (omega (arith, from, above, r .apart m i h (p .0))))
+
+  -- one that ends before the address leaves those on its right
+  past-right :
+      (m : ℕ) → m < length (listed fs) → firstSector (at m .start) .0 ≤ a .0 → firstSector (end (at m)) .0 ≤ a .0
+      → (i : ℕ) → Holds i → m < i
+  past-right m l from past i p =
+      let below = holds-below a (at i) (p .1) in
+      order-cases i m
+      (λ h. absurd (omega (arith, below, from, r .apart i m h l)))
+      (λ h. absurd (let k = ap (λ j. end (at j) .0) h in omega (arith, k, below, past)))
+      (λ h. h)
+
+  none-within : (low high : ℕ) → high ≤ low → Within low high → nobody ≡ held fs (holderOf fs a)
+  none-within low high e w =
+      sym (held-none (holderOf fs a) refl (λ i p. let b = w i p in omega (arith, e, b .0, b .1)))
+
+  -- n looks suffice for fewer than 2^n records in question
+  halve-finds : (n low high : ℕ) → high < low + 2 ^ n → Within low high → finds fs (halve n a low high) ≡ held fs (holderOf fs a)
+  unfolding finds halve
+  halve-finds zero low high few w = none-within low high (omega (arith, few)) w
+  halve-finds (suc n) low high few w =
+      let m = middle low high in
+      let double : 2 ^ suc n ≡ 2 * 2 ^ n = omega arith in
+      let some : 1 ≤ 2 ^ n = one-le-pow n 2 (omega arith) in
+      let left : ((i : ℕ) → Holds i → i < m) → finds fs (halve n a low m) ≡ held fs (holderOf fs a) =
+      λ b. halve-finds n low m (omega (arith, few, double, some)) (λ i p. (w i p .0, b i p)) in
+      by-cases (eqb low high)
+      (λ e. rw e (none-within low high (omega (arith, eqb-true low high e)) w))
+      (λ e.
+      rw e
+      (step-cases a (at m)
+      (λ t.
+      finds fs (onward t (halve n a low m) (halve n a (m + 1) high) (ends n (record { number = m + 1; fragment = at m })))
+      ≡ held fs (holderOf fs a))
+      (λ off. left (unused-left m off))
+      (λ above. left (above-left m above))
+      (λ on from past.
+      halve-finds n (m + 1) high (omega (arith, few, double, some))
+      (λ i p. (omega (arith, past-right m (listed-index m on) from past i p), w i p .1)))
+      (λ on here. sym (held-is (holderOf fs a) refl m (listed-index m on, here)))))
+
+-- eight for the records of a disc
+pub halving-finds :
+    (fs : List Fragment) (a : Lba) → length fs ≡ limit → Rising fs → finds fs (halving a) ≡ held fs (holderOf fs a)
+halving-finds fs a array r =
+    halve-finds fs a r 8 0 limit (omega arith)
+    (λ i p. (omega arith, omega (arith, p .0, listed-le fs, array)))
+
+-- a search by halving from step to step: it is over, no record is in question, or a look at the middle one leaves a side or finds it
+module _ (fs : List Fragment) (a : Lba) (low high : ℕ) where
+  abbrev looked : Fragment
+  looked = getD fs (middle low high) unusedRecord
+
+  pub finds-over : finds fs (halve 0 a low high) ≡ nobody
+  unfolding finds halve
+  finds-over = refl
+
+  pub finds-none : (n : ℕ) → low ≡ high → finds fs (halve n a low high) ≡ nobody
+  unfolding finds halve
+  finds-none zero e = refl
+  finds-none (suc n) e = rw (eq-eqb low high e)
+
+  -- how it goes on, by what the step says
+  goes : ℕ → Side → Holder
+  goes n t =
+      finds fs (onward t (halve n a low (middle low high)) (halve n a (middle low high + 1) high) (ends n (record { number = middle low high + 1; fragment = looked })))
+
+  finds-next : (n : ℕ) → (low ≡ high → ⊥) → finds fs (halve (suc n) a low high) ≡ goes n (step a looked)
+  unfolding finds halve goes
+  finds-next n e = rw (ne-eqb low high e)
+
+  pub finds-left :
+      (n : ℕ) → (low ≡ high → ⊥) → step a looked ≡ Left → finds fs (halve (suc n) a low high) ≡ finds fs (halve n a low (middle low high))
+  unfolding goes
+  finds-left n e t = finds-next n e ∙ ap (goes n) t
+
+  pub finds-right :
+      (n : ℕ) → (low ≡ high → ⊥) → step a looked ≡ Right
+      → finds fs (halve (suc n) a low high) ≡ finds fs (halve n a (middle low high + 1) high)
+  unfolding goes
+  finds-right n e t = finds-next n e ∙ ap (goes n) t
+
+  pub finds-here :
+      (n : ℕ) → (low ≡ high → ⊥) → step a looked ≡ Here
+      → finds fs (halve (suc n) a low high) ≡ record { number = middle low high + 1; fragment = looked }
+  unfolding goes finds
+  finds-here n e t = finds-next n e ∙ ap (goes n) t

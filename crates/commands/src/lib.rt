@@ -5,10 +5,12 @@ mod change;
 mod close;
 mod entry;
 mod flush;
+mod holder;
 mod perform;
 mod read;
 mod reserve;
 mod session;
+mod track_information;
 mod write;
 
 pub use entry::decide;

@@ -3,6 +3,7 @@ use crate::close;
 use crate::flush;
 use crate::read;
 use crate::reserve;
+use crate::track_information;
 use crate::write;
 use decisions::Decision;
 use disc::Disc;
@@ -40,7 +41,7 @@ pub(crate) fn perform(disc: Disc, command: Command) -> Decision
             address_type,
             number,
             allocation,
-        } => { reporting::read_track_information(disc, address_type, number, allocation) }
+        } => { track_information::read_track_information(disc, address_type, number, allocation) }
         Command::Unlisted => Decision::refused(DriveRefusal::InvalidOperationCode),
     }
 }

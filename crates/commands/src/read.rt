@@ -1,4 +1,5 @@
 // READ (28h, A8h): the run must end within the disc, and every sector of it must be recorded or pending.
+use crate::holder;
 use decisions::Decision;
 use decisions::Effect;
 use decisions::Flush;
@@ -25,7 +26,7 @@ pub(crate) fn read(disc: Disc, address: Lba, sectors: u32) -> Decision
     if address.passes(sectors, Block(disc.capacity).first_sector()) {
         return Decision::refused(DriveRefusal::AddressOutOfRange);
     }
-    let reach = disc.reach_around(address);
+    let reach = holder::reach_around(disc, address);
     let readable_end = reach.readable;
     if address.passes(sectors, readable_end) {
         return Decision::refused(DriveRefusal::BlankCheck);

@@ -1,6 +1,7 @@
 // WRITE (2Ah, AAh): the decision, with its effect on the list and its plan for the data.
 use crate::change;
 use crate::flush;
+use crate::holder;
 use decisions::Decision;
 use decisions::Effect;
 use decisions::Entry;
@@ -87,7 +88,7 @@ pub(crate) fn write(disc: Disc, address: Lba, sectors: u32) -> Decision
     if disc.finalized {
         return Decision::refused(DriveRefusal::WriteProtected);
     }
-    let found = disc.writable_at(address);
+    let found = holder::writable_at(disc, address);
     match found {
         Found::Number(number) => write_to(disc, address, sectors, number),
         Found::Nowhere => Decision::refused(DriveRefusal::InvalidAddressForWrite),

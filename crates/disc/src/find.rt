@@ -1,15 +1,12 @@
-// What can be asked of the list: how many fragments there are, one by number, by address or by next writable address, what is pending or
-// blank.
+// What can be asked of the list, whatever it is: how many fragments there are, one by number, what is pending or blank.
 use crate::state::Disc;
 use crate::state::TailNext;
-use fragments::Found;
 use fragments::Fragment;
 use fragments::Last;
 use fragments::Lba;
-use fragments::Reach;
 ghost use mathlib.Core.Path.{_≡_};
 ghost use Rattle.fragments.specs.List.{lastOf, firstOfSession};
-ghost use Rattle.disc.specs.Records.{used, isListed, numbered, pendingIn, isBlank, nextWritable, tailNext, atAddress, reachAround, lastReadable, writableAt, records, isBlankTail, isOnlyTail};
+ghost use Rattle.disc.specs.Records.{used, isListed, numbered, pendingIn, isBlank, nextWritable, tailNext, lastReadable, records, isBlankTail, isOnlyTail};
 
 impl Disc {
     // How many records are in use, which is the last one's number.
@@ -75,36 +72,12 @@ impl Disc {
         f.next_writable(self.pending_in(number))
     }
 
-    // The fragment that an address lies in.
-    pub fn at_address(self, address: Lba) -> Found
-        ensures { λ r. ⌜ r ≡ atAddress self address ⌝ }
-    {
-        let records = self.fragments;
-        fragments::at_address(records, address)
-    }
-
-    // Where the recorded sectors of the fragment that an address lies in end, and where its readable ones do; both 0 where there is none.
-    pub fn reach_around(self, address: Lba) -> Reach
-        ensures { λ r. ⌜ r ≡ reachAround self address ⌝ }
-    {
-        let records = self.fragments;
-        fragments::reach_at(records, self.pending, self.owner, address)
-    }
-
     // The highest readable address, or 0.
     pub fn last_readable(self) -> Lba
         ensures { λ r. ⌜ r ≡ lastReadable self ⌝ }
     {
         let records = self.fragments;
         fragments::highest_readable(records, self.pending, self.owner)
-    }
-
-    // The incomplete fragment whose next writable address it is.
-    pub fn writable_at(self, address: Lba) -> Found
-        ensures { λ r. ⌜ r ≡ writableAt self address ⌝ }
-    {
-        let records = self.fragments;
-        fragments::writable_at(records, self.pending, self.owner, address)
     }
 
     // The number of a session's first record; one more than the last record's where it has none.

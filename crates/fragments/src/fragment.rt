@@ -5,7 +5,7 @@ use crate::address::WideBlock;
 ghost use mathlib.Core.Path.{_≡_};
 ghost use mathlib.Core.Bool.{_&&_};
 ghost use Rattle.fragments.specs.Address.{wide, firstSector};
-ghost use Rattle.fragments.specs.Fragment.{unusedRecord, reservedAt, shortenedRecord, end, firstUnrecorded, complete, isReserved, isTail, isIncompleteReserved, nextFragmentStart, nextSessionStart, nextAfter, takes, holds, lastRecorded, lastReadableOf};
+ghost use Rattle.fragments.specs.Fragment.{unusedRecord, reservedAt, shortenedRecord, end, firstUnrecorded, complete, isReserved, isTail, isIncompleteReserved, nextFragmentStart, nextSessionStart, nextAfter, takes, lastRecorded, lastReadableOf};
 
 // Blocks between two fragments: the dividing block in a session, Closure and Intro between sessions.
 const DIVIDING: u64 = 1;
@@ -122,7 +122,7 @@ impl Fragment {
     }
 
     // The address of the first sector that is not recorded.
-    pub(crate) fn recorded_end(self) -> Lba
+    pub fn recorded_end(self) -> Lba
         ensures { λ r. ⌜ r ≡ firstSector (firstUnrecorded self) ⌝ }
     {
         self.start.sector_after(self.recorded)
@@ -148,13 +148,6 @@ impl Fragment {
         kind.is_reserved() & !self.is_complete()
     }
 
-    // Whether a sector lies in the fragment.
-    pub(crate) fn holds(self, address: Lba) -> bool
-        ensures { λ r. ⌜ r ≡ holds address self ⌝ }
-    {
-        (self.start.first_sector().0 <= address.0) & (address.0 < self.end_address().0)
-    }
-
     // The next writable address, after the recorded blocks and the sectors pending in the fragment.
     pub fn next_writable(self, pending: u8) -> Lba
         ensures { λ r. ⌜ r ≡ nextAfter pending self ⌝ }
@@ -163,7 +156,7 @@ impl Fragment {
     }
 
     // Whether the fragment is incomplete and the address its next writable one.
-    pub(crate) fn takes(self, address: Lba, pending: u8) -> bool
+    pub fn takes(self, address: Lba, pending: u8) -> bool
         ensures { λ r. ⌜ r ≡ takes address pending self ⌝ }
     {
         !self.is_complete() & (address.0 == self.next_writable(pending).0)

@@ -1,4 +1,4 @@
-// Walks along the records of a disc: how many are in use, the last one, and which of them an address, a session or a test names.
+// Walks along the records of a disc: how many are in use, the last one, one by its number, and which of them a session or a test names.
 use crate::address::Lba;
 use crate::fragment::Fragment;
 ghost use mathlib.Core.Path.{_≡_};
@@ -6,7 +6,7 @@ ghost use Prim.Native.Nat.{_-_};
 ghost use lib.ListN.{length};
 ghost use Rattle.fragments.specs.Address.{later};
 ghost use Rattle.fragments.specs.Fragment.{isIncompleteReserved};
-ghost use Rattle.fragments.specs.List.{listed, recordNumbered, lastOf, pendingOf, holderOf, takerOf, firstOfSession, noReach, reachAt, highestReadable, some};
+ghost use Rattle.fragments.specs.List.{listed, recordNumbered, lastOf, pendingOf, firstOfSession, highestReadable, some};
 
 // How many records a disc has.
 pub const LIMIT: usize = 160;
@@ -29,18 +29,6 @@ pub struct Reach {
     pub recorded: Lba,
     // The address after the last readable one.
     pub readable: Lba,
-}
-
-impl Reach {
-    // No sector is readable.
-    fn none() -> Reach
-        ensures { λ r. ⌜ r ≡ noReach ⌝ }
-    {
-        Reach {
-            recorded: Lba(0),
-            readable: Lba(0),
-        }
-    }
 }
 
 // How many records are in use, which is the last one's number.
@@ -89,24 +77,6 @@ pub fn last_record(fragments: [Fragment; LIMIT]) -> Last
     Last { number, fragment }
 }
 
-// The fragment that an address lies in.
-pub fn at_address(fragments: [Fragment; LIMIT], address: Lba) -> Found
-    ensures { λ r. ⌜ r ≡ holderOf fragments address ⌝ }
-{
-    let mut i: usize = 0;
-    while i < LIMIT {
-        let f = fragments[i];
-        if f.length == 0 {
-            return Found::Nowhere;
-        }
-        if f.holds(address) {
-            return Found::Number(i + 1);
-        }
-        i += 1;
-    }
-    Found::Nowhere
-}
-
 // The pending sectors of the fragment with a number, of all those pending and the number of the fragment that has them.
 pub fn pending_of(pending: u8, owner: u8, number: usize) -> u8
     ensures { λ r. ⌜ r ≡ pendingOf pending owner number ⌝ }
@@ -115,45 +85,6 @@ pub fn pending_of(pending: u8, owner: u8, number: usize) -> u8
         return pending;
     }
     0
-}
-
-// Where the recorded sectors of the fragment that an address lies in end, and where its readable ones do, with so many sectors pending in the
-// fragment with the number `owner`; both 0 where there is none.
-pub fn reach_at(fragments: [Fragment; LIMIT], pending: u8, owner: u8, address: Lba) -> Reach
-    ensures { λ r. ⌜ r ≡ reachAt fragments pending owner address ⌝ }
-{
-    let mut i: usize = 0;
-    while i < LIMIT {
-        let f = fragments[i];
-        if f.length == 0 {
-            return Reach::none();
-        }
-        if f.holds(address) {
-            let recorded = f.recorded_end();
-            let readable = f.next_writable(pending_of(pending, owner, i + 1));
-            return Reach { recorded, readable };
-        }
-        i += 1;
-    }
-    Reach::none()
-}
-
-// The incomplete fragment whose next writable address it is, with so many sectors pending in the fragment with the number `owner`.
-pub fn writable_at(fragments: [Fragment; LIMIT], pending: u8, owner: u8, address: Lba) -> Found
-    ensures { λ r. ⌜ r ≡ takerOf fragments pending owner address ⌝ }
-{
-    let mut i: usize = 0;
-    while i < LIMIT {
-        let f = fragments[i];
-        if f.length == 0 {
-            return Found::Nowhere;
-        }
-        if f.takes(address, pending_of(pending, owner, i + 1)) {
-            return Found::Number(i + 1);
-        }
-        i += 1;
-    }
-    Found::Nowhere
 }
 
 // The number of a session's first record; one more than the last record's where it has none.

@@ -9,4 +9,5 @@ mod track_information;
 pub use capacity::read_capacity;
 pub use disc_information::read_disc_information;
 pub use sense::request_sense;
-pub use track_information::read_track_information;
+pub use track_information::track_found;
+pub use track_information::track_numbered;

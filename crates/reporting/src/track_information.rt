@@ -7,9 +7,8 @@ use protocol::DriveRefusal;
 use protocol::Reply;
 use protocol::TrackReport;
 ghost use mathlib.Core.Path.{_≡_};
-ghost use Rattle.disc.specs.Records.{atAddress};
 ghost use Rattle.disc.specs.Apply.{decided};
-ghost use Rattle.reporting.specs.Reports.{nextWritableOrZero, freeSectors, trackReport, trackVerdict, trackFound, trackNumbered, readTrackInformation};
+ghost use Rattle.reporting.specs.Reports.{nextWritableOrZero, freeSectors, trackReport, trackVerdict, trackFound, trackNumbered};
 
 // The number that stands for the tail.
 const TAIL: usize = 0xFF;
@@ -71,11 +70,10 @@ fn track_decision(disc: Disc, number: usize, allocation: u16) -> Decision
     Decision::unchanged(reply)
 }
 
-// The fragment that an address lies in.
-fn track_at(disc: Disc, address: Lba, allocation: u16) -> Decision
-    ensures { λ r. ⌜ decided disc r ≡ trackFound disc allocation (atAddress disc address) ⌝ }
+// The report of the fragment that a search has found.
+pub fn track_found(disc: Disc, found: Found, allocation: u16) -> Decision
+    ensures { λ r. ⌜ decided disc r ≡ trackFound disc allocation found ⌝ }
 {
-    let found = disc.at_address(address);
     match found {
         Found::Number(number) => track_decision(disc, number, allocation),
         Found::Nowhere => Decision::refused(DriveRefusal::AddressOutOfRange),
@@ -83,7 +81,7 @@ fn track_at(disc: Disc, address: Lba, allocation: u16) -> Decision
 }
 
 // The fragment with a number; FFh stands for the tail.
-fn track_numbered(disc: Disc, number: usize, allocation: u16) -> Decision
+pub fn track_numbered(disc: Disc, number: usize, allocation: u16) -> Decision
     ensures { λ r. ⌜ decided disc r ≡ trackNumbered disc allocation number ⌝ }
 {
     if number == TAIL {
@@ -95,24 +93,6 @@ fn track_numbered(disc: Disc, number: usize, allocation: u16) -> Decision
     }
     if disc.is_listed(number) {
         return track_decision(disc, number, allocation);
-    }
-    Decision::refused(DriveRefusal::InvalidFieldInCommand)
-}
-
-// READ TRACK INFORMATION (52h) by its address type: 0 for an address, 1 for a number.
-pub fn read_track_information(
-    disc: Disc,
-    address_type: u8,
-    number: u32,
-    allocation: u16,
-) -> Decision
-    ensures { λ r. ⌜ decided disc r ≡ readTrackInformation disc «address_type» number allocation ⌝ }
-{
-    if address_type == 0 {
-        return track_at(disc, Lba(number as u64), allocation);
-    }
-    if address_type == 1 {
-        return track_numbered(disc, number as usize, allocation);
     }
     Decision::refused(DriveRefusal::InvalidFieldInCommand)
 }

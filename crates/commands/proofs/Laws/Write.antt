@@ -1,9 +1,10 @@
 -- What a WRITE computes with and what it records.
-use Prim.Native.Nat.{ℕ, _+_, _-_, _/_, _^_, _≤_, _<_}
+use Prim.Native.Nat.{ℕ, zero, suc, _+_, _-_, _/_, _^_, _≤_, _<_}
 use mathlib.Core.Path.{_≡_, sym, _∙_, ap}
 use mathlib.Core.Bool.{Bool, true, not, _&&_}
+use mathlib.Core.List.{List, [], _∷_}
 use native.Mathlib.Omega.{arith}
-use borrow.Author.Tests.{ne-eqb, eqb-true, eqb-false, not-true}
+use borrow.Author.Tests.{eq-eqb, ne-eqb, eqb-true, eqb-false, not-true}
 use lib.Dec.{eqb}
 use lib.ListN.{length, getD}
 use lib.Seq.{getD-set-other}
@@ -11,15 +12,15 @@ use Rattle.commands.specs.Types.{Lba, Fragment, Disc, Number}
 use Rattle.fragments.specs.Fragment.{unusedRecord, end, complete}
 use Rattle.disc.specs.Records.{pendingIn, nextWritable, used, records, numbered, writableAt}
 use Rattle.fragments.specs.Address.{firstSector}
-use Rattle.fragments.specs.List.{limit, sumRecorded}
+use Rattle.fragments.specs.List.{limit, sumRecorded, find}
 use Rattle.disc.specs.Ready.{Ready}
 use Rattle.disc.specs.Verdict.{rise}
 use Rattle.commands.specs.Flush.{flush, flushCount}
 use Rattle.commands.specs.Write.{flushOthers, flushOthersCount, grownRecord, gather, Gathering, Writable}
-use Rattle.fragments.proofs.Laws.Bool.{and-left, and-right, by-cases}
+use Rattle.fragments.proofs.Laws.Bool.{and-left, and-right, and-both, by-cases, cond-yes, cond-no}
 use Rattle.fragments.proofs.Laws.List.{listed-at, sum-set, find-hit}
 use Rattle.disc.proofs.Laws.Rules.{sound-rules}
-use Rattle.disc.proofs.Laws.Sound.{incomplete-room, pending-in-few}
+use Rattle.disc.proofs.Laws.Sound.{incomplete-room, pending-in-few, writable-once}
 use Rattle.commands.proofs.Laws.Flush.{used-limit, owner, numbers, flush-sum, flush-length, flush-sound, flush-used, flush-pending}
 use Rattle.disc.specs.Rules.{Sound}
 use mathlib.Core.Logic.{_⊎_, inl, inr}
@@ -39,6 +40,41 @@ writable-found d a n e =
       incomplete = not-true _ (and-left (not (complete (numbered d n))) _ t);
       here = eqb-true _ _ (and-right (not (complete (numbered d n))) _ t);
     }
+
+-- a search finds something where a record passes
+found-number : (p : ℕ → Fragment → Bool) (k i : ℕ) (rs : List Fragment) → i < length rs → p (k + i) (getD rs i unusedRecord) ≡ true → (m : ℕ) × (find p k rs ≡ Number m)
+unfolding find
+found-number p k i [] h t = absurd (omega arith)
+found-number p k zero (f ∷ fs) h t = let same : k + 0 ≡ k = omega arith in (k, cond-yes (p k f) _ _ (rw same at t))
+found-number p k (suc i) (f ∷ fs) h t =
+    by-cases (p k f)
+    (λ q. (k, cond-yes (p k f) _ _ q))
+    (λ q.
+    let same : k + suc i ≡ k + 1 + i = omega arith in
+    let r = found-number p (k + 1) i fs (omega arith) (rw same at t) in
+    (r .0, cond-no (p k f) _ _ q ∙ r .1))
+
+-- the search finds that very fragment, since no two have the same next writable address
+pub takes-found : (d : Disc) (a : Lba) (number : ℕ) → Ready d → Writable d a number → writableAt d a ≡ Number number
+takes-found d a number r w =
+    let s = sound-rules d (r .sound) in
+    let p : ℕ → Fragment → Bool = λ k f. not (complete f) && eqb (a .0) (nextWritable d k f .0) in
+    let i = number - 1 in
+    let l : i < used d = omega (arith, w .from, w .listed) in
+    let index : 1 + i ≡ number = omega (arith, w .from) in
+    let same : getD (records d) i unusedRecord ≡ numbered d number = listed-at (d .fragments) i unusedRecord l in
+    let t : p (1 + i) (getD (records d) i unusedRecord) ≡ true =
+    rw (index, same) (and-both {a = not (complete (numbered d number))} (ap not (w .incomplete)) (eq-eqb _ _ (w .here))) in
+    let m = found-number p 1 i (records d) l t in
+    let v = writable-found d a (m .0) (m .1) in
+    let j = m .0 - 1 in
+    let suc-i : suc i ≡ number = omega (arith, w .from) in
+    let suc-j : suc j ≡ m .0 = omega (arith, v .from) in
+    let once =
+    writable-once d s i j l (omega (arith, v .from, v .listed)) (w .incomplete) (v .incomplete)
+    (ap (λ k. nextWritable d k (numbered d number) .0) suc-i ∙ (sym (w .here) ∙ (v .here ∙ ap (λ k. nextWritable d k (numbered d (m .0)) .0) (sym suc-j)))) in
+    let equal : m .0 ≡ number = omega (arith, w .from, v .from) in
+    m .1 ∙ ap Number equal
 
 -- flushing other fragments leaves a fragment and its pending sectors alone
 module _ (d : Disc) (n : ℕ) (r : Ready d) (from : 1 ≤ n) where

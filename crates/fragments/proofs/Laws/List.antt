@@ -12,7 +12,7 @@ use lib.Seq.{drop-cons}
 use Rattle.fragments.specs.Types.{Fragment, Number, Nowhere}
 use Rattle.fragments.specs.Address.{lba, later}
 use Rattle.fragments.specs.Fragment.{unusedRecord, lastReadableOf}
-use Rattle.fragments.specs.List.{limit, listed, every, some, find, sumRecorded, recordNumbered, pendingOf, highestReadable, firstOfSession}
+use Rattle.fragments.specs.List.{limit, listed, every, some, find, sumRecorded, pendingOf, highestReadable, firstOfSession}
 use Rattle.fragments.proofs.Laws.Bool.{and-left, and-right, and-both, or-left, or-right, or-cases, contradiction, by-cases}
 
 -- a record's number stays below AAh, which is the lead-out's in a table of contents, and so below FFh, which 52h takes for the tail
@@ -120,22 +120,6 @@ module _ (fs : List Fragment) (i : ℕ) (d : Fragment) (h : i < length fs) where
   pub listed-drop-on : (getD fs i d .length ≡ 0 → ⊥) → listed (drop i fs) ≡ getD fs i d ∷ listed (drop (i + 1) fs)
   listed-drop-on e = rw (add-one, drop-cons fs i d h) (listed-on (getD fs i d) (drop (suc i) fs) e)
 
-  pub find-off : (p : ℕ → Fragment → Bool) → getD fs i d .length ≡ 0 → find p (i + 1) (listed (drop i fs)) ≡ Nowhere
-  unfolding find
-  find-off p e = rw (listed-drop-off e)
-
-  pub find-here :
-      (p : ℕ → Fragment → Bool) → (getD fs i d .length ≡ 0 → ⊥) → p (i + 1) (getD fs i d) ≡ true
-      → find p (i + 1) (listed (drop i fs)) ≡ Number (i + 1)
-  unfolding find
-  find-here p e t = rw (listed-drop-on e) (rw t)
-
-  pub find-on :
-      (p : ℕ → Fragment → Bool) → (getD fs i d .length ≡ 0 → ⊥) → p (i + 1) (getD fs i d) ≡ false
-      → find p (i + 1) (listed (drop i fs)) ≡ find p (i + 1 + 1) (listed (drop (i + 1) fs))
-  unfolding find
-  find-on p e t = rw (listed-drop-on e) (rw t)
-
   pub session-off : (s n : ℕ) → getD fs i d .length ≡ 0 → firstOfSession s n (listed (drop i fs)) ≡ n
   unfolding firstOfSession
   session-off s n e = rw (listed-drop-off e)
@@ -165,10 +149,6 @@ module _ (fs : List Fragment) (i : ℕ) (d : Fragment) (h : i < length fs) where
 pub listed-drop-end : (fs : List Fragment) (i : ℕ) → length fs ≤ i → listed (drop i fs) ≡ []
 unfolding listed
 listed-drop-end fs i h = rw (drop-of-length-le fs h)
-
-pub find-end : (p : ℕ → Fragment → Bool) (fs : List Fragment) (i n : ℕ) → length fs ≤ i → find p n (listed (drop i fs)) ≡ Nowhere
-unfolding find
-find-end p fs i n h = rw (listed-drop-end fs i h)
 
 -- the sum of the recorded blocks with one record changed
 pub sum-set :
@@ -224,17 +204,6 @@ session-end fs i s n h = rw (listed-drop-end fs i h)
 pub highest-end : (fs : List Fragment) (i p o n : ℕ) → length fs ≤ i → highestReadable p o n (listed (drop i fs)) ≡ lba 0
 unfolding highestReadable
 highest-end fs i p o n h = rw (listed-drop-end fs i h)
-
--- the record that a search has come to, by its number
-same-at : (fs : List Fragment) (i : ℕ) (d e : Fragment) → i < length fs → getD fs i d ≡ getD fs i e
-same-at [] i d e h = absurd (omega arith)
-same-at (f ∷ fs) zero d e h = refl
-same-at (f ∷ fs) (suc i) d e h = same-at fs i d e (omega arith)
-
-pub here-numbered : (fs : List Fragment) (i : ℕ) (d : Fragment) → i < length fs → recordNumbered fs (i + 1) ≡ getD fs i d
-here-numbered fs i d h =
-    let k : i + 1 - 1 ≡ i = omega arith in
-    ap (λ (j : ℕ). getD fs j unusedRecord) k ∙ same-at fs i unusedRecord d h
 
 -- a test that some record in use passes, one step along the list
 module _ (p : Fragment → Bool) (fs : List Fragment) (i : ℕ) (d : Fragment) (h : i < length fs) where

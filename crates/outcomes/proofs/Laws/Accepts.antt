@@ -1,18 +1,15 @@
 -- For the reader: when a WRITE and when a READ is accepted. When CLOSE 001 opens a new tail is said by `new-tail` of Keep; what 010 and 110 keep and
 -- drop by `kept-blank`, `kept-tail` and `kept-same` of Session of `commands`, and what they make of it by `session-done` and `finalize-done`.
-use Prim.Native.Nat.{ℕ, zero, suc, _+_, _-_, _≤_, _<_, _/_}
+use Prim.Native.Nat.{ℕ, _+_, _-_, _≤_, _<_, _/_}
 use mathlib.Core.Path.{_≡_, refl, sym, _∙_, ap}
-use mathlib.Core.Bool.{Bool, true, not, _&&_}
-use mathlib.Core.List.{List, [], _∷_}
+use mathlib.Core.Bool.{true}
 use native.Mathlib.Omega.{arith}
-use borrow.Author.Tests.{eq-eqb, ne-eqb, le-ltb, ltb-false}
+use borrow.Author.Tests.{ne-eqb, le-ltb, ltb-false}
 use lib.Dec.{eqb, ltb}
-use lib.ListN.{length, getD}
-use Rattle.outcomes.specs.Types.{Lba, Fragment, Disc, Found, Number, Nowhere, Verdict, Accepted, Drive, WriteProtected, EndOfUserArea, AddressOutOfRange, BlankCheck, Skip}
+use Rattle.outcomes.specs.Types.{Lba, Disc, Found, Number, Nowhere, Verdict, Accepted, Drive, WriteProtected, EndOfUserArea, AddressOutOfRange, BlankCheck, Skip}
 use Rattle.fragments.specs.Address.{firstSector, lba, sectorsIn}
-use Rattle.fragments.specs.Fragment.{unusedRecord, end, complete}
-use Rattle.disc.specs.Records.{nextWritable, pendingIn, records, used, numbered, writableAt, isReadable}
-use Rattle.fragments.specs.List.{find}
+use Rattle.fragments.specs.Fragment.{end}
+use Rattle.disc.specs.Records.{pendingIn, records, numbered, writableAt, isReadable}
 use Rattle.disc.specs.Rules.{at}
 use Rattle.disc.specs.Ready.{Ready}
 use Rattle.decisions.specs.Plan.{plan}
@@ -20,11 +17,9 @@ use Rattle.disc.specs.Verdict.{accepted, accept, refuse}
 use Rattle.protocol.specs.Reply.{noReply}
 use Rattle.commands.specs.Read.{allReadable, sending, read}
 use Rattle.commands.specs.Write.{flushOthersCount, Writable, writeTo, writeFound, write}
-use Rattle.fragments.proofs.Laws.Bool.{and-both, by-cases, cond-yes, cond-no, cond-cases, contradiction}
-use Rattle.fragments.proofs.Laws.List.{listed-at}
+use Rattle.fragments.proofs.Laws.Bool.{by-cases, cond-yes, cond-no, cond-cases, contradiction}
 use Rattle.disc.proofs.Laws.Rules.{sound-rules}
-use Rattle.disc.proofs.Laws.Sound.{writable-once}
-use Rattle.commands.proofs.Laws.Write.{writable-found, place, write-count, flush-count-most}
+use Rattle.commands.proofs.Laws.Write.{writable-found, takes-found, place, write-count, flush-count-most}
 use Rattle.commands.proofs.Laws.Flush.{rise-same}
 use Rattle.commands.proofs.Laws.Read.{all-readable-at, at-all-readable, read-sent}
 
@@ -33,41 +28,6 @@ pub record Takes (d : Disc) (a : Lba) (n : ℕ) : Type 0 where
   pub number : ℕ
   pub here : Writable d a number
   pub fits : a .0 + n ≤ firstSector (end (numbered d number)) .0
-
--- a search finds something where a record passes
-found-number : (p : ℕ → Fragment → Bool) (k i : ℕ) (rs : List Fragment) → i < length rs → p (k + i) (getD rs i unusedRecord) ≡ true → (m : ℕ) × (find p k rs ≡ Number m)
-unfolding find
-found-number p k i [] h t = absurd (omega arith)
-found-number p k zero (f ∷ fs) h t = let same : k + 0 ≡ k = omega arith in (k, cond-yes (p k f) _ _ (rw same at t))
-found-number p k (suc i) (f ∷ fs) h t =
-    by-cases (p k f)
-    (λ q. (k, cond-yes (p k f) _ _ q))
-    (λ q.
-    let same : k + suc i ≡ k + 1 + i = omega arith in
-    let r = found-number p (k + 1) i fs (omega arith) (rw same at t) in
-    (r .0, cond-no (p k f) _ _ q ∙ r .1))
-
--- the search finds that very fragment, since no two have the same next writable address
-pub takes-found : (d : Disc) (a : Lba) (number : ℕ) → Ready d → Writable d a number → writableAt d a ≡ Number number
-takes-found d a number r w =
-    let s = sound-rules d (r .sound) in
-    let p : ℕ → Fragment → Bool = λ k f. not (complete f) && eqb (a .0) (nextWritable d k f .0) in
-    let i = number - 1 in
-    let l : i < used d = omega (arith, w .from, w .listed) in
-    let index : 1 + i ≡ number = omega (arith, w .from) in
-    let same : getD (records d) i unusedRecord ≡ numbered d number = listed-at (d .fragments) i unusedRecord l in
-    let t : p (1 + i) (getD (records d) i unusedRecord) ≡ true =
-    rw (index, same) (and-both {a = not (complete (numbered d number))} (ap not (w .incomplete)) (eq-eqb _ _ (w .here))) in
-    let m = found-number p 1 i (records d) l t in
-    let v = writable-found d a (m .0) (m .1) in
-    let j = m .0 - 1 in
-    let suc-i : suc i ≡ number = omega (arith, w .from) in
-    let suc-j : suc j ≡ m .0 = omega (arith, v .from) in
-    let once =
-    writable-once d s i j l (omega (arith, v .from, v .listed)) (w .incomplete) (v .incomplete)
-    (ap (λ k. nextWritable d k (numbered d number) .0) suc-i ∙ (sym (w .here) ∙ (v .here ∙ ap (λ k. nextWritable d k (numbered d (m .0)) .0) (sym suc-j)))) in
-    let equal : m .0 ≡ number = omega (arith, w .from, v .from) in
-    m .1 ∙ ap Number equal
 
 -- accepted exactly when
 pub takes-accepted : (d : Disc) (a : Lba) (n : ℕ) → Ready d → Takes d a n → write d a n .answer ≡ Accepted

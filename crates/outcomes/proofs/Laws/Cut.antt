@@ -19,7 +19,7 @@ use Rattle.protocol.specs.Reply.{noReply}
 use Rattle.commands.specs.Write.{flushOthers, flushOthersPlan, flushOthersCount, grownRecord, gather, writeTo, writeFound, write}
 use Rattle.fragments.proofs.Laws.Bool.{cond-yes, cond-no, by-cases, contradiction}
 use Rattle.disc.proofs.Laws.Rules.{sound-rules}
-use Rattle.commands.proofs.Laws.Write.{place, write-count, others-numbered, others-pending, others-used, others-sound, others-length}
+use Rattle.commands.proofs.Laws.Write.{takes-found, place, write-count, others-numbered, others-pending, others-used, others-sound, others-length}
 use Rattle.fragments.proofs.Laws.Numbers.{order-cases}
 use Rattle.disc.proofs.Laws.Sound.{starts-rise, writable-within}
 use Rattle.disc.specs.Rules.{at}
@@ -28,7 +28,7 @@ use Rattle.disc.proofs.Laws.Grow.{grown-used}
 use Rattle.outcomes.proofs.Laws.Keep.{gather-grows, write-room}
 use Rattle.commands.specs.Flush.{flushCount, flushPlan}
 use Rattle.outcomes.proofs.Laws.Outcome.{outcome-ready, write-outcome}
-use Rattle.outcomes.proofs.Laws.Accepts.{Takes, takes-found, takes-accepted}
+use Rattle.outcomes.proofs.Laws.Accepts.{Takes, takes-accepted}
 
 -- the fragment and its pending sectors after gathering
 module _ (d : Disc) (number n : ℕ) (from : 1 ≤ number) (slot : number ≤ length (d .fragments)) where

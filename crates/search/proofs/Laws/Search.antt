@@ -1,19 +1,19 @@
 -- Eight looks find the fragment that an address lies in, and what a search finds depends on the records that it looks at alone.
-use Prim.Native.Nat.{ℕ, zero, suc, _+_, _-_, _*_, _/_, _^_, _≤_, _<_}
+use Prim.Native.Nat.{ℕ, zero, suc, _+_, _-_, _*_, _^_, _≤_, _<_}
 use mathlib.Core.Path.{_≡_, refl, sym, _∙_, ap}
-use mathlib.Core.Bool.{Bool, true, false, _||_}
-use mathlib.Core.List.{List, [], _∷_}
+use mathlib.Core.Bool.{true, _||_}
+use mathlib.Core.List.{List}
 use native.Mathlib.Nat.{one-le-pow}
 use native.Mathlib.Omega.{arith}
-use borrow.Author.Tests.{leb-true, le-leb, ltb-true, ltb-false, lt-ltb, eqb-true, eqb-false, eq-eqb, ne-eqb}
+use borrow.Author.Tests.{leb-true, le-leb, ltb-true, ltb-false, eqb-true, eqb-false, eq-eqb, ne-eqb}
 use lib.Dec.{eqb, leb, ltb}
 use lib.ListN.{length, getD}
 use Rattle.search.specs.Types.{Lba, Fragment, Found, Number, Nowhere, Holder, Side, Left, Right, Here}
 use Rattle.search.specs.Search.{step, Search, ends, looks, finds, seen, nobody, middle, onward, halve, halving, held}
 use Rattle.fragments.specs.Address.{firstSector}
 use Rattle.fragments.specs.Fragment.{unusedRecord, unused, end, holds}
-use Rattle.fragments.specs.List.{limit, listed, find, holderOf, recordNumbered}
-use Rattle.fragments.proofs.Laws.Bool.{and-left, and-right, and-both, or-cases, or-false-left, or-false-right, by-cases, cond-yes, cond-no, cond-cases}
+use Rattle.fragments.specs.List.{limit, listed, find, holderOf}
+use Rattle.fragments.proofs.Laws.Bool.{and-left, and-right, and-both, or-cases, or-false-left, or-false-right, by-cases, cond-cases}
 use Rattle.fragments.proofs.Laws.Numbers.{order-cases}
 use Rattle.fragments.proofs.Laws.List.{listed-le, listed-at, listed-used, find-hit, find-none}
 
@@ -91,14 +91,21 @@ module _ (fs : List Fragment) (a : Lba) (r : Rising fs) where
       let x = find-hit (λ k f. holds a f) 1 n (listed fs) e in
       (x .index, omega (arith, x .number), (x .within, rw (listed-at fs (x .index) unusedRecord (x .within)) at (x .passes)))
 
-  held-is : (x : Found) → holderOf fs a ≡ x → (i : ℕ) → Holds i → held fs x ≡ record { number = i + 1; fragment = at i }
-  held-is (Number n) e i p =
+  found-is : (x : Found) → holderOf fs a ≡ x → (i : ℕ) → Holds i → x ≡ Number (i + 1)
+  found-is (Number n) e i p =
       let y = found-holds n e in
-      let same : n ≡ i + 1 = omega (arith, y .1, holds-once (y .0) i (y .2) p) in
-      let index : n - 1 ≡ i = omega (arith, same) in
-      rw (index, same)
-  held-is Nowhere e i p =
+      ap Number (omega (arith, y .1, holds-once (y .0) i (y .2) p))
+  found-is Nowhere e i p =
       absurd (find-none (λ k f. holds a f) 1 (listed fs) e i (p .0) (rw (listed-at fs i unusedRecord (p .0)) (p .1)))
+
+  -- it finds the record that holds the address
+  pub holder-is : (i : ℕ) → i < length (listed fs) → holds a (at i) ≡ true → holderOf fs a ≡ Number (i + 1)
+  holder-is i l t = found-is (holderOf fs a) refl i (l, t)
+
+  held-is : (i : ℕ) → Holds i → held fs (holderOf fs a) ≡ record { number = i + 1; fragment = at i }
+  held-is i p =
+      let index : i + 1 - 1 ≡ i = omega arith in
+      rw (holder-is i (p .0) (p .1)) (ap (λ (j : ℕ). record { number = i + 1; fragment = at j }) index)
 
   held-none : (x : Found) → holderOf fs a ≡ x → ((i : ℕ) → Holds i → ⊥) → held fs x ≡ nobody
   held-none (Number n) e none = let y = found-holds n e in absurd (none (y .0) (y .2))
@@ -160,7 +167,7 @@ module _ (fs : List Fragment) (a : Lba) (r : Rising fs) where
       (λ on from past.
       halve-finds n (m + 1) high (omega (arith, few, double, some))
       (λ i p. (omega (arith, past-right m (listed-index m on) from past i p), w i p .1)))
-      (λ on here. sym (held-is (holderOf fs a) refl m (listed-index m on, here)))))
+      (λ on here. sym (held-is m (listed-index m on, here)))))
 
 -- eight for the records of a disc
 pub halving-finds :

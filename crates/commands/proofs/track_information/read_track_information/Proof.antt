@@ -1,16 +1,19 @@
 use Rattle.disc.proofs.Laws.Apply.{refused-verdict}
 use Rattle.reporting.specs.Reports.{readTrackInformation}
 use borrow.Author.Tests.{eq-eqb, ne-eqb}
 use borrow.Author.Needs.{needs}
-use Rattle.reporting.proofs.track_information.read_track_information.Statement.{statement}
-use Rattle.reporting.proofs.track_information.read_track_information.Tie as tie
+use Rattle.commands.proofs.track_information.read_track_information.Statement.{statement}
+use Rattle.commands.proofs.track_information.read_track_information.Tie as tie
 
-track-at-requires : tie.Need-track-at-requires
-track-at-requires c κs = search needs
+at-address-requires : tie.Need-at-address-requires
+at-address-requires c κs = search needs
+
+track-found-requires : tie.Need-track-found-requires
+track-found-requires c κs = search needs
 
 returns : tie.Need-returns
 unfolding readTrackInformation
-returns c = simp (c .track-at .ensures, eq-eqb _ _ (c .before .if1 .taken))
+returns c = simp (c .track-found .ensures, c .before .at-address .ensures, eq-eqb _ _ (c .before .before .if1 .taken))
 
 track-numbered-requires : tie.Need-track-numbered-requires
 track-numbered-requires c κs = search needs
@@ -30,7 +33,8 @@ pub read-track-information-spec : {M : Type 1} → statement M
 read-track-information-spec =
     tie.close
     (tie.spec
-    track-at-requires
+    at-address-requires
+    track-found-requires
     returns
     track-numbered-requires
     returns-2

@@ -39,7 +39,10 @@ impl Holder {
 fn step(address: Lba, f: Fragment) -> Side
     ensures { λ r. ⌜ r ≡ step address f ⌝ }
 {
-    if (f.length == 0) | (address.0 < f.start.first_sector().0) {
+    if f.length == 0 {
+        return Side::Left;
+    }
+    if address.0 < f.start.first_sector().0 {
         return Side::Left;
     }
     if address.0 < f.end_address().0 {
@@ -55,10 +58,7 @@ pub fn at_address(fragments: [Fragment; LIMIT], address: Lba) -> Holder
     let mut low: usize = 0;
     let mut high: usize = LIMIT;
     let mut steps: usize = 0;
-    while steps < STEPS {
-        if low == high {
-            return Holder::nobody();
-        }
+    while steps < STEPS && low < high {
         let index = low + (high - low) / 2;
         let f = fragments[index];
         match step(address, f) {

@@ -1,21 +1,21 @@
 -- Eight looks find the fragment that an address lies in, and what a search finds depends on the records that it looks at alone.
 use Prim.Native.Nat.{ℕ, zero, suc, _+_, _-_, _*_, _^_, _≤_, _<_}
 use mathlib.Core.Path.{_≡_, refl, sym, _∙_, ap}
-use mathlib.Core.Bool.{true, _||_}
+use mathlib.Core.Bool.{true, false, _||_}
 use mathlib.Core.List.{List}
 use native.Mathlib.Nat.{one-le-pow}
 use native.Mathlib.Omega.{arith}
-use borrow.Author.Tests.{leb-true, le-leb, ltb-true, ltb-false, eqb-true, eqb-false, eq-eqb, ne-eqb}
-use lib.Dec.{eqb, leb, ltb}
+use borrow.Author.Tests.{leb-true, le-leb, ltb-true, ltb-false, lt-ltb, le-ltb, eq-eqb, ne-eqb}
+use lib.Dec.{leb, ltb}
 use lib.ListN.{length, getD}
 use Rattle.search.specs.Types.{Lba, Fragment, Found, Number, Nowhere, Holder, Side, Left, Right, Here}
 use Rattle.search.specs.Search.{step, Search, ends, looks, finds, seen, nobody, middle, onward, halve, halving, held}
 use Rattle.fragments.specs.Address.{firstSector}
 use Rattle.fragments.specs.Fragment.{unusedRecord, unused, end, holds}
 use Rattle.fragments.specs.List.{limit, listed, find, holderOf}
-use Rattle.fragments.proofs.Laws.Bool.{and-left, and-right, and-both, or-cases, or-false-left, or-false-right, by-cases, cond-cases}
-use Rattle.fragments.proofs.Laws.Numbers.{order-cases}
-use Rattle.fragments.proofs.Laws.List.{listed-le, listed-at, listed-used, find-hit, find-none}
+use Rattle.fragments.proofs.Laws.Bool.{and-left, and-right, and-both, or-left, or-right, by-cases, cond-yes, cond-no}
+use Rattle.fragments.proofs.Laws.Numbers.{order-cases, equal-cases}
+use Rattle.fragments.proofs.Laws.List.{use-cases, listed-le, listed-at, listed-used, find-hit, find-none}
 
 -- a search makes no more looks than it is said to
 pub seen-few : (n : ℕ) (fs : List Fragment) (s : Search n) → length (seen fs s) ≤ n
@@ -34,35 +34,78 @@ seen-decides (suc n) fs gs (looks _ i next) same =
     let here : getD fs i unusedRecord ≡ getD gs i unusedRecord = same 0 (omega arith) in
     rw (← here) (seen-decides n fs gs (next (getD fs i unusedRecord)) (λ k l. same (suc k) (omega arith)))
 
+-- what a step says of a record
+module _ (a : Lba) (f : Fragment) where
+  pub step-unused : f .length ≡ 0 → step a f ≡ Left
+  step-unused off = cond-yes (unused f || ltb (a .0) (firstSector (f .start) .0)) Left _ (or-left _ (eq-eqb _ _ off))
+
+  pub step-above : a .0 < firstSector (f .start) .0 → step a f ≡ Left
+  step-above above = cond-yes (unused f || ltb (a .0) (firstSector (f .start) .0)) Left _ (or-right (unused f) (lt-ltb _ _ above))
+
+  module _ (on : f .length ≡ 0 → ⊥) (from : firstSector (f .start) .0 ≤ a .0) where
+    not-left : (unused f || ltb (a .0) (firstSector (f .start) .0)) ≡ false
+    not-left = rw (ne-eqb _ _ on) (le-ltb _ _ from)
+
+    pub step-here : a .0 < firstSector (end f) .0 → step a f ≡ Here
+    step-here below =
+        cond-no (unused f || ltb (a .0) (firstSector (f .start) .0)) Left _ not-left ∙ cond-yes (ltb (a .0) (firstSector (end f) .0)) Here Right (lt-ltb _ _ below)
+
+    pub step-past : firstSector (end f) .0 ≤ a .0 → step a f ≡ Right
+    step-past past =
+        cond-no (unused f || ltb (a .0) (firstSector (f .start) .0)) Left _ not-left ∙ cond-no (ltb (a .0) (firstSector (end f) .0)) Here Right (le-ltb _ _ past)
+
+-- a search by halving from step to step: it is over, no record is in question, or a look at the middle one leaves a side or finds it
+module _ (fs : List Fragment) (a : Lba) (low high : ℕ) where
+  abbrev looked : Fragment
+  looked = getD fs (middle low high) unusedRecord
+
+  pub finds-over : finds fs (halve 0 a low high) ≡ nobody
+  unfolding finds halve
+  finds-over = refl
+
+  pub finds-none : (n : ℕ) → low ≡ high → finds fs (halve n a low high) ≡ nobody
+  unfolding finds halve
+  finds-none zero e = refl
+  finds-none (suc n) e = rw (eq-eqb low high e)
+
+  -- how it goes on, by what the step says
+  goes : ℕ → Side → Holder
+  goes n t =
+      finds fs (onward t (halve n a low (middle low high)) (halve n a (middle low high + 1) high) (ends n (record { number = middle low high + 1; fragment = looked })))
+
+  finds-next : (n : ℕ) → (low ≡ high → ⊥) → finds fs (halve (suc n) a low high) ≡ goes n (step a looked)
+  unfolding finds halve goes
+  finds-next n e = rw (ne-eqb low high e)
+
+  pub finds-left :
+      (n : ℕ) → (low ≡ high → ⊥) → step a looked ≡ Left → finds fs (halve (suc n) a low high) ≡ finds fs (halve n a low (middle low high))
+  unfolding goes
+  finds-left n e t = finds-next n e ∙ ap (goes n) t
+
+  pub finds-right :
+      (n : ℕ) → (low ≡ high → ⊥) → step a looked ≡ Right
+      → finds fs (halve (suc n) a low high) ≡ finds fs (halve n a (middle low high + 1) high)
+  unfolding goes
+  finds-right n e t = finds-next n e ∙ ap (goes n) t
+
+  pub finds-here :
+      (n : ℕ) → (low ≡ high → ⊥) → step a looked ≡ Here
+      → finds fs (halve (suc n) a low high) ≡ record { number = middle low high + 1; fragment = looked }
+  unfolding goes finds
+  finds-here n e t = finds-next n e ∙ ap (goes n) t
+
 -- along the list the records in use come first, and each ends before the next ones start
 pub record Rising (fs : List Fragment) : Type 0 where
   pub first : (i : ℕ) → length (listed fs) ≤ i → getD fs i unusedRecord .length ≡ 0
   pub apart : (i j : ℕ) → i < j → j < length (listed fs) → end (getD fs i unusedRecord) .0 ≤ getD fs j unusedRecord .start .0
 
--- what a step tells, as bounds
+-- a record that holds an address, as bounds
 module _ (a : Lba) (f : Fragment) where
   holds-from : holds a f ≡ true → firstSector (f .start) .0 ≤ a .0
   holds-from t = leb-true _ _ (and-left (leb (firstSector (f .start) .0) (a .0)) (ltb (a .0) (firstSector (end f) .0)) t)
 
   holds-below : holds a f ≡ true → a .0 < firstSector (end f) .0
   holds-below t = ltb-true _ _ (and-right (leb (firstSector (f .start) .0) (a .0)) (ltb (a .0) (firstSector (end f) .0)) t)
-
-  step-cases :
-      (P : Side → Type 0)
-      → (f .length ≡ 0 → P Left) → (a .0 < firstSector (f .start) .0 → P Left)
-      → ((f .length ≡ 0 → ⊥) → firstSector (f .start) .0 ≤ a .0 → firstSector (end f) .0 ≤ a .0 → P Right)
-      → ((f .length ≡ 0 → ⊥) → holds a f ≡ true → P Here) → P (step a f)
-  step-cases P off above past here =
-      cond-cases P (unused f || ltb (a .0) (firstSector (f .start) .0)) _ _
-      (λ t.
-      or-cases (unused f) (ltb (a .0) (firstSector (f .start) .0))
-      (λ u. off (eqb-true (f .length) 0 u)) (λ u. above (ltb-true _ _ u)) t)
-      (λ t.
-      let on = eqb-false (f .length) 0 (or-false-left (unused f) (ltb (a .0) (firstSector (f .start) .0)) t) in
-      let from = ltb-false (a .0) (firstSector (f .start) .0) (or-false-right (unused f) (ltb (a .0) (firstSector (f .start) .0)) t) in
-      cond-cases P (ltb (a .0) (firstSector (end f) .0)) _ _
-      (λ u. here on (and-both (le-leb (firstSector (f .start) .0) (a .0) from) u))
-      (λ u. past on from (ltb-false _ _ u)))
 
 -- what the definition finds on such a list
 module _ (fs : List Fragment) (a : Lba) (r : Rising fs) where
@@ -146,28 +189,33 @@ module _ (fs : List Fragment) (a : Lba) (r : Rising fs) where
 
   -- n looks suffice for fewer than 2^n records in question
   halve-finds : (n low high : ℕ) → high < low + 2 ^ n → Within low high → finds fs (halve n a low high) ≡ held fs (holderOf fs a)
-  unfolding finds halve
-  halve-finds zero low high few w = none-within low high (omega (arith, few)) w
+  halve-finds zero low high few w = finds-over fs a low high ∙ none-within low high (omega (arith, few)) w
   halve-finds (suc n) low high few w =
       let m = middle low high in
       let double : 2 ^ suc n ≡ 2 * 2 ^ n = omega arith in
       let some : 1 ≤ 2 ^ n = one-le-pow n 2 (omega arith) in
       let left : ((i : ℕ) → Holds i → i < m) → finds fs (halve n a low m) ≡ held fs (holderOf fs a) =
       λ b. halve-finds n low m (omega (arith, few, double, some)) (λ i p. (w i p .0, b i p)) in
-      by-cases (eqb low high)
-      (λ e. rw e (none-within low high (omega (arith, eqb-true low high e)) w))
+      equal-cases low high
+      (λ e. finds-none fs a low high (suc n) e ∙ none-within low high (omega (arith, e)) w)
       (λ e.
-      rw e
-      (step-cases a (at m)
+      use-cases (at m)
+      (λ off. finds-left fs a low high n e (step-unused a (at m) off) ∙ left (unused-left m off))
+      (λ on.
+      by-cases (ltb (a .0) (firstSector (at m .start) .0))
+      (λ t. let above = ltb-true _ _ t in finds-left fs a low high n e (step-above a (at m) above) ∙ left (above-left m above))
       (λ t.
-      finds fs (onward t (halve n a low m) (halve n a (m + 1) high) (ends n (record { number = m + 1; fragment = at m })))
-      ≡ held fs (holderOf fs a))
-      (λ off. left (unused-left m off))
-      (λ above. left (above-left m above))
-      (λ on from past.
-      halve-finds n (m + 1) high (omega (arith, few, double, some))
-      (λ i p. (omega (arith, past-right m (listed-index m on) from past i p), w i p .1)))
-      (λ on here. sym (held-is m (listed-index m on, here)))))
+      let from = ltb-false (a .0) (firstSector (at m .start) .0) t in
+      let l = listed-index m on in
+      by-cases (ltb (a .0) (firstSector (end (at m)) .0))
+      (λ u.
+      finds-here fs a low high n e (step-here a (at m) on from (ltb-true _ _ u))
+      ∙ sym (held-is m (l, and-both (le-leb (firstSector (at m .start) .0) (a .0) from) u)))
+      (λ u.
+      let past = ltb-false (a .0) (firstSector (end (at m)) .0) u in
+      finds-right fs a low high n e (step-past a (at m) on from past)
+      ∙ halve-finds n (m + 1) high (omega (arith, few, double, some))
+      (λ i p. (omega (arith, past-right m l from past i p), w i p .1))))))
 
 -- eight for the records of a disc
 pub halving-finds :
@@ -175,43 +223,3 @@ pub halving-finds :
 halving-finds fs a array r =
     halve-finds fs a r 8 0 limit (omega arith)
     (λ i p. (omega arith, omega (arith, p .0, listed-le fs, array)))
-
--- a search by halving from step to step: it is over, no record is in question, or a look at the middle one leaves a side or finds it
-module _ (fs : List Fragment) (a : Lba) (low high : ℕ) where
-  abbrev looked : Fragment
-  looked = getD fs (middle low high) unusedRecord
-
-  pub finds-over : finds fs (halve 0 a low high) ≡ nobody
-  unfolding finds halve
-  finds-over = refl
-
-  pub finds-none : (n : ℕ) → low ≡ high → finds fs (halve n a low high) ≡ nobody
-  unfolding finds halve
-  finds-none zero e = refl
-  finds-none (suc n) e = rw (eq-eqb low high e)
-
-  -- how it goes on, by what the step says
-  goes : ℕ → Side → Holder
-  goes n t =
-      finds fs (onward t (halve n a low (middle low high)) (halve n a (middle low high + 1) high) (ends n (record { number = middle low high + 1; fragment = looked })))
-
-  finds-next : (n : ℕ) → (low ≡ high → ⊥) → finds fs (halve (suc n) a low high) ≡ goes n (step a looked)
-  unfolding finds halve goes
-  finds-next n e = rw (ne-eqb low high e)
-
-  pub finds-left :
-      (n : ℕ) → (low ≡ high → ⊥) → step a looked ≡ Left → finds fs (halve (suc n) a low high) ≡ finds fs (halve n a low (middle low high))
-  unfolding goes
-  finds-left n e t = finds-next n e ∙ ap (goes n) t
-
-  pub finds-right :
-      (n : ℕ) → (low ≡ high → ⊥) → step a looked ≡ Right
-      → finds fs (halve (suc n) a low high) ≡ finds fs (halve n a (middle low high + 1) high)
-  unfolding goes
-  finds-right n e t = finds-next n e ∙ ap (goes n) t
-
-  pub finds-here :
-      (n : ℕ) → (low ≡ high → ⊥) → step a looked ≡ Here
-      → finds fs (halve (suc n) a low high) ≡ record { number = middle low high + 1; fragment = looked }
-  unfolding goes finds
-  finds-here n e t = finds-next n e ∙ ap (goes n) t

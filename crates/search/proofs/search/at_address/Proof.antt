@@ -2,6 +2,7 @@ use Prim.Native.Nat.{suc, _+_, _-_, _≤_}
 use mathlib.Core.Path.{_≡_, refl, sym, _∙_, ap}
 use mathlib.Core.Logic.{⊎-elim}
 use native.Mathlib.Omega.{arith}
+use borrow.Author.Tests.{ltb-true, ltb-false}
 use lib.ListN.{length}
 use Rattle.fragments.specs.List.{limit}
 use Rattle.fragments.proofs.Laws.List.{array-length}
@@ -22,15 +23,6 @@ abbrev μ-loop : tie.MeasureT-loop
 loop-holds : tie.Need-loop-holds Inv-loop μ-loop
 loop-holds c = (omega arith, omega arith, omega arith, search array-length, refl)
 
-nobody-requires : tie.Need-nobody-requires Inv-loop μ-loop
-nobody-requires c κs = search needs
-
-returns : tie.Need-returns Inv-loop μ-loop
-returns c =
-    let w = c .before .before .before .loop in
-    let fs = c .before .before .before .before .args .t1 in
-    rw (c .nobody .ensures) (sym (w .inv .4 ∙ finds-none fs _ (w .low) (w .high) (8 - w .steps) (c .before .if1 .taken)))
-
 sub-index : tie.Need-sub-index Inv-loop μ-loop
 sub-index c = search needs
 
@@ -41,7 +33,7 @@ mul-f : tie.Need-mul-f Inv-loop μ-loop
 mul-f c = search needs
 
 array-copy-out-f : tie.Need-array-copy-out-f Inv-loop μ-loop
-array-copy-out-f c = search needs
+array-copy-out-f c = omega (arith, ltb-true (c .before .before .loop .low) (c .before .before .loop .high) (c .if1 .taken))
 
 step-requires : tie.Need-step-requires Inv-loop μ-loop
 step-requires c κs = search needs
@@ -58,19 +50,20 @@ add-low c = search needs
 enum-told-3 : tie.Need-enum-told-3 Inv-loop μ-loop
 enum-told-3 c = search needs
 
-add-t16 : tie.Need-add-t16 Inv-loop μ-loop
-add-t16 c = search needs
+add-t17 : tie.Need-add-t17 Inv-loop μ-loop
+add-t17 c = search needs
 
-returns-2 : tie.Need-returns-2 Inv-loop μ-loop
-returns-2 c =
+returns : tie.Need-returns Inv-loop μ-loop
+returns c =
     let w = c .before .before .before .before .before .before .loop in
     let fs = c .before .before .before .before .before .before .before .args .t1 in
     let a = c .before .before .before .before .before .before .before .args .address in
     let more : 8 - w .steps ≡ suc (8 - (w .steps + 1)) = omega (arith, c .before .before .before .before .before .loop-test .taken) in
+    let left = ltb-true (w .low) (w .high) (c .before .before .before .before .if1 .taken) in
     sym
     (w .inv .4
     ∙ (ap (λ n. finds fs (halve n a (w .low) (w .high))) more
-    ∙ finds-here fs a (w .low) (w .high) (8 - (w .steps + 1)) (c .before .before .before .before .if1 .left) (sym (c .before .before .step .ensures) ∙ c .enum-told3 .given .1)))
+    ∙ finds-here fs a (w .low) (w .high) (8 - (w .steps + 1)) (λ e. omega (arith, left, e)) (sym (c .before .before .step .ensures) ∙ c .enum-told3 .given .1)))
 
 add-steps : tie.Need-add-steps Inv-loop μ-loop
 add-steps c = search needs
@@ -86,6 +79,7 @@ loop-again c =
     let n = 8 - (w .steps + 1) in
     let more : 8 - w .steps ≡ suc n = omega (arith, c .before .before .before .before .loop-test .taken) in
     let next = w .inv .4 ∙ ap (λ k. finds fs (halve k a (w .low) (w .high))) more in
+    let left = ltb-true (w .low) (w .high) (c .before .before .before .if1 .taken) in
     ⊎-elim
     (λ t. (
       omega arith,
@@ -93,31 +87,35 @@ loop-again c =
       omega (arith, t .2, t .3),
       w .inv .3,
       rw (t .2, t .3)
-          (next ∙ finds-left fs a (w .low) (w .high) n (c .before .before .before .if1 .left) (sym (c .before .step .ensures) ∙ t .1 .given .1)),
+          (next ∙ finds-left fs a (w .low) (w .high) n (λ e. omega (arith, left, e)) (sym (c .before .step .ensures) ∙ t .1 .given .1)),
     ))
     (λ t. (
       omega arith,
-      omega (arith, t .2, t .3),
+      omega (arith, left, t .2, t .3),
       omega (arith, t .2, t .3),
       w .inv .3,
       rw (t .2, t .3)
-          (next ∙ finds-right fs a (w .low) (w .high) n (c .before .before .before .if1 .left) (sym (c .before .step .ensures) ∙ t .1 .given .1)),
+          (next ∙ finds-right fs a (w .low) (w .high) n (λ e. omega (arith, left, e)) (sym (c .before .step .ensures) ∙ t .1 .given .1)),
     ))
     (c .match .came)
 
-nobody-requires-2 : tie.Need-nobody-requires-2 Inv-loop μ-loop
-nobody-requires-2 c κs = search needs
+nobody-requires : tie.Need-nobody-requires Inv-loop μ-loop
+nobody-requires c κs = search needs
 
-returns-3 : tie.Need-returns-3 Inv-loop μ-loop
-returns-3 c =
+returns-2 : tie.Need-returns-2 Inv-loop μ-loop
+returns-2 c =
     let w = c .before .before .loop in
     let fs = c .before .before .before .args .t1 in
     let a = c .before .before .before .args .address in
-    let done : 8 - w .steps ≡ 0 = omega arith in
-    rw (c .nobody2 .ensures)
+    rw (c .nobody .ensures)
     (sym
     (w .inv .4
-    ∙ (ap (λ n. finds fs (halve n a (w .low) (w .high))) done ∙ finds-over fs a (w .low) (w .high))))
+    ∙ ⊎-elim
+    (λ t. let none = ltb-false (w .low) (w .high) (t .1 .left) in finds-none fs a (w .low) (w .high) (8 - w .steps) (omega (arith, none)))
+    (λ t.
+    let over : 8 - w .steps ≡ 0 = omega (arith, t .left) in
+    ap (λ n. finds fs (halve n a (w .low) (w .high))) over ∙ finds-over fs a (w .low) (w .high))
+    (c .before .loop-test .came)))
 
 pub at-address-spec : {M : Type 1} → statement M
 at-address-spec =
@@ -126,8 +124,6 @@ at-address-spec =
     Inv-loop
     μ-loop
     loop-holds
-    nobody-requires
-    returns
     sub-index
     add-index
     mul-f
@@ -137,10 +133,10 @@ at-address-spec =
     enum-told-2
     add-low
     enum-told-3
-    add-t16
-    returns-2
+    add-t17
+    returns
     add-steps
     loop-less
     loop-again
-    nobody-requires-2
-    returns-3)
+    nobody-requires
+    returns-2)

@@ -8,3 +8,4 @@ pub mod Values
 pub mod Discs
 pub mod Reads
 pub mod Forms
+pub mod Searches

@@ -18,3 +18,4 @@ pub use Rattle.decisions.specs.declared.change.Effect.the-variants.{Keep, Settl
 pub use Rattle.decisions.specs.declared.decision.Decision.{Decision}
 pub use Rattle.disc.specs.declared.state.Disc.{Disc}
 pub use Rattle.disc.specs.declared.verdict.Verdict.{Verdict}
+pub use Rattle.search.specs.declared.search.Side.the-variants.{Left, Right, Here}

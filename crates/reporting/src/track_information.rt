@@ -2,11 +2,13 @@
 use decisions::Decision;
 use disc::Disc;
 use fragments::Found;
+use fragments::Fragment;
 use fragments::Lba;
 use protocol::DriveRefusal;
 use protocol::Reply;
 use protocol::TrackReport;
 ghost use mathlib.Core.Path.{_≡_};
+ghost use Rattle.disc.specs.Records.{numbered};
 ghost use Rattle.disc.specs.Apply.{decided};
 ghost use Rattle.reporting.specs.Reports.{nextWritableOrZero, freeSectors, trackReport, trackVerdict, trackFound, trackNumbered};
 
@@ -14,10 +16,10 @@ ghost use Rattle.reporting.specs.Reports.{nextWritableOrZero, freeSector
 const TAIL: usize = 0xFF;
 
 // The next writable address of the fragment with a number, or 0 if it is complete.
-fn next_writable_or_zero(disc: Disc, number: usize) -> Lba
+fn next_writable_or_zero(disc: Disc, number: usize, f: Fragment) -> Lba
+    requires { ⌜ f ≡ numbered disc number ⌝ }
     ensures { λ r. ⌜ r ≡ nextWritableOrZero disc number ⌝ }
 {
-    let f = disc.numbered(number);
     if f.is_complete() {
         return Lba(0);
     }
@@ -25,10 +27,10 @@ fn next_writable_or_zero(disc: Disc, number: usize) -> Lba
 }
 
 // The sectors from there to the fragment's end, or 0 if it is complete.
-fn free_sectors(disc: Disc, number: usize) -> u64
+fn free_sectors(disc: Disc, number: usize, f: Fragment) -> u64
+    requires { ⌜ f ≡ numbered disc number ⌝ }
     ensures { λ r. ⌜ r ≡ freeSectors disc number ⌝ }
 {
-    let f = disc.numbered(number);
     if f.is_complete() {
         return 0;
     }
@@ -40,13 +42,13 @@ fn free_sectors(disc: Disc, number: usize) -> u64
     end.0 - next.0
 }
 
-// What READ TRACK INFORMATION says of the fragment with a number.
+// What READ TRACK INFORMATION says of the fragment with a number. Its record is looked up once: each look-up costs a copy of the records.
 fn track_report(disc: Disc, number: usize) -> TrackReport
     ensures { λ r. ⌜ r ≡ trackReport disc number ⌝ }
 {
     let f = disc.numbered(number);
     let kind = f.kind;
-    let next = next_writable_or_zero(disc, number);
+    let next = next_writable_or_zero(disc, number, f);
     TrackReport {
         number,
         session: f.session as usize,
@@ -56,7 +58,7 @@ fn track_report(disc: Disc, number: usize) -> TrackReport
         incomplete: !f.is_complete(),
         start: f.start.first_sector(),
         next,
-        free: free_sectors(disc, number),
+        free: free_sectors(disc, number, f),
         size: fragments::sectors_in(f.length),
         last: f.last_recorded(),
     }

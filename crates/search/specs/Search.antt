@@ -56,8 +56,11 @@ halve (suc n) a low high =
     (λ f. onward (step a f) (halve n a low m) (halve n a (m + 1) high) (ends n (record { number = m + 1; fragment = f }))))
 
 -- eight looks suffice for the records of a disc
-abbrev pub halving : Lba → Search 8
-halving a = halve 8 a 0 limit
+abbrev pub steps : ℕ
+steps = 8
+
+abbrev pub halving : Lba → Search steps
+halving a = halve steps a 0 limit
 
 -- what a search ought to find: the fragment of the list's own definition
 abbrev pub held : List Fragment → Found → Holder

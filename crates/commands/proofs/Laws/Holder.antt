@@ -9,14 +9,15 @@ use Rattle.commands.specs.Types.{Lba, Fragment, Disc, Found, Number, Now
 use Rattle.fragments.specs.Address.{firstSector}
 use Rattle.fragments.specs.Fragment.{end, complete, firstUnrecorded, takes}
 use Rattle.fragments.specs.List.{reachFound}
-use Rattle.search.specs.Search.{finds, halving, held}
+use Rattle.search.specs.Search.{finds, steps, halving, held}
 use Rattle.disc.specs.Records.{pendingIn, nextWritable, used, numbered, atAddress, writableAt}
 use Rattle.disc.specs.Rules.{at, Sound}
 use Rattle.disc.specs.Ready.{Ready}
+use Rattle.commands.specs.Holder.{EightLooks}
 use Rattle.commands.specs.Write.{Writable}
 use Rattle.fragments.proofs.Laws.Bool.{and-left, and-right, and-both, contradiction}
 use Rattle.fragments.proofs.Laws.Numbers.{equal-cases}
-use Rattle.search.proofs.Laws.Search.{Rising, halving-finds, holder-is}
+use Rattle.search.proofs.Laws.Search.{Rising, seen-few, seen-decides, halving-finds, holder-is}
 use Rattle.disc.proofs.Laws.Rules.{sound-rules}
 use Rattle.disc.proofs.Laws.Sound.{starts-rise, none-pending, other-pending, writable-within}
 use Rattle.disc.proofs.Laws.Readable.{located}
@@ -33,6 +34,15 @@ module _ (d : Disc) (s : Sound d) where
   -- eight looks find it
   pub holder-found : (a : Lba) → finds (d .fragments) (halving a) ≡ held (d .fragments) (atAddress d a)
   holder-found a = halving-finds (d .fragments) a (s .array) sound-rising
+
+  -- and for the reader, with what they are
+  pub eight-looks : (a : Lba) → EightLooks d a
+  eight-looks a =
+      record {
+        right = holder-found a;
+        few = seen-few steps (d .fragments) (halving a);
+        alone = λ gs same. seen-decides steps (d .fragments) gs (halving a) same;
+      }
 
   -- number 0 has no pending sectors, so an unused record under it reaches nowhere
   none-has-none : pendingIn d 0 ≡ 0

@@ -9,7 +9,7 @@ use borrow.Author.Tests.{leb-true, le-leb, ltb-true, ltb-false, lt-ltb, le-ltb, 
 use lib.Dec.{leb, ltb}
 use lib.ListN.{length, getD}
 use Rattle.search.specs.Types.{Lba, Fragment, Found, Number, Nowhere, Holder, Side, Left, Right, Here}
-use Rattle.search.specs.Search.{step, Search, ends, looks, finds, seen, nobody, middle, onward, halve, halving, held}
+use Rattle.search.specs.Search.{step, Search, ends, looks, finds, seen, nobody, middle, onward, halve, steps, halving, held}
 use Rattle.fragments.specs.Address.{firstSector}
 use Rattle.fragments.specs.Fragment.{unusedRecord, unused, end, holds}
 use Rattle.fragments.specs.List.{limit, listed, find, holderOf}
@@ -46,13 +46,13 @@ module _ (a : Lba) (f : Fragment) where
     not-left : (unused f || ltb (a .0) (firstSector (f .start) .0)) ≡ false
     not-left = rw (ne-eqb _ _ on) (le-ltb _ _ from)
 
-    pub step-here : a .0 < firstSector (end f) .0 → step a f ≡ Here
-    step-here below =
-        cond-no (unused f || ltb (a .0) (firstSector (f .start) .0)) Left _ not-left ∙ cond-yes (ltb (a .0) (firstSector (end f) .0)) Here Right (lt-ltb _ _ below)
-
     pub step-past : firstSector (end f) .0 ≤ a .0 → step a f ≡ Right
     step-past past =
         cond-no (unused f || ltb (a .0) (firstSector (f .start) .0)) Left _ not-left ∙ cond-no (ltb (a .0) (firstSector (end f) .0)) Here Right (le-ltb _ _ past)
+
+    pub step-here : a .0 < firstSector (end f) .0 → step a f ≡ Here
+    step-here below =
+        cond-no (unused f || ltb (a .0) (firstSector (f .start) .0)) Left _ not-left ∙ cond-yes (ltb (a .0) (firstSector (end f) .0)) Here Right (lt-ltb _ _ below)
 
 -- a search by halving from step to step: it is over, no record is in question, or a look at the middle one leaves a side or finds it
 module _ (fs : List Fragment) (a : Lba) (low high : ℕ) where
@@ -221,5 +221,5 @@ module _ (fs : List Fragment) (a : Lba) (r : Rising fs) where
 pub halving-finds :
     (fs : List Fragment) (a : Lba) → length fs ≡ limit → Rising fs → finds fs (halving a) ≡ held fs (holderOf fs a)
 halving-finds fs a array r =
-    halve-finds fs a r 8 0 limit (omega arith)
+    halve-finds fs a r steps 0 limit (omega arith)
     (λ i p. (omega arith, omega (arith, p .0, listed-le fs, array)))

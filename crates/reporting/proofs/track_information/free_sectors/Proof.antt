@@ -7,15 +7,12 @@ use borrow.Author.Needs.{needs}
 use Rattle.reporting.proofs.track_information.free_sectors.Statement.{statement}
 use Rattle.reporting.proofs.track_information.free_sectors.Tie as tie
 
-numbered-requires : tie.Need-numbered-requires
-numbered-requires c κs = search needs
-
 is-complete-requires : tie.Need-is-complete-requires
 is-complete-requires c κs = search needs
 
 returns : tie.Need-returns
 unfolding freeSectors
-returns c = simp (c .if1 .taken, ← c .before .is-complete .ensures, ← c .before .before .numbered .ensures)
+returns c = simp (c .if1 .taken, ← c .before .is-complete .ensures, ← c .before .before .pre)
 
 end-address-requires : tie.Need-end-address-requires
 end-address-requires c κs = search needs
@@ -31,20 +28,19 @@ returns-2 : tie.Need-returns-2
 unfolding freeSectors
 returns-2 c =
     let e = rw (c .before .before .before .next-writable .ensures, c .before .before .before .before .end-address .ensures) at (c .if2 .taken) in
-    simp (c .before .before .before .before .before .if1 .left, ← c .before .before .before .before .before .before .is-complete .ensures, ← c .before .before .before .before .before .before .before .numbered .ensures, sub-none _ _ e)
+    simp (c .before .before .before .before .before .if1 .left, ← c .before .before .before .before .before .before .is-complete .ensures, ← c .before .before .before .before .before .before .before .pre, sub-none _ _ e)
 
 sub-result : tie.Need-sub-result
 sub-result c = search needs
 
 returns-3 : tie.Need-returns-3
 unfolding freeSectors
-returns-3 c = simp (c .before .before .before .before .before .next-writable .ensures, c .before .before .before .before .before .before .end-address .ensures, c .before .before .before .before .before .before .before .if1 .left, ← c .before .before .before .before .before .before .before .before .is-complete .ensures, ← c .before .before .before .before .before .before .before .before .before .numbered .ensures)
+returns-3 c = simp (c .before .before .before .before .before .next-writable .ensures, c .before .before .before .before .before .before .end-address .ensures, c .before .before .before .before .before .before .before .if1 .left, ← c .before .before .before .before .before .before .before .before .is-complete .ensures, ← c .before .before .before .before .before .before .before .before .before .pre)
 
 pub free-sectors-spec : {M : Type 1} → statement M
 free-sectors-spec =
     tie.close
     (tie.spec
-    numbered-requires
     is-complete-requires
     returns
     end-address-requires

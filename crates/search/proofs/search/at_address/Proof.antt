@@ -6,19 +6,19 @@ use borrow.Author.Tests.{ltb-true, ltb-false}
 use lib.ListN.{length}
 use Rattle.fragments.specs.List.{limit}
 use Rattle.fragments.proofs.Laws.List.{array-length}
-use Rattle.search.specs.Search.{finds, halve, halving}
+use Rattle.search.specs.Search.{finds, halve, steps, halving}
 use Rattle.search.proofs.Laws.Search.{finds-over, finds-none, finds-left, finds-right, finds-here}
 use borrow.Author.Needs.{needs}
 use Rattle.search.proofs.search.at_address.Statement.{statement}
 use Rattle.search.proofs.search.at_address.Tie as tie
 
 abbrev Inv-loop : tie.InvT-loop
-Inv-loop address fragments low₀ high₀ steps₀ low high steps =
-    (steps ≤ 8) × (low ≤ high) × (high ≤ limit) × (length fragments ≡ limit)
-    × (finds fragments (halving address) ≡ finds fragments (halve (8 - steps) address low high))
+Inv-loop address fragments low₀ high₀ taken₀ low high taken =
+    (taken ≤ steps) × (low ≤ high) × (high ≤ limit) × (length fragments ≡ limit)
+    × (finds fragments (halving address) ≡ finds fragments (halve (steps - taken) address low high))
 
 abbrev μ-loop : tie.MeasureT-loop
-μ-loop address fragments low₀ high₀ steps₀ low high steps = 8 - steps
+μ-loop address fragments low₀ high₀ taken₀ low high taken = steps - taken
 
 loop-holds : tie.Need-loop-holds Inv-loop μ-loop
 loop-holds c = (omega arith, omega arith, omega arith, search array-length, refl)
@@ -58,12 +58,12 @@ returns c =
     let w = c .before .before .before .before .before .before .loop in
     let fs = c .before .before .before .before .before .before .before .args .t1 in
     let a = c .before .before .before .before .before .before .before .args .address in
-    let more : 8 - w .steps ≡ suc (8 - (w .steps + 1)) = omega (arith, c .before .before .before .before .before .loop-test .taken) in
+    let more : steps - w .steps ≡ suc (steps - (w .steps + 1)) = omega (arith, c .before .before .before .before .before .loop-test .taken) in
     let left = ltb-true (w .low) (w .high) (c .before .before .before .before .if1 .taken) in
     sym
     (w .inv .4
     ∙ (ap (λ n. finds fs (halve n a (w .low) (w .high))) more
-    ∙ finds-here fs a (w .low) (w .high) (8 - (w .steps + 1)) (λ e. omega (arith, left, e)) (sym (c .before .before .step .ensures) ∙ c .enum-told3 .given .1)))
+    ∙ finds-here fs a (w .low) (w .high) (steps - (w .steps + 1)) (λ e. omega (arith, left, e)) (sym (c .before .before .step .ensures) ∙ c .enum-told3 .given .1)))
 
 add-steps : tie.Need-add-steps Inv-loop μ-loop
 add-steps c = search needs
@@ -76,8 +76,8 @@ loop-again c =
     let w = c .before .before .before .before .before .loop in
     let fs = c .before .before .before .before .before .before .args .t1 in
     let a = c .before .before .before .before .before .before .args .address in
-    let n = 8 - (w .steps + 1) in
-    let more : 8 - w .steps ≡ suc n = omega (arith, c .before .before .before .before .loop-test .taken) in
+    let n = steps - (w .steps + 1) in
+    let more : steps - w .steps ≡ suc n = omega (arith, c .before .before .before .before .loop-test .taken) in
     let next = w .inv .4 ∙ ap (λ k. finds fs (halve k a (w .low) (w .high))) more in
     let left = ltb-true (w .low) (w .high) (c .before .before .before .if1 .taken) in
     ⊎-elim
@@ -111,9 +111,9 @@ returns-2 c =
     (sym
     (w .inv .4
     ∙ ⊎-elim
-    (λ t. let none = ltb-false (w .low) (w .high) (t .1 .left) in finds-none fs a (w .low) (w .high) (8 - w .steps) (omega (arith, none)))
+    (λ t. let none = ltb-false (w .low) (w .high) (t .1 .left) in finds-none fs a (w .low) (w .high) (steps - w .steps) (omega (arith, none)))
     (λ t.
-    let over : 8 - w .steps ≡ 0 = omega (arith, t .left) in
+    let over : steps - w .steps ≡ 0 = omega (arith, t .left) in
     ap (λ n. finds fs (halve n a (w .low) (w .high))) over ∙ finds-over fs a (w .low) (w .high))
     (c .before .loop-test .came)))
 

@@ -3,7 +3,7 @@
 
 use demo::map::Sector;
 use demo::{fragment_list, play, Disc, Map, Run};
-use gladhamre::cdb;
+use gladhamre::{cdb, RECORD_LIMIT};
 use script::{Line, Part, Survey};
 use std::ops::RangeInclusive;
 use std::path::Path;
@@ -233,6 +233,16 @@ fn a_survey_of_one_sector() {
     assert!(survey
         .starts_with("READ TRACK INFORMATION, every 16000    1 command: 1 accepted, 0 refused\n"));
     assert_eq!(survey.lines().count(), 3);
+}
+
+/// A step of 1 asks for every sector, and has a row for each fragment and each gap after one.
+#[test]
+fn a_survey_of_every_sector() {
+    let (_, survey) = surveyed(example("four-rooms.txt"), 1);
+    let heading =
+        "READ TRACK INFORMATION, every 1        7680 commands: 2560 accepted, 5120 refused\n";
+    assert!(survey.starts_with(heading), "{survey}");
+    assert_eq!(survey.lines().count(), 2 + 2 * RECORD_LIMIT);
 }
 
 /// A survey changes nothing but the sense.

@@ -12,6 +12,13 @@ const BLOCK_SECTORS: u32 = 16;
 /// Sectors recorded in the tail, enough for the longest READ.
 const RECORDED: u16 = 64;
 
+/// The records of a list that is neither short nor full.
+const SOME_RECORDS: usize = 64;
+
+/// Numbers of answers.
+const ACCEPTED: u32 = 0;
+const ADDRESS_OUT_OF_RANGE: u32 = 0x052100;
+
 /// A command, and the state on which it is given again and again.
 pub struct Case {
     pub name: String,
@@ -21,6 +28,8 @@ pub struct Case {
     pub start: State,
     /// The bytes that the command moves.
     pub bytes: usize,
+    /// The number of its answer.
+    pub number: u32,
 }
 
 /// A disc on its way to a state.
@@ -71,7 +80,7 @@ pub fn cases(buffers: &mut Buffers) -> Vec<Case> {
     for records in [1, RECORD_LIMIT] {
         let mut add = |name: String, cdb: Cdb, start: &State, bytes: usize| {
             let list = list_of(records);
-            cases.push(Case { name, list, cdb, start: start.clone(), bytes });
+            cases.push(Case { name, list, cdb, start: start.clone(), bytes, number: ACCEPTED });
         };
         let mut disc = Maker::with_fragments(records - 1, buffers);
         disc.write(RECORDED);
@@ -97,6 +106,9 @@ pub fn cases(buffers: &mut Buffers) -> Vec<Case> {
     }
     cases.extend(reads_of_pending(buffers));
     cases.extend(list_changes(buffers));
+    for records in [1, SOME_RECORDS, RECORD_LIMIT] {
+        cases.extend(finds(records, buffers));
+    }
     cases
 }
 
@@ -119,7 +131,7 @@ fn reads_of_pending(buffers: &mut Buffers) -> Vec<Case> {
             let cdb = cdb::read(disc.next() - u32::from(sectors), sectors);
             let (list, start) = (list_of(records), disc.state.clone());
             let bytes = usize::from(sectors) * SECTOR_BYTES;
-            cases.push(Case { name: name.into(), list, cdb, start, bytes });
+            cases.push(Case { name: name.into(), list, cdb, start, bytes, number: ACCEPTED });
         }
     }
     cases
@@ -138,7 +150,35 @@ fn list_changes(buffers: &mut Buffers) -> Vec<Case> {
         ("CLOSE 010", close, RECORD_LIMIT),
     ] {
         let start = Maker::with_fragments(records - 1, buffers).state;
-        cases.push(Case { name: name.into(), list: list_of(records), cdb, start, bytes: 0 });
+        let (name, list) = (name.into(), list_of(records));
+        cases.push(Case { name, list, cdb, start, bytes: 0, number: ACCEPTED });
     }
     cases
+}
+
+/// 52h by address on a list of so many records: at the first fragment, a middle one and the last, in
+/// the block after the middle one, which no fragment holds, and past the disc.
+fn finds(records: usize, buffers: &mut Buffers) -> Vec<Case> {
+    let mut disc = Maker::with_fragments(records - 1, buffers);
+    disc.write(RECORDED);
+    let middle = disc.state.record(records / 2);
+    let mut places = vec![("first fragment", 0, ACCEPTED)];
+    if records > 1 {
+        let after_middle = middle.start + middle.length;
+        places.extend([
+            ("middle fragment", BLOCK_SECTORS * middle.start, ACCEPTED),
+            ("last fragment", disc.tail_start(), ACCEPTED),
+            ("dividing block", BLOCK_SECTORS * after_middle, ADDRESS_OUT_OF_RANGE),
+        ]);
+    }
+    places.push(("past the disc", BLOCK_SECTORS * CAPACITY, ADDRESS_OUT_OF_RANGE));
+    let case = |(place, address, number)| Case {
+        name: format!("52h by address, {place}"),
+        list: list_of(records),
+        cdb: cdb::read_fragment_information(0, address, 36),
+        start: disc.state.clone(),
+        bytes: 0,
+        number,
+    };
+    places.into_iter().map(case).collect()
 }

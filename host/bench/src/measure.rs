@@ -71,7 +71,7 @@ fn same_answer(case: &Case, plain: &Plain, buffers: &mut Buffers) {
     let (mut linked_state, mut plain_state) = (case.start.clone(), case.start.clone());
     let linked = Linked.command(linked_state.words_mut(), buffers.lend(&case.cdb));
     let plain = plain.command(plain_state.words_mut(), buffers.lend(&case.cdb));
-    assert_eq!((linked.number, linked), (0, plain), "{}", case.name);
+    assert_eq!((linked.number, linked), (case.number, plain), "{}", case.name);
     assert!(linked_state == plain_state, "{}", case.name);
 }
 

@@ -41,6 +41,9 @@ pub const OPCODES: [u8; 12] = [
     WRITE_12,
 ];
 
+/// The bytes of a whole reply to 52h.
+pub const FRAGMENT_INFORMATION_LENGTH: usize = 36;
+
 /// Functions of CLOSE.
 pub const FRAGMENT: u8 = 0b001;
 pub const SESSION: u8 = 0b010;
@@ -195,7 +198,7 @@ pub fn reply_room(cdb: &Cdb) -> usize {
         READ_CAPACITY => 8,
         READ | READ_12 => sectors(cdb) as usize * SECTOR_BYTES,
         READ_DISC_INFORMATION => allocation.min(34),
-        READ_FRAGMENT_INFORMATION => allocation.min(36),
+        READ_FRAGMENT_INFORMATION => allocation.min(FRAGMENT_INFORMATION_LENGTH),
         _ => 0,
     }
 }

@@ -50,17 +50,28 @@ impl Disc {
 
     /// Sends a command with a reply buffer of the length that it asks for.
     pub fn send(&mut self, cdb: &Cdb, data: &[u8]) -> io::Result<Outcome> {
-        let before: Vec<Record> = self.state.records().collect();
         let mut buffer = zeros(cdb::reply_room(cdb))?;
+        let answer = self.send_with(cdb, data, &mut buffer);
+        Ok(Outcome { answer, buffer })
+    }
+
+    /// Sends a command with this reply buffer.
+    pub fn send_with(
+        &mut self,
+        cdb: &Cdb,
+        data: &[u8],
+        reply: &mut [u8],
+    ) -> Result<Accepted, Refusal> {
+        let before: Vec<Record> = self.state.records().collect();
         let answer = self.state.command(Lent {
             cdb,
             data,
             medium: &mut self.medium,
             pending: &mut self.pending,
-            reply: &mut buffer,
+            reply,
         });
         self.note_zero_filled(&before);
-        Ok(Outcome { answer, buffer })
+        answer
     }
 
     /// The zeros that a command adds to a fragment are the last of its recorded sectors: after the

@@ -13,9 +13,11 @@ mod list;
 pub mod map;
 mod play;
 pub mod shift;
+mod survey;
 mod svg;
 mod table;
 pub mod text;
+mod track;
 mod words;
 
 pub use disc::{Disc, Outcome};

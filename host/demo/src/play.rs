@@ -2,11 +2,11 @@
 
 use crate::disc::{zeros, Disc, Outcome};
 use crate::fragments::tail_next;
-use crate::{table, words};
+use crate::{survey, table, words};
 use gladhamre::cdb::{self, Cdb};
 use gladhamre::{Record, Refusal, SECTOR_BYTES};
 use mapped::Mapped;
-use script::{Data, Part};
+use script::{Command, Data, Part, Survey};
 use std::io::{self, Write};
 
 /// Commands from a blank disc on.
@@ -21,21 +21,29 @@ pub struct Run {
 impl Run {
     /// A part of a script, with a map.
     pub fn of_part(part: Part) -> Run {
-        let lines = part
-            .commands
-            .into_iter()
-            .map(|command| Line { cdb: command.cdb, data: command.data, expected: None })
-            .collect();
+        let lines = part.lines.into_iter().map(Line::from).collect();
         let title = format!("A disc of {} blocks", part.capacity);
         Run { title, capacity: part.capacity, lines, mapped: true }
     }
 }
 
-/// One command.
-pub struct Line {
-    pub cdb: Cdb,
-    pub data: Data,
-    pub expected: Option<Expected>,
+/// A line of a run.
+pub enum Line {
+    /// A command, with what is documented of it.
+    Command {
+        command: Command,
+        expected: Option<Expected>,
+    },
+    Survey(Survey),
+}
+
+impl From<script::Line> for Line {
+    fn from(line: script::Line) -> Line {
+        match line {
+            script::Line::Command(command) => Line::Command { command, expected: None },
+            script::Line::Survey(survey) => Line::Survey(survey),
+        }
+    }
 }
 
 /// The bytes that go with a command.
@@ -140,16 +148,24 @@ pub fn play(run: &Run, out: &mut impl Write) -> io::Result<(Disc, usize)> {
     let mut wrong = 0;
     writeln!(out, "\n{}\n", run.title)?;
     table::heading(out)?;
-    for (index, line) in run.lines.iter().enumerate() {
+    for (line, number) in run.lines.iter().zip(1..) {
+        let (command, expected) = match line {
+            Line::Command { command, expected } => (command, expected),
+            Line::Survey(survey) => {
+                survey::play(survey, &mut disc, out, number)?;
+                continue;
+            }
+        };
         let before = disc.state.clone();
-        let sent = data_bytes(&line.data, &line.cdb).and_then(|data| disc.send(&line.cdb, &data));
+        let sent =
+            data_bytes(&command.data, &command.cdb).and_then(|data| disc.send(&command.cdb, &data));
         let outcome = sent.map_err(|error| {
-            io::Error::other(format!("{}, command {}: {error}", run.title, index + 1))
+            io::Error::other(format!("{}, command {number}: {error}", run.title))
         })?;
-        let differences = line.expected.as_ref().map(|e| e.differences(&outcome, &disc));
+        let differences = expected.as_ref().map(|e| e.differences(&outcome, &disc));
         wrong += usize::from(differences.as_ref().is_some_and(|found| !found.is_empty()));
-        let command = table::Command { cdb: &line.cdb, outcome: &outcome, before: &before };
-        table::row(out, index + 1, &command, &disc, differences.as_deref())?;
+        let command = table::Command { cdb: &command.cdb, outcome: &outcome, before: &before };
+        table::row(out, number, &command, &disc, differences.as_deref())?;
     }
     Ok((disc, wrong))
 }

@@ -5,7 +5,7 @@ use crate::play::stamped;
 use crate::{Expected, Line, Run};
 use gladhamre::cdb::{self, Cdb};
 use gladhamre::{Record, SECTOR_BYTES};
-use script::Data;
+use script::{Command, Data};
 
 const CAPACITY: u32 = 300;
 
@@ -57,7 +57,7 @@ fn accepted(cdb: Cdb, next: u32, list: &[Record]) -> Line {
         pending: 0,
         list: list.to_vec(),
     };
-    Line { cdb, data: Data::Stamp, expected: Some(expected) }
+    Line::Command { command: Command { cdb, data: Data::Stamp }, expected: Some(expected) }
 }
 
 impl Line {
@@ -78,7 +78,9 @@ impl Line {
     }
 
     fn with(mut self, change: impl FnOnce(&mut Expected)) -> Line {
-        self.expected.as_mut().map(change);
+        if let Line::Command { expected: Some(expected), .. } = &mut self {
+            change(expected);
+        }
         self
     }
 }

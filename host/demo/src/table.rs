@@ -9,7 +9,7 @@ use gladhamre::{Refusal, State};
 use std::io::{self, Write};
 
 /// Width of the part that names the command.
-const LEFT: usize = 38;
+pub const LEFT: usize = 38;
 
 /// The most fragments of a list that is shown whole.
 const SHORT_LIST: usize = 8;

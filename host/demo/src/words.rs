@@ -1,6 +1,7 @@
 //! Commands, answers, senses, replies and fragments in words.
 
 use crate::fragments;
+use crate::track::Track;
 use gladhamre::cdb::{self, Cdb};
 use gladhamre::{Record, Refusal};
 
@@ -31,12 +32,12 @@ fn run(name: &str, cdb: &Cdb) -> String {
 
 fn track_information(by: u8, value: u32) -> String {
     let which = match (by, value) {
-        (0, address) => format!("address {address}"),
-        (1, 0xFF) => "tail".into(),
-        (1, number) => format!("number {number}"),
-        _ => format!("type {by}"),
+        (0, address) => format!(" at {address}"),
+        (1, 0xFF) => ", tail".into(),
+        (1, number) => format!(", number {number}"),
+        _ => format!(", type {by}"),
     };
-    format!("READ TRACK INFORMATION, {which}")
+    format!("READ TRACK INFORMATION{which}")
 }
 
 fn close(function: u8, number: u16) -> String {
@@ -87,6 +88,15 @@ pub fn sense([key, code, qualifier]: [u32; 3]) -> String {
         _ => "not of this drive",
     };
     format!("{key:X}/{code:02X}/{qualifier:02X} {name}")
+}
+
+/// A refusal, and why.
+pub fn refusal(refusal: Refusal) -> String {
+    let why = match refusal {
+        Refusal::Link(number) => link_refusal(number).into(),
+        Refusal::Drive { key, code, qualifier } => sense([key, code, qualifier].map(u32::from)),
+    };
+    format!("{:<9} {why}", answer::<()>(&Err(refusal)))
 }
 
 /// What is wrong on the link.
@@ -144,16 +154,9 @@ pub fn reply(cdb: &Cdb, reply: &[u8]) -> Option<String> {
             format!("last readable address {}, sectors of {} bytes", four(0), four(4))
         }
         (cdb::READ_DISC_INFORMATION, 34) => disc_information(reply),
-        (cdb::READ_FRAGMENT_INFORMATION, 36) => format!(
-            "fragment {}, session {}, {}first sector {}, next {}, free {}, length {}",
-            u16::from_be_bytes([reply[32], reply[2]]),
-            u16::from_be_bytes([reply[33], reply[3]]),
-            if reply[6] & 0x40 != 0 { "blank, " } else { "" },
-            four(8),
-            four(12),
-            four(16),
-            four(24)
-        ),
+        (cdb::READ_FRAGMENT_INFORMATION, cdb::FRAGMENT_INFORMATION_LENGTH) => {
+            Track::of(reply).to_string()
+        }
         (cdb::READ | cdb::READ_12, _) => sector_contents(reply),
         _ => hex(reply),
     };
@@ -197,6 +200,7 @@ pub fn reply_bytes(reply: &[u8]) -> String {
     }
 }
 
-fn number_at(bytes: &[u8], at: usize) -> u32 {
+/// A number of four bytes.
+pub fn number_at(bytes: &[u8], at: usize) -> u32 {
     u32::from_be_bytes([bytes[at], bytes[at + 1], bytes[at + 2], bytes[at + 3]])
 }

@@ -62,7 +62,7 @@ impl Player {
         }
         let text = format!("disc {}\n{line}", self.disc.state.capacity());
         let parts = script::parse(&text, Path::new(ROOT)).expect("a line of a script");
-        let command = &parts[0].commands[0];
+        let command = parts[0].commands().next().expect("a line has one command");
         let data = data_bytes(&command.data, &command.cdb).expect("address space");
         let outcome = self.disc.send(&command.cdb, &data).expect("address space");
         self.answers.insert(name(&outcome.answer));

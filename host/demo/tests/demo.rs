@@ -1,7 +1,7 @@
 //! The demo: document 01's answers and the notice of others, the table, the map and the image.
 
 use demo::map::{self, Sector};
-use demo::{image, play, shift, text, Disc, Map, Run};
+use demo::{image, play, shift, text, Disc, Line, Map, Run};
 use gladhamre::{cdb, Record, State, RECORD_LIMIT};
 use std::path::Path;
 use std::process::{Command, Output};
@@ -68,7 +68,10 @@ fn other_answers_are_noticed() {
     ];
     for (change, says) in changes {
         let mut run = shift::runs().swap_remove(0);
-        change(run.lines[2].expected.as_mut().expect("documented"));
+        let Line::Command { expected: Some(expected), .. } = &mut run.lines[2] else {
+            panic!("documented");
+        };
+        change(expected);
         let (_, wrong, text) = played(&run);
         assert_eq!(wrong, 1, "{says}");
         assert!(text.contains("NOT AS DOCUMENTED: ") && text.contains(says), "{says}: {text}");
@@ -478,7 +481,7 @@ fn program_ends_as_it_should() {
     assert_eq!(bad.status.code(), Some(2));
     let says = String::from_utf8_lossy(&bad.stderr).into_owned();
     assert!(
-        says.ends_with("bad.txt: line 2: \"0x2A\" is neither bytes in hexadecimal nor one of the words `disc` and `data`\n"),
+        says.ends_with("bad.txt: line 2: \"0x2A\" is neither bytes in hexadecimal nor one of the words `disc`, `survey` and `data`\n"),
         "{says}"
     );
     assert_eq!(demo(&["--what"]).status.code(), Some(2));

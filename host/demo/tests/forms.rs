@@ -41,7 +41,7 @@ fn read_back(part: &Part) -> (Vec<u8>, u32) {
     let mut disc = Disc::blank(part.capacity).expect("a capacity");
     let mut written = vec![0; part.capacity as usize * BLOCK_BYTES];
     let mut read = 0;
-    for command in &part.commands {
+    for command in part.commands() {
         let data = data_bytes(&command.data, &command.cdb).expect("address space");
         let outcome = disc.send(&command.cdb, &data).expect("address space");
         let (address, sectors) = cdb::run(&command.cdb);
@@ -68,8 +68,8 @@ fn read_back(part: &Part) -> (Vec<u8>, u32) {
 fn what_both_forms_write_is_what_they_read() {
     let parts = example();
     let [whole, cut, long] = parts.as_slice() else { panic!("three discs") };
-    assert_eq!(whole.commands[1].cdb, cdb::write_12(0, 4_800));
-    assert_eq!(whole.commands[2].cdb, cdb::read_12(0, 4_800));
+    let cdbs: Vec<cdb::Cdb> = whole.commands().map(|command| command.cdb).collect();
+    assert_eq!(cdbs[1..3], [cdb::write_12(0, 4_800), cdb::read_12(0, 4_800)]);
     let (by_one, read) = read_back(whole);
     assert_eq!(read, 2 * 4_800 + 1);
     assert!(by_one.chunks(SECTOR_BYTES).enumerate().all(|(address, sector)| {

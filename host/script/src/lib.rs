@@ -1,9 +1,14 @@
 //! A script of commands: a line for each, the command block in hexadecimal and where its data comes
-//! from. host/README.md describes the format, which tools/trace reads too.
+//! from, or one for all commands of a survey. host/README.md describes the format, which tools/trace
+//! reads too.
 //!
 //! Nothing here needs the linked drive, so a script is looked at before that is built.
 
 #![forbid(unsafe_code)]
+
+mod survey;
+
+pub use survey::Survey;
 
 use cdb::{Cdb, CDB_LENGTH, SECTOR_BYTES};
 use std::fmt;
@@ -18,17 +23,39 @@ pub const LARGEST_CAPACITY: u32 = 143_444;
 /// The capacity of a script that names none.
 const CAPACITY: u32 = 300;
 
-/// The bytes of a block, which is 16 sectors.
-const BLOCK_BYTES: usize = 16 * SECTOR_BYTES;
+/// Sectors and bytes of a block.
+const BLOCK_SECTORS: u32 = 16;
+const BLOCK_BYTES: usize = BLOCK_SECTORS as usize * SECTOR_BYTES;
 
 /// No script has more bytes.
 const LONGEST_SCRIPT: usize = 16 << 20;
 
-/// Commands from a blank disc on.
+/// What is asked of the drive from a blank disc on.
 #[derive(Debug)]
 pub struct Part {
     pub capacity: u32,
-    pub commands: Vec<Command>,
+    pub lines: Vec<Line>,
+}
+
+impl Part {
+    fn blank(capacity: u32) -> Part {
+        Part { capacity, lines: Vec::new() }
+    }
+
+    /// The lines of one command each.
+    pub fn commands(&self) -> impl Iterator<Item = &Command> {
+        self.lines.iter().filter_map(|line| match line {
+            Line::Command(command) => Some(command),
+            Line::Survey(_) => None,
+        })
+    }
+}
+
+/// What a line asks of the drive.
+#[derive(Debug)]
+pub enum Line {
+    Command(Command),
+    Survey(Survey),
 }
 
 /// One command.
@@ -85,14 +112,14 @@ pub fn parse(text: &str, folder: &Path) -> Result<Vec<Part>, ScriptError> {
             ["disc", rest @ ..] => parts.push(blank_disc(rest).map_err(at)?),
             words => {
                 if parts.is_empty() {
-                    parts.push(Part { capacity: CAPACITY, commands: Vec::new() });
+                    parts.push(Part::blank(CAPACITY));
                 }
                 let part = parts.last_mut().expect("there is one now");
-                part.commands.push(command(words, folder, part.capacity).map_err(at)?);
+                part.lines.push(asked(words, folder, part.capacity).map_err(at)?);
             }
         }
     }
-    match parts.iter().any(|part| !part.commands.is_empty()) {
+    match parts.iter().any(|part| !part.lines.is_empty()) {
         true => Ok(parts),
         false => {
             let line = text.lines().count().max(1);
@@ -112,7 +139,15 @@ fn blank_disc(words: &[&str]) -> Result<Part, String> {
             "a disc has {SMALLEST_CAPACITY} to {LARGEST_CAPACITY} blocks, this one {capacity}"
         ));
     }
-    Ok(Part { capacity, commands: Vec::new() })
+    Ok(Part::blank(capacity))
+}
+
+/// What is asked of a disc of this capacity.
+fn asked(words: &[&str], folder: &Path, capacity: u32) -> Result<Line, String> {
+    match words {
+        ["survey", rest @ ..] => Survey::of(rest, capacity).map(Line::Survey),
+        _ => command(words, folder, capacity).map(Line::Command),
+    }
 }
 
 /// A command for a disc of this capacity.
@@ -143,7 +178,10 @@ fn hex_bytes(word: &str) -> Result<Vec<u8>, String> {
     let digits: Option<Vec<u8>> =
         word.chars().map(|digit| digit.to_digit(16).map(|value| value as u8)).collect();
     let digits = digits.ok_or_else(|| {
-        format!("\"{word}\" is neither bytes in hexadecimal nor one of the words `disc` and `data`")
+        format!(
+            "\"{word}\" is neither bytes in hexadecimal nor one of the words `disc`, `survey` and \
+             `data`"
+        )
     })?;
     if digits.len() % 2 != 0 {
         return Err(format!("\"{word}\" has an odd number of hexadecimal digits"));

@@ -2,7 +2,7 @@
 //! format.
 
 use cdb::{Cdb, CDB_LENGTH};
-use script::{parse, Data, Part};
+use script::{parse, Data, Line, Part, Survey};
 use std::fs::{self, File};
 use std::io::Write;
 use std::path::{Path, PathBuf};
@@ -13,6 +13,20 @@ const SCRIPTS: &str = concat!(env!("CARGO_MANIFEST_DIR"), "/../demo/scripts");
 
 fn parsed(text: &str) -> Result<Vec<Part>, String> {
     parse(text, Path::new(SCRIPTS)).map_err(|error| error.to_string())
+}
+
+/// The command of a part's line, from 0.
+fn command(part: &Part, index: usize) -> &script::Command {
+    part.commands().nth(index).expect("a command")
+}
+
+/// Every command block that a part sends.
+fn cdbs(part: &Part) -> Vec<Cdb> {
+    let of_line = |line: &Line| match line {
+        Line::Command(command) => vec![command.cdb],
+        Line::Survey(survey) => survey.cdbs().collect(),
+    };
+    part.lines.iter().flat_map(of_line).collect()
 }
 
 #[test]
@@ -28,14 +42,14 @@ fn scripts_are_read() {
         A8 00 00000010 00000FF0\n";
     let parts = parsed(text).expect("a good script");
     assert_eq!(parts.iter().map(|part| part.capacity).collect::<Vec<_>>(), [300, 256]);
-    assert_eq!(parts[0].commands[0].cdb, cdb::write(0, 1));
-    assert_eq!(parts[0].commands[0].data, Data::Fill(0xFF));
-    assert_eq!(parts[1].commands[0].cdb, cdb::write(0, 1));
-    assert_eq!(parts[1].commands[0].data, Data::Stamp);
-    assert_eq!(parts[1].commands[1].data, Data::Zeros(7));
-    assert_eq!(parts[1].commands[2].cdb, cdb::write_12(16, 4_080));
-    assert_eq!(parts[1].commands[2].data, Data::Fill(0x12));
-    assert_eq!(parts[1].commands[3].cdb, cdb::read_12(16, 4_080));
+    assert_eq!(command(&parts[0], 0).cdb, cdb::write(0, 1));
+    assert_eq!(command(&parts[0], 0).data, Data::Fill(0xFF));
+    assert_eq!(command(&parts[1], 0).cdb, cdb::write(0, 1));
+    assert_eq!(command(&parts[1], 0).data, Data::Stamp);
+    assert_eq!(command(&parts[1], 1).data, Data::Zeros(7));
+    assert_eq!(command(&parts[1], 2).cdb, cdb::write_12(16, 4_080));
+    assert_eq!(command(&parts[1], 2).data, Data::Fill(0x12));
+    assert_eq!(command(&parts[1], 3).cdb, cdb::read_12(16, 4_080));
 }
 
 /// The data of a WRITE of more sectors than its disc has is zeros, however it is named; that of one
@@ -43,8 +57,8 @@ fn scripts_are_read() {
 #[test]
 fn zeros_take_the_place_of_what_no_disc_holds() {
     let data_of = |line: &str| {
-        let mut parts = parsed(line).expect("a good script");
-        parts.remove(0).commands.remove(0).data
+        let parts = parsed(line).expect("a good script");
+        command(&parts[0], 0).data.clone()
     };
     let longest = Data::Zeros(cdb::LONGEST_DATA);
     for (line, data) in [
@@ -65,17 +79,40 @@ fn zeros_take_the_place_of_what_no_disc_holds() {
     }
 }
 
-/// What is no command block, with the message; tools/trace says the same.
-const NO_CDBS: [(&str, &str); 11] = [
+/// A survey asks for the sectors 0, step, 2 × step and so on that the disc has.
+#[test]
+fn surveys_are_read() {
+    for (text, step, capacity, asked) in [
+        ("survey 1000", 1_000, 300, vec![0, 1_000, 2_000, 3_000, 4_000]),
+        ("disc 256\nsurvey 1024 # four", 1_024, 256, vec![0, 1_024, 2_048, 3_072]),
+        ("disc 256\nsurvey 1", 1, 256, (0..4_096).collect()),
+        ("survey 4799", 4_799, 300, vec![0, 4_799]),
+        ("survey 4800", 4_800, 300, vec![0]),
+        ("disc 143444\nsurvey 2295103", 2_295_103, 143_444, vec![0, 2_295_103]),
+        ("disc 143444\nsurvey 2295104", 2_295_104, 143_444, vec![0]),
+    ] {
+        let parts = parsed(text).expect("a good script");
+        let [Line::Survey(survey)] = parts[0].lines[..] else { panic!("{text:?} is a survey") };
+        assert_eq!(survey, Survey { step, capacity }, "{text:?}");
+        let by_address = |address| cdb::read_fragment_information(0, address, 36);
+        let asked: Vec<Cdb> = asked.into_iter().map(by_address).collect();
+        assert_eq!(survey.cdbs().collect::<Vec<_>>(), asked, "{text:?}");
+    }
+    let every_sector = Survey { step: 1, capacity: 143_444 };
+    assert_eq!(every_sector.cdbs().count(), 2_295_104);
+}
+
+/// What is neither a command block nor a survey, with the message; tools/trace says the same.
+const NO_CDBS: [(&str, &str); 24] = [
     ("", "line 1: the script has no command"),
     ("# nothing\n\n", "line 2: the script has no command"),
     (
         "hello world",
-        "line 1: \"hello\" is neither bytes in hexadecimal nor one of the words `disc` and `data`",
+        "line 1: \"hello\" is neither bytes in hexadecimal nor one of the words `disc`, `survey` and `data`",
     ),
     (
         "00\n0x2A",
-        "line 2: \"0x2A\" is neither bytes in hexadecimal nor one of the words `disc` and `data`",
+        "line 2: \"0x2A\" is neither bytes in hexadecimal nor one of the words `disc`, `survey` and `data`",
     ),
     ("\n\n2A0", "line 3: \"2A0\" has an odd number of hexadecimal digits"),
     ("2 A", "line 1: \"2\" has an odd number of hexadecimal digits"),
@@ -85,11 +122,30 @@ const NO_CDBS: [(&str, &str); 11] = [
     ),
     (
         "2A\u{a0}00",
-        "line 1: \"2A\u{a0}00\" is neither bytes in hexadecimal nor one of the words `disc` and `data`",
+        "line 1: \"2A\u{a0}00\" is neither bytes in hexadecimal nor one of the words `disc`, `survey` and `data`",
     ),
     ("data fill 00", "line 1: a command block has 1 to 12 bytes, this one 0"),
     ("00 data", "line 1: data is `stamp`, `fill BYTE`, `file NAME` or `length COUNT`"),
     ("00 data fill", "line 1: data is `stamp`, `fill BYTE`, `file NAME` or `length COUNT`"),
+    ("survey", "line 1: write `survey` and a number of sectors"),
+    ("00\nsurvey # by what?", "line 2: write `survey` and a number of sectors"),
+    ("survey 1000 2000", "line 1: write `survey` and a number of sectors"),
+    ("survey 1000 data stamp", "line 1: write `survey` and a number of sectors"),
+    ("survey 0", "line 1: `survey` takes 1 to 2295104 sectors, not \"0\""),
+    ("survey 2295105", "line 1: `survey` takes 1 to 2295104 sectors, not \"2295105\""),
+    (
+        "survey 99999999999999999999",
+        "line 1: `survey` takes 1 to 2295104 sectors, not \"99999999999999999999\"",
+    ),
+    ("survey -1000", "line 1: `survey` takes 1 to 2295104 sectors, not \"-1000\""),
+    ("survey 1.5", "line 1: `survey` takes 1 to 2295104 sectors, not \"1.5\""),
+    ("survey 3E8", "line 1: `survey` takes 1 to 2295104 sectors, not \"3E8\""),
+    ("\nsurvey many", "line 2: `survey` takes 1 to 2295104 sectors, not \"many\""),
+    ("survey \\", "line 1: `survey` takes 1 to 2295104 sectors, not \"\\\""),
+    (
+        "52 survey 1000",
+        "line 1: \"survey\" is neither bytes in hexadecimal nor one of the words `disc`, `survey` and `data`",
+    ),
 ];
 
 #[test]
@@ -149,11 +205,11 @@ fn files_have_the_sectors_that_the_command_takes() {
     assert!(missing.starts_with("line 1: ") && missing.contains("missing.csv: "), "{missing}");
     for cdb in ["2A0000000000000003", "AA000000000000000003"] {
         let parts = with(cdb, "readings.csv").expect("it fits");
-        let Data::Bytes(bytes) = &parts[0].commands[0].data else { panic!("a file's bytes") };
+        let Data::Bytes(bytes) = &command(&parts[0], 0).data else { panic!("a file's bytes") };
         assert_eq!(bytes.len(), 3 * cdb::SECTOR_BYTES);
     }
     let parts = with("AA000000000002000000", &endless).expect("it fits the command");
-    assert_eq!(parts[0].commands[0].data, Data::Zeros(1 << 36));
+    assert_eq!(command(&parts[0], 0).data, Data::Zeros(1 << 36));
     fs::remove_file(endless).expect("it was there");
 }
 
@@ -210,14 +266,16 @@ fn traces_are_made_of_the_same_cdbs() {
         "2A000000000000000100FFFF data fill A1\n2A 00 00000001 00 0003 data file readings.csv\n",
         "AA 00 00000000 000012C0\nA8 00 00000000 000012C0 80 FF\nA8 00 FFFFFFFF FFFFFFFF\n",
         "aa 08 00000000 FFFFFFFF data fill A1\nAA0000000000000000030000 data file readings.csv\n",
+        "survey 1000\n",
+        "disc 300\n2A 00 00000000 00 0014\nsurvey 7 # 686 of them\n35\nsurvey +0999\n",
+        "survey 1\nsurvey 4799\nsurvey 4800\nsurvey 2295104",
         &every_byte,
         &commands.join("\n"),
     ] {
         let parts = parsed(text).expect("a good script");
-        let cdbs: Vec<Cdb> = parts[0].commands.iter().map(|command| command.cdb).collect();
         let made = traced(text);
         assert!(made.status.success() && made.stderr.is_empty(), "{text}");
-        assert_eq!(made.stdout, trace_of(&cdbs), "{text}");
+        assert_eq!(made.stdout, trace_of(&cdbs(&parts[0])), "{text}");
     }
 }
 
@@ -229,13 +287,15 @@ fn traces_are_refused_by_line() {
     let no_trace = [
         ("disc 256\n00", format!("line 1: {one_disc}")),
         ("00\ndisc 300", format!("line 2: {one_disc}")),
+        ("survey 1000\ndisc 300", format!("line 2: {one_disc}")),
+        ("disc 480\nsurvey 1000", format!("line 1: {one_disc}")),
         ("00\n2A data length 7", format!("line 2: {other_length}")),
         ("AA 00 00000000 00000001 data length 2047", format!("line 1: {other_length}")),
         ("A8\nAA 00 00000000 FFFFFFFF data length 1", format!("line 2: {other_length}")),
         ("00 data fill 0000", "line 1: `fill` takes one byte in hexadecimal, not \"0000\"".into()),
         (
             "2A\0",
-            "line 1: \"2A?\" is neither bytes in hexadecimal nor one of the words `disc` and `data`"
+            "line 1: \"2A?\" is neither bytes in hexadecimal nor one of the words `disc`, `survey` and `data`"
                 .into(),
         ),
     ];

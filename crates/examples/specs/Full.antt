@@ -33,6 +33,15 @@ wide n = 0 ∷ 0 ∷ (n / 256) ∷ (n % 256) ∷ []
 abbrev writeAt : ℕ → ℕ → List ℕ
 writeAt a n = cdb (0x2A ∷ 0 ∷ (wide a ++ (0 ∷ 0 ∷ n ∷ [])))
 
+-- READ TRACK INFORMATION at one, and what it says of the tail of a full list
+abbrev trackAt : ℕ → List ℕ
+trackAt a = cdb (0x52 ∷ 0 ∷ (wide a ++ (0 ∷ 0 ∷ 36 ∷ [])))
+
+abbrev tailReport : List ℕ
+tailReport =
+    0 ∷ 0x22 ∷ limit ∷ 1 ∷ 0 ∷ 4 ∷ 0x41 ∷ 1
+    ∷ (wide (16 * lastStart) ++ wide (16 * lastStart) ++ wide 2080 ++ wide 16 ++ wide 2080 ++ replicate 8 0)
+
 -- a full list: the last record reserved, with w of its two blocks recorded; and session 2 in the record of a blank tail
 abbrev fullList : ℕ → List Fragment
 fullList w = column (limit - 1) 0 ++ (fragment 1 lastStart 2 w 0 Reserved ∷ [])
@@ -105,12 +114,20 @@ droppedRun =
     (sense 0 0 0) (16 * lastStart) 0 fullOfTail
     -- 52h of the last number: a blank tail, 16 x 130 = 2,080 sectors free; the one after it is none
     ∷ line (cdb (0x52 ∷ 1 ∷ 0 ∷ 0 ∷ 0 ∷ limit ∷ 0 ∷ 0 ∷ 36 ∷ [])) 0 0
-    (0 ∷ 0x22 ∷ limit ∷ 1 ∷ 0 ∷ 4 ∷ 0x41 ∷ 1
-    ∷ (wide (16 * lastStart) ++ wide (16 * lastStart) ++ wide 2080 ++ wide 16 ++ wide 2080 ++ replicate 8 0))
-    (sense 0 0 0) (16 * lastStart) 0 fullOfTail
+    tailReport (sense 0 0 0) (16 * lastStart) 0 fullOfTail
     ∷ line (cdb (0x52 ∷ 1 ∷ 0 ∷ 0 ∷ 0 ∷ (limit + 1) ∷ 0 ∷ 0 ∷ 36 ∷ [])) 0x052400 0 [] (sense 0x5 0x24 0x00) (16 * lastStart) 0 fullOfTail
+    -- 52h by address: the last sector of the disc lies in the same fragment, the one before its first in a dividing block
+    ∷ line (trackAt (16 * crowded - 1)) 0 0 tailReport (sense 0 0 0) (16 * lastStart) 0 fullOfTail
+    ∷ line (trackAt (16 * lastStart - 1)) 0x052100 0 [] (sense 0x5 0x21 0x00) (16 * lastStart) 0 fullOfTail
     -- 5B/010, which drops the blank tail and so keeps one record fewer: session 2, 128 blocks after the last of those
     ∷ line (cdb (0x5B ∷ 0 ∷ 2 ∷ [])) 0 0 [] (sense 0 0 0) (16 * (lastStart + 127)) 0 openedList
+    ∷ []
+
+abbrev pendingRun : List Line
+pendingRun =
+    -- three sectors pending in the tail of a full list; 5B/010 would keep the tail, so it is refused, and flushes nothing
+    line (writeAt (16 * lastStart) 3) 0 0 [] (sense 0 0 0) (16 * lastStart + 3) 3 fullOfTail
+    ∷ line (cdb (0x5B ∷ 0 ∷ 2 ∷ [])) 0x057205 0 [] (sense 0x5 0x72 0x05) (16 * lastStart + 3) 3 fullOfTail
     ∷ []
 
 -- a run: the list that it starts on, and its lines, each on what the last one left
@@ -130,13 +147,13 @@ performed d (l ∷ ls) =
 abbrev pub runs : List Run
 runs =
     from (oneFree 1) lastFreeRun ∷ from (oneFree 0) lastReservedRun ∷ from (oneFree 1) lastSessionRun ∷ from (fullList 1) fullRun
-    ∷ from fullOfTail droppedRun ∷ []
+    ∷ from fullOfTail droppedRun ∷ from fullOfTail pendingRun ∷ []
 
 -- the disc that a run starts on
 abbrev pub start : Run → Disc
 start r = on crowded 0 0 false (r .list)
 
-pub sound-starts : map (λ (r : Run). allowedState (start r)) runs ≡ true ∷ true ∷ true ∷ true ∷ true ∷ []
+pub sound-starts : map (λ (r : Run). allowedState (start r)) runs ≡ true ∷ true ∷ true ∷ true ∷ true ∷ true ∷ []
 unfolding
     allowedState sound column listed every usedFirst firstAtZero followsFrom inOrder endsWithin recordedWithin zeroedWithin
     incompleteLast tailLast tailOrFull pendingNamed finalizedComplete allowedSense isRefusalSense

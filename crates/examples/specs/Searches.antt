@@ -1,13 +1,13 @@
 -- The search for the fragment that an address lies in, computed: what it finds, and which records it looks at on the way.
-use Prim.Native.Nat.{ℕ, _+_, _-_, _*_, _/_}
+use Prim.Native.Nat.{ℕ, zero, suc, _+_, _-_, _*_}
 use mathlib.Core.Path.{_≡_, refl}
 use mathlib.Core.List.{List, [], _∷_, _++_, map}
-use lib.ListN.{length, replicate}
+use lib.ListN.{replicate}
 use Rattle.examples.specs.Types.{Fragment, Appended, Reserved, Left, Right, Here}
 use Rattle.fragments.specs.Address.{lba}
 use Rattle.fragments.specs.Fragment.{fragment, unusedRecord}
-use Rattle.fragments.specs.List.{limit, listed, find, holderOf}
-use Rattle.search.specs.Search.{step, finds, seen, halve, steps, halving, held}
+use Rattle.fragments.specs.List.{limit}
+use Rattle.search.specs.Search.{step, finds, seen, halve, steps, halving}
 use Rattle.examples.specs.States.{column, lastStart, fullOfTail}
 
 -- blocks 2 and 3, so sectors 32 to 63: an address before them, the first and the last of them, the one after; and a record not in use
@@ -35,14 +35,14 @@ unfolding finds seen halve
 few-records = (refl, refl, refl, refl)
 
 -- a full list of fragments of a block each, the last one a tail: every one at its first sector, by its index, and the dividing block after it
-unfoldable upTo : ℕ → List ℕ
-upTo zero = []
-upTo (suc n) = upTo n ++ (n ∷ [])
+unfoldable pub indices : ℕ → List ℕ
+indices zero = []
+indices (suc n) = indices n ++ (n ∷ [])
 
 pub every-record :
-    (map (λ i. number fullOfTail (32 * i)) (upTo limit) ≡ map (λ i. i + 1) (upTo limit))
-    × (map (λ i. number fullOfTail (32 * i + 16)) (upTo (limit - 1)) ≡ replicate (limit - 1) 0)
-unfolding finds halve column upTo
+    (map (λ i. number fullOfTail (32 * i)) (indices limit) ≡ map (λ i. i + 1) (indices limit))
+    × (map (λ i. number fullOfTail (32 * i + 16)) (indices (limit - 1)) ≡ replicate (limit - 1) 0)
+unfolding finds halve column indices
 every-record = (refl, refl)
 
 -- the last is found by the seventh look, one beyond the end looked for in vain by seven; eight looks are needed for some, as the first

@@ -1,7 +1,6 @@
 use Prim.Native.Nat.{ℕ, _-_, _≤_}
 use mathlib.Core.Path.{_≡_}
 use native.Mathlib.Omega.{arith}
-use Rattle.disc.specs.Records.{numbered}
 use Rattle.reporting.specs.Reports.{freeSectors}
 use borrow.Author.Needs.{needs}
 use Rattle.reporting.proofs.track_information.free_sectors.Statement.{statement}

@@ -42,7 +42,7 @@ fn against_the_plain_drive() {
 /// Sequences from a blank disc find every mistake of commands, without any state injected.
 #[test]
 fn by_sequences_alone() {
-    for fault in Fault::OF_COMMANDS {
+    for fault in Fault::of_commands() {
         let faulty = Plain { fault: Some(fault) };
         let mut pair = Pair::new(&Linked, &faulty, CAPACITY);
         let found = sequences(&mut pair, CAPACITY, seed(), SEQUENCES);

@@ -23,6 +23,11 @@ pub enum Search {
 pub enum Slip {
     /// It ends a step early: some records are never reached.
     StepTooFew,
+    /// It has as many steps as the list's length halves to 1, each half rounded down: too few unless
+    /// the length is a power of two.
+    StepsRoundedDown,
+    /// It begins with as many records as seven steps halve to one: those after them are never reached.
+    SevenStepsOfRecords,
     /// The middle of two records is the first: the second is never reached.
     MiddleTooLow,
     /// It begins with the second record: the first is never reached.
@@ -53,8 +58,10 @@ pub enum Slip {
 
 impl Slip {
     /// Those on the way to the fragment.
-    const OF_STARTS: [Slip; 9] = [
+    const OF_STARTS: [Slip; 11] = [
         Slip::StepTooFew,
+        Slip::StepsRoundedDown,
+        Slip::SevenStepsOfRecords,
         Slip::MiddleTooLow,
         Slip::FirstLeftOut,
         Slip::LastLeftOut,
@@ -135,7 +142,7 @@ impl Halving<'_> {
     fn place(&self, address: Address) -> (usize, usize) {
         let Range { mut start, mut end } = self.range();
         let mut middle = start;
-        for _ in 0..STEPS - self.one_if(Slip::StepTooFew) {
+        for _ in 0..self.steps() {
             if end - start < 2 {
                 break;
             }
@@ -149,9 +156,20 @@ impl Halving<'_> {
         (start, middle)
     }
 
+    /// The most steps that it takes.
+    fn steps(&self) -> usize {
+        match self.slip {
+            Some(Slip::StepTooFew) => STEPS - 1,
+            Some(Slip::StepsRoundedDown) => self.fragments.len().ilog2() as usize,
+            _ => STEPS,
+        }
+    }
+
     /// The records to begin with.
     fn range(&self) -> Range<usize> {
         match self.slip {
+            Some(Slip::StepsRoundedDown) => 0..self.fragments.len(),
+            Some(Slip::SevenStepsOfRecords) => 0..1 << (STEPS - 1),
             Some(Slip::FirstLeftOut) => 1..FRAGMENT_LIMIT,
             Some(Slip::LastLeftOut) => 0..FRAGMENT_LIMIT - 1,
             Some(Slip::LimitOfBefore) => 0..FORMER_LIMIT,
@@ -236,9 +254,9 @@ mod tests {
         }
     }
 
-    /// How many places of the full list are never reached.
-    fn missed(slip: Slip) -> usize {
-        let disc = disc(FRAGMENT_LIMIT);
+    /// How many places of a list are never reached.
+    fn missed(slip: Slip, count: usize) -> usize {
+        let disc = disc(count);
         let halving = Halving { fragments: &disc.fragments, slip: Some(slip) };
         let middle = |fragment: &Fragment| fragment.start.first_sector() + 5;
         let found = |(index, fragment)| halving.find(middle(fragment)) == Some(index);
@@ -248,10 +266,15 @@ mod tests {
     /// A mistake that loses few places is the harder to find.
     #[test]
     fn some_mistakes_lose_few_places() {
-        assert_eq!(missed(Slip::StepTooFew), FRAGMENT_LIMIT / 5);
-        assert_eq!(missed(Slip::FirstLeftOut), 1);
-        assert_eq!(missed(Slip::LastLeftOut), 1);
-        assert_eq!(missed(Slip::StartExcluded), 0);
-        assert_eq!(missed(Slip::UnusedStartsAtZero), 0);
+        assert_eq!(missed(Slip::StepTooFew, FRAGMENT_LIMIT), FRAGMENT_LIMIT / 5);
+        assert_eq!(missed(Slip::StepsRoundedDown, 3), 1);
+        assert_eq!(missed(Slip::StepsRoundedDown, 64), 0);
+        assert_eq!(missed(Slip::SevenStepsOfRecords, 128), 0);
+        assert_eq!(missed(Slip::SevenStepsOfRecords, 129), 1);
+        assert_eq!(missed(Slip::FirstLeftOut, FRAGMENT_LIMIT), 1);
+        assert_eq!(missed(Slip::LastLeftOut, FRAGMENT_LIMIT), 1);
+        assert_eq!(missed(Slip::LastLeftOut, FRAGMENT_LIMIT - 1), 0);
+        assert_eq!(missed(Slip::StartExcluded, FRAGMENT_LIMIT), 0);
+        assert_eq!(missed(Slip::UnusedStartsAtZero, FRAGMENT_LIMIT), 0);
     }
 }

@@ -6,6 +6,7 @@
 
 #![forbid(unsafe_code)]
 
+mod aim;
 mod bench;
 mod coverage;
 pub mod demand3;
@@ -26,6 +27,8 @@ mod random;
 mod readable;
 mod request;
 pub mod rounds;
+mod searches;
+mod seat;
 mod situations;
 mod spoil;
 mod states;

@@ -1,5 +1,6 @@
 //! Sound states that are made directly, reachable or not.
 
+use crate::searches::LENGTHS;
 use crate::Random;
 use gladhamre::{Record, State, RECORD_LIMIT, STATE_WORDS};
 use plain::Sense;
@@ -105,8 +106,9 @@ fn layout(random: &mut Random, capacity: u32, ending: Ending) -> Vec<Record> {
 
 fn record_count(random: &mut Random, most: u32, ending: Ending) -> u32 {
     let most = u64::from(most);
-    let count = match random.below(6) {
+    let count = match random.below(8) {
         _ if ending == Ending::ListFull => most,
+        6 | 7 => most.min(random.pick(&LENGTHS) as u64),
         0 => 1,
         1 => random.between(2, 3),
         2 => random.between(most - 2, most),

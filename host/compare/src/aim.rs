@@ -19,7 +19,7 @@ impl Generator {
     pub fn searches(&mut self, state: &State) -> u64 {
         let once_in = match state.records().count() {
             _ if self.mood == Mood::Hostile => return 0,
-            count if !LENGTHS.contains(&count) => 16,
+            count if !LENGTHS.contains(&count) => 40,
             127..RECORD_LIMIT => return 4,
             31..127 => 1,
             7..31 => 2,

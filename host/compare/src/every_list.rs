@@ -42,7 +42,7 @@ impl fmt::Display for Tally {
 pub enum Addresses {
     /// At and beside the edges of each fragment, between two of them, and at the disc's end.
     Edges,
-    /// At every sector of the disc, too.
+    /// At every sector of the disc, and after its end.
     All,
 }
 
@@ -174,7 +174,7 @@ impl<'a> Trial<'a> {
             false => OUT_OF_RANGE,
         };
         let reply = self.send(state, cdb, number)?;
-        if is_readable && reply[..4] != probe.address.to_be_bytes() {
+        if is_readable && reply[..4] != stamp(probe.address) {
             return Err(wrong(&cdb, "another sector"));
         }
         Ok(is_readable)
@@ -232,12 +232,12 @@ impl<'a> Trial<'a> {
         }
     }
 
-    /// Puts an address into its sector on both media, if they have it.
+    /// Stamps a sector on both media, if they have it.
     fn stamp(&mut self, address: u32, state: &State) {
         let at = address as usize * SECTOR_BYTES;
         if address < 16 * state.capacity() {
             for side in &mut self.sides {
-                side.medium[at..at + 4].copy_from_slice(&address.to_be_bytes());
+                side.medium[at..at + 4].copy_from_slice(&stamp(address));
             }
         }
     }
@@ -249,14 +249,19 @@ impl<'a> Trial<'a> {
     }
 }
 
-/// A pending buffer in which each pending sector begins with its address.
+/// What the sector at an address begins with: never zeros.
+fn stamp(address: u32) -> [u8; 4] {
+    (!address).to_be_bytes()
+}
+
+/// A pending buffer in which each pending sector has its stamp.
 fn stamped_pending(state: &State) -> Vec<u8> {
     let mut held = vec![0; BLOCK_BYTES];
     if let Some(holder) = (state.pending_fragment() as usize).checked_sub(1) {
         let first = readable_end(state, holder) - state.pending_count();
         let sectors = held.chunks_mut(SECTOR_BYTES).take(state.pending_count() as usize);
         for (address, sector) in (first..).zip(sectors) {
-            sector[..4].copy_from_slice(&address.to_be_bytes());
+            sector[..4].copy_from_slice(&stamp(address));
         }
     }
     held

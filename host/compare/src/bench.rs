@@ -22,15 +22,23 @@ impl<'a> Bench<'a> {
         capacity: u32,
         random: &mut Random,
     ) -> Result<Bench<'a>, String> {
-        let mut words = [0; STATE_WORDS];
-        if drive.blank(capacity, &mut words) != 0 {
+        let mut bench = Bench::unwritten(drive, capacity);
+        if drive.blank(capacity, bench.state.words_mut()) != 0 {
             return Err(format!("no blank disc of {capacity} blocks"));
         }
-        let mut medium = vec![0; capacity as usize * BLOCK_BYTES];
-        let mut pending = vec![0; BLOCK_BYTES];
-        fill_from_pool(&mut medium, random);
-        fill_from_pool(&mut pending, random);
-        Ok(Bench { drive, state: State::from_words(words), medium, pending })
+        fill_from_pool(&mut bench.medium, random);
+        fill_from_pool(&mut bench.pending, random);
+        Ok(bench)
+    }
+
+    /// The all-zero state, and buffers that take memory only where they are touched.
+    pub fn unwritten(drive: &'a dyn Drive, blocks: u32) -> Bench<'a> {
+        Bench {
+            drive,
+            state: State::from_words([0; STATE_WORDS]),
+            medium: vec![0; blocks as usize * BLOCK_BYTES],
+            pending: vec![0; BLOCK_BYTES],
+        }
     }
 
     /// Sends a command; gives its answer and the bytes of its reply.

@@ -3,6 +3,7 @@
 use crate::cdb::{self, Cdb};
 use crate::discs;
 use crate::event::Event;
+use crate::searches::Searches;
 use crate::situations;
 use gladhamre::State;
 use std::collections::BTreeMap;
@@ -19,6 +20,8 @@ pub struct Coverage {
     of_long_forms: Met,
     /// How often each form of READ and WRITE got each answer on each kind of disc.
     on_discs: BTreeMap<(&'static str, &'static str, u32), u64>,
+    /// Where the address of 52h, READ and WRITE lay.
+    pub searches: Searches,
     pub blocks_recorded: u64,
     pub most_records: usize,
     pub most_sessions: u32,
@@ -101,6 +104,7 @@ impl Coverage {
     }
 
     fn note_situations(&mut self, event: &Event) {
+        self.searches.note(event);
         let long_form = matches!(event.cdb[0], cdb::READ_12 | cdb::WRITE_12);
         for (index, (_, is_met)) in situations::all().enumerate() {
             let met = u64::from(is_met(event));
@@ -150,6 +154,7 @@ impl Coverage {
         for (&key, &count) in &other.on_discs {
             *self.on_discs.entry(key).or_default() += count;
         }
+        self.searches.add(&other.searches);
         self.blocks_recorded += other.blocks_recorded;
         self.most_records = self.most_records.max(other.most_records);
         self.most_sessions = self.most_sessions.max(other.most_sessions);
@@ -235,6 +240,7 @@ impl fmt::Display for Coverage {
         for meetings in self.situations() {
             writeln!(out, "{meetings}")?;
         }
+        writeln!(out, "{}", self.searches)?;
         writeln!(
             out,
             "deepest states: {} records, {} of them incomplete, {} sessions",

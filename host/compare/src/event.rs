@@ -4,6 +4,13 @@ use crate::cdb::{self, Cdb};
 use crate::Request;
 use gladhamre::{Answer, Record, State, RECORD_LIMIT};
 
+/// What the drive refuses a READ or a WRITE by.
+pub const OUT_OF_RANGE: u32 = 0x052100;
+pub const BLANK_CHECK: u32 = 0x080000;
+pub const PROTECTED: u32 = 0x072700;
+pub const NOT_WRITABLE: u32 = 0x052102;
+pub const NO_ROOM: u32 = 0x056300;
+
 /// Blocks between two sessions.
 const SESSION_GAP: u32 = 128;
 
@@ -29,8 +36,8 @@ pub fn lacks_one(state: &State) -> bool {
     !is_full(state) && state.record(RECORD_LIMIT - 2) != Record::default()
 }
 
-/// Where in the list the fragment with the pending sectors stands.
-#[derive(Clone, Copy, Debug, PartialEq, Eq)]
+/// Where in the list a fragment stands.
+#[derive(Clone, Copy, Debug, PartialEq, Eq, PartialOrd, Ord)]
 pub enum Position {
     Only,
     First,
@@ -39,14 +46,21 @@ pub enum Position {
 }
 
 impl Position {
-    /// None where no sectors are pending.
+    /// Of the fragment with the pending sectors; none where no sectors are pending.
     pub fn of(state: &State) -> Option<Position> {
-        match (state.pending_fragment() as usize, state.records().count()) {
-            (0, _) => None,
-            (1, 1) => Some(Position::Only),
-            (1, _) => Some(Position::First),
-            (number, count) if number == count => Some(Position::Last),
-            _ => Some(Position::Middle),
+        match state.pending_fragment() as usize {
+            0 => None,
+            number => Some(Position::in_list(number, state.records().count())),
+        }
+    }
+
+    /// Of the fragment of that number, among so many.
+    pub fn in_list(number: usize, count: usize) -> Position {
+        match number {
+            1 if count == 1 => Position::Only,
+            1 => Position::First,
+            _ if number == count => Position::Last,
+            _ => Position::Middle,
         }
     }
 }

@@ -2,7 +2,7 @@
 //! past the disc, past 32 bits, or to buffers of more bytes than 32 bits can say.
 
 use crate::cdb;
-use crate::event::Event;
+use crate::event::{Event, BLANK_CHECK, NOT_WRITABLE, NO_ROOM, OUT_OF_RANGE, PROTECTED};
 use crate::situations::Situation;
 
 /// The situations. Those that begin with READ or WRITE are for both forms, those with an opcode for
@@ -196,11 +196,6 @@ pub const OF_FORMS: [Situation; 55] = [
 ];
 
 const L4: u32 = 4;
-const OUT_OF_RANGE: u32 = 0x052100;
-const BLANK_CHECK: u32 = 0x080000;
-const PROTECTED: u32 = 0x072700;
-const NOT_WRITABLE: u32 = 0x052102;
-const NO_ROOM: u32 = 0x056300;
 
 /// The last address and the longest length of 32 bits.
 const LAST: u64 = u32::MAX as u64;

@@ -1,6 +1,7 @@
 //! Requests drawn at random, with an eye on the state: boundaries of fragments, lengths that just
 //! fit or just do not, and now and then junk.
 
+use crate::aim::{READS, WRITES};
 use crate::cdb::{self, Cdb};
 use crate::mood::{Kind, Mood, KINDS};
 use crate::outline::{Holder, Outline, Place};
@@ -20,8 +21,8 @@ pub struct Generator {
     pub mood: Mood,
     /// State, medium and pending buffer always have the right lengths.
     pub buffers_right: bool,
-    /// Fragments are of one block and made one after another, so that the list is full before the
-    /// disc is.
+    /// Fragments are of one block, but for the first, and made one after another, so that the list is
+    /// full before the disc is.
     pub crowds: bool,
     /// WRITEs longer than this, in sectors, are rare where they fit.
     pub long_write: u64,
@@ -57,7 +58,7 @@ impl Generator {
     }
 
     /// The command block with what is lent for it.
-    fn lend(&mut self, cdb: Cdb, state: &State, allocated: usize) -> Request {
+    pub(crate) fn lend(&mut self, cdb: Cdb, state: &State, allocated: usize) -> Request {
         let mut request = Request::fitting(cdb, state.capacity());
         request.medium_length = request.medium_length.min(allocated);
         request.data_offset = self.random.below(OFFSETS as u64) as usize;
@@ -132,12 +133,12 @@ impl Generator {
         };
         let (from, sectors) = self.or_far_run(outline, from, sectors);
         let sectors = if self.random.once_in(30) { 0 } else { sectors };
-        self.set_run(cdb, [cdb::READ, cdb::READ_12], from, sectors);
+        self.set_run(cdb, READS, from, sectors);
     }
 
     /// Opcode, address and length of a READ or a WRITE, in either form; in the long one where the
     /// short one has no room for the length.
-    fn set_run(&mut self, cdb: &mut Cdb, forms: [u8; 2], address: u64, sectors: u64) {
+    pub(crate) fn set_run(&mut self, cdb: &mut Cdb, forms: [u8; 2], address: u64, sectors: u64) {
         let [short, long] = forms;
         match u16::try_from(sectors) {
             Ok(sectors) if self.random.once_in(2) => {
@@ -221,7 +222,7 @@ impl Generator {
             None => (self.boundary(outline), self.random.between(0, 40)),
         };
         let (to, sectors) = self.or_far_run(outline, to, sectors);
-        self.set_run(cdb, [cdb::WRITE, cdb::WRITE_12], to, sectors);
+        self.set_run(cdb, WRITES, to, sectors);
     }
 
     /// Some incomplete fragment: reserved ones first where the tail should stay blank.
@@ -274,7 +275,7 @@ impl Generator {
         if rare && !self.random.once_in(20) {
             return self.random.between(1, 32);
         }
-        place.room.saturating_sub(self.random.pick(&[0, 0, 1, 15, 16, 17, 31]))
+        place.room.saturating_sub(self.random.pick(&[0, 0, 1, 1, 15, 16, 17, 31]))
     }
 
     /// So long that the last session that fits, or the first that does not, can follow.
@@ -315,6 +316,7 @@ impl Generator {
         let in_part = !crowds && self.is_in_part(outline, most);
         let wants_many = self.mood == Mood::Reserving && !in_part;
         let blocks = match self.random.below(if wants_many { 120 } else { 16 }) {
+            _ if crowds && outline.places.len() == 1 => self.random.pick(&[1, 16]),
             _ if crowds => 1,
             0 => 0,
             1 if in_part || self.random.once_in(4) => most,
@@ -398,7 +400,7 @@ impl Generator {
     }
 
     /// An allocation length around the length of the reply.
-    fn allocation(&mut self, whole: u16) -> u16 {
+    pub(crate) fn allocation(&mut self, whole: u16) -> u16 {
         match self.random.below(6) {
             0 => self.random.below(u64::from(whole) + 4) as u16,
             1 => whole - 1,

@@ -6,16 +6,19 @@
 
 #![forbid(unsafe_code)]
 
+mod aim;
 mod bench;
 mod coverage;
 pub mod demand3;
 mod discs;
 mod drive;
 mod event;
+pub mod every_list;
 mod far;
 mod forms;
 mod generator;
 mod history;
+mod lists;
 mod mood;
 mod outline;
 mod pair;
@@ -24,6 +27,8 @@ mod random;
 mod readable;
 mod request;
 pub mod rounds;
+mod searches;
+mod seat;
 mod situations;
 mod spoil;
 mod states;

@@ -2,7 +2,7 @@
 //! reports while sectors are pending.
 
 use crate::cdb;
-use crate::event::{is_full, Event, Position};
+use crate::event::{is_full, Event, Position, BLANK_CHECK};
 use crate::situations::Situation;
 use gladhamre::{Record, SECTOR_BYTES};
 use std::ops::Range;
@@ -215,20 +215,18 @@ pub const OF_READABLE_SECTORS: [Situation; 59] = [
     }),
 ];
 
-const BLANK_CHECK: u32 = 0x080000;
-
 /// The first sector of a fragment.
-fn first(record: &Record) -> u64 {
+pub fn first(record: &Record) -> u64 {
     16 * u64::from(record.start)
 }
 
 /// The sector after its recorded ones.
-fn recorded_end(record: &Record) -> u64 {
+pub fn recorded_end(record: &Record) -> u64 {
     first(record) + 16 * u64::from(record.recorded)
 }
 
 /// The sector after its last.
-fn end(record: &Record) -> u64 {
+pub fn end(record: &Record) -> u64 {
     first(record) + 16 * u64::from(record.length)
 }
 

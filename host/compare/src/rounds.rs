@@ -164,7 +164,7 @@ fn is_closed(state: &State) -> bool {
 }
 
 /// One command, now and then after other stale bytes; now and then a READ first, where sectors are
-/// pending.
+/// pending, and searches for a fragment.
 fn step(pair: &mut Pair, generator: &mut Generator) -> Result<(), Difference> {
     if generator.random.once_in(12) {
         pair.change_stale(&mut generator.random);
@@ -172,6 +172,10 @@ fn step(pair: &mut Pair, generator: &mut Generator) -> Result<(), Difference> {
     let state = pair.state();
     if state.pending_count() > 0 && generator.random.once_in(8) {
         let request = generator.read(&state, pair.allocated());
+        pair.command(&request, &mut generator.random)?;
+    }
+    for _ in 0..generator.searches(&state) {
+        let request = generator.search(&pair.state(), pair.allocated());
         pair.command(&request, &mut generator.random)?;
     }
     let request = generator.request(&pair.state(), pair.allocated());

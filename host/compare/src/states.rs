@@ -1,5 +1,6 @@
 //! Sound states that are made directly, reachable or not.
 
+use crate::searches::LENGTHS;
 use crate::Random;
 use gladhamre::{Record, State, RECORD_LIMIT, STATE_WORDS};
 use plain::Sense;
@@ -58,15 +59,26 @@ fn with_ending(random: &mut Random, capacity: u32, ending: Ending) -> State {
         let may_be_open = !none_open && record.session == last_session;
         fill_in(random, record, is_tail, may_be_open);
     }
+    let sense = random.pick(&Sense::LISTED);
+    let pending = pending(random, &records);
+    of_records(capacity, ending == Ending::Finalized, sense, pending, &records)
+}
+
+/// The state of these records, with a pending count and its fragment's number.
+pub(crate) fn of_records(
+    capacity: u32,
+    finalized: bool,
+    sense: Sense,
+    (count, fragment): (u32, u32),
+    records: &[Record],
+) -> State {
     let mut state = State::from_words([0; STATE_WORDS]);
     for (index, record) in records.iter().enumerate() {
         state.set_record(index, *record);
     }
-    let sense = random.pick(&Sense::LISTED);
-    let (count, fragment) = pending(random, &records);
     let words = state.words_mut();
     words[0] = capacity;
-    words[1] = u32::from(ending == Ending::Finalized);
+    words[1] = u32::from(finalized);
     words[2..5].copy_from_slice(&[sense.key, sense.code, sense.qualifier].map(u32::from));
     words[5..7].copy_from_slice(&[count, fragment]);
     state
@@ -94,8 +106,9 @@ fn layout(random: &mut Random, capacity: u32, ending: Ending) -> Vec<Record> {
 
 fn record_count(random: &mut Random, most: u32, ending: Ending) -> u32 {
     let most = u64::from(most);
-    let count = match random.below(6) {
+    let count = match random.below(8) {
         _ if ending == Ending::ListFull => most,
+        6 | 7 => most.min(random.pick(&LENGTHS) as u64),
         0 => 1,
         1 => random.between(2, 3),
         2 => random.between(most - 2, most),
@@ -151,16 +164,18 @@ fn fill_in(random: &mut Random, record: &mut Record, is_tail: bool, may_be_open:
 
 /// A pending count and its fragment's number.
 fn pending(random: &mut Random, records: &[Record]) -> (u32, u32) {
-    let open: Vec<u32> = (1..)
-        .zip(records)
-        .filter(|(_, record)| record.recorded < record.length)
-        .map(|(number, _)| number)
-        .collect();
+    let open = incomplete_numbers(records);
     if open.is_empty() || random.once_in(3) {
         return (0, 0);
     }
     let number = if random.once_in(4) { open[0] } else { random.pick(&open) };
     (random.between(1, 15) as u32, number)
+}
+
+/// The numbers of the incomplete fragments.
+pub(crate) fn incomplete_numbers(records: &[Record]) -> Vec<u32> {
+    let incomplete = |(_, record): &(u32, &Record)| record.recorded < record.length;
+    (1..).zip(records).filter(incomplete).map(|(number, _)| number).collect()
 }
 
 #[cfg(test)]

@@ -38,6 +38,7 @@ fn sound_states() {
         assert!(meetings.is_complete(), "never met, or in one form alone: {meetings}");
     }
     assert_eq!(reached.missed_on_discs(), [""; 0]);
+    assert_eq!(reached.searches.missed(), [""; 0]);
 }
 
 #[test]
@@ -89,6 +90,7 @@ fn sequences_from_blank_discs() {
         assert!(meetings.is_complete(), "never met, or in one form alone: {meetings}");
     }
     assert_eq!(reached.missed_on_discs(), [""; 0]);
+    assert_eq!(reached.searches.missed(), [""; 0]);
     assert_eq!(reached.most_records, RECORD_LIMIT);
     assert!(reached.most_sessions >= 5);
     assert!(reached.finalized > 0 && reached.full > 0);

@@ -2,6 +2,7 @@
 //! ordinary drive, by states injected without any sequence, and by sequences alone.
 
 use compare::demand3::{self, Tally};
+use compare::every_list::{self, Addresses, SHAPES};
 use compare::rounds::{everything, sequences, Effort};
 use compare::{seed, Coverage, Difference, Drive, Linked, Pair, Plain};
 use plain::Fault;
@@ -42,7 +43,7 @@ fn against_the_plain_drive() {
 /// Sequences from a blank disc find every mistake of commands, without any state injected.
 #[test]
 fn by_sequences_alone() {
-    for fault in Fault::OF_COMMANDS {
+    for fault in Fault::of_commands() {
         let faulty = Plain { fault: Some(fault) };
         let mut pair = Pair::new(&Linked, &faulty, CAPACITY);
         let found = sequences(&mut pair, CAPACITY, seed(), SEQUENCES);
@@ -86,5 +87,21 @@ fn of_long_writes() {
     for fault in [Fault::TwelveLengthCut, Fault::PendingBytesKept] {
         let found = demand3::check_long(&Plain { fault: Some(fault) }, seed());
         assert!(found.is_err(), "{fault:?} is not found");
+    }
+}
+
+/// The searches for every place of a list find the mistakes of halving, on lists of a few lengths.
+#[test]
+fn of_halving() {
+    let right = Plain::default();
+    for fault in Fault::of_commands().filter(|fault| matches!(fault, Fault::Halving(..))) {
+        let faulty = Plain { fault: Some(fault) };
+        let found = SHAPES.iter().find_map(|shape| {
+            every_list::check(&right, &faulty, shape, [160, 129, 3], Addresses::Edges).err()
+        });
+        match found {
+            Some(difference) => println!("{difference}"),
+            None => panic!("{fault:?} is not found"),
+        }
     }
 }

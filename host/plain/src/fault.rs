@@ -1,6 +1,7 @@
 //! Deliberate mistakes, one at a time. Each is tested at one place of the drive.
 
 use crate::command::{READ_12, WRITE_12};
+use crate::halving::{self, Search, Slip};
 use crate::Rule;
 
 /// The most fragments that a disc had before the limit was raised.
@@ -190,17 +191,23 @@ pub enum Fault {
     ForcedWriteFlushes,
     /// A8h with bit 7 of byte 10 set, which asks for streaming elsewhere, gets 5/24/00.
     StreamingRefused,
+    /// This search finds its fragment by halving, with this mistake.
+    Halving(Search, Slip),
 }
 
 impl Fault {
     /// Every mistake, with every rule that can be left untested.
     pub fn all() -> Vec<Fault> {
         let rules = Rule::ALL.map(Fault::RuleUntested);
-        Self::OF_COMMANDS.into_iter().chain(rules).chain([Fault::FullListTooLow]).collect()
+        Self::of_commands().chain(rules).chain([Fault::FullListTooLow]).collect()
     }
 
-    /// The mistakes that commands on sound states can show.
-    pub const OF_COMMANDS: [Fault; 88] = [
+    /// The mistakes that commands on sound states can show, those of halving last.
+    pub fn of_commands() -> impl Iterator<Item = Fault> {
+        Self::OF_COMMANDS.into_iter().chain(halving::faults())
+    }
+
+    const OF_COMMANDS: [Fault; 88] = [
         Fault::FlushOnRefusal,
         Fault::FlushFillsFragment,
         Fault::WriteInPart,

@@ -4,6 +4,7 @@
 use crate::command::Command;
 use crate::disc::Disc;
 use crate::fault::FORMER_LIMIT;
+use crate::halving::Search;
 use crate::read::Run;
 use crate::reply::{self, Report};
 use crate::{Address, Block, Fault, Kind, Sense, BLOCK_SECTORS, FRAGMENT_LIMIT};
@@ -90,7 +91,8 @@ impl Disc {
         if self.finalized && !self.slips(Fault::WriteTwelveTakesFinalized) {
             return Err(Sense::WRITE_PROTECTED);
         }
-        let index = (0..self.fragments.len())
+        let index = self
+            .candidates(Search::Write, to)
             .find(|&index| self.next_writable(index) == Some(to))
             .ok_or(Sense::INVALID_ADDRESS_FOR_WRITE)?;
         let end = self.fragments[index].end().first_sector();
@@ -273,7 +275,10 @@ impl Disc {
     }
 
     /// The fragment over whose blocks, recorded or not, the address lies.
-    fn fragment_at(&self, address: Address) -> Option<usize> {
+    pub(crate) fn fragment_at(&self, address: Address) -> Option<usize> {
+        if let Some(halving) = self.mistaken(Search::Report) {
+            return halving.find(address);
+        }
         let block = address.block();
         self.fragments.iter().position(|fragment| (fragment.start..fragment.end()).contains(&block))
     }

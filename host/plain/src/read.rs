@@ -2,6 +2,7 @@
 //! recorded or pending.
 
 use crate::disc::Disc;
+use crate::halving::Search;
 use crate::units::{sector_bytes, stretch};
 use crate::{Address, Fault, Lent, BLOCK_SECTORS, SECTOR_BYTES};
 
@@ -29,7 +30,7 @@ impl Disc {
     /// The fragment in which all these sectors are readable. The readable sectors of two fragments
     /// never touch, so a run that is readable has one.
     fn holder(&self, from: Address, sectors: u64) -> Option<usize> {
-        (0..self.fragments.len()).find(|&index| {
+        self.candidates(Search::Read, from).find(|&index| {
             let first = self.fragments[index].start.first_sector();
             first <= from && from + sectors <= first + self.served_sectors(index)
         })

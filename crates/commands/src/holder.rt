@@ -43,15 +43,15 @@ pub(crate) fn reach_around(disc: Disc, address: Lba) -> Reach
     Reach { recorded, readable }
 }
 
-// The incomplete fragment whose next writable address it is: no other than the one that the address lies in.
-pub(crate) fn writable_at(disc: Disc, address: Lba) -> Found
+// The incomplete fragment whose next writable address it is, with its number: no other than the one that the address lies in.
+pub(crate) fn writable_at(disc: Disc, address: Lba) -> Holder
     requires { ⌜ Ready disc ⌝ }
-    ensures { λ r. ⌜ r ≡ writableAt disc address ⌝ }
+    ensures { λ r. ⌜ r ≡ held (disc .fragments) (writableAt disc address) ⌝ }
 {
     let holder = holder_of(disc, address);
     let f = holder.fragment;
     if f.takes(address, disc.pending_in(holder.number)) {
-        return Found::Number(holder.number);
+        return holder;
     }
-    Found::Nowhere
+    Holder::nobody()
 }

@@ -8,7 +8,7 @@ use decisions::Entry;
 use decisions::Plan;
 use decisions::Transfer;
 use disc::Disc;
-use fragments::Found;
+use fragments::Fragment;
 use fragments::Lba;
 use protocol::DriveRefusal;
 use protocol::Reply;
@@ -18,6 +18,7 @@ ghost use lib.Dec.{eqb};
 ghost use Prim.Native.Nat.{_≤_};
 ghost use Rattle.disc.specs.Ready.{Ready};
 ghost use Rattle.fragments.specs.List.{limit};
+ghost use Rattle.disc.specs.Records.{numbered};
 ghost use Rattle.disc.specs.Apply.{affected, decided};
 ghost use Rattle.commands.specs.Write.{flushOthers, flushOthersEntry, gather, Gathering, writeTo, Writable, write};
 
@@ -32,16 +33,16 @@ fn owner_of(pending: usize, number: usize) -> u8
     number as u8
 }
 
-// More sectors gathered in the fragment with a number, after the flush that leaves `flushed`.
-fn gather(disc: Disc, flushed: Entry, number: usize, sectors: u32) -> Effect
+// More sectors gathered in the fragment with a number, whose record is `f`, after the flush that leaves `flushed`.
+fn gather(disc: Disc, flushed: Entry, number: usize, f: Fragment, sectors: u32) -> Effect
     requires { ⌜ Ready disc ⌝ }
     requires { ⌜ flushed ≡ flushOthersEntry disc number ⌝ }
     requires { ⌜ Gathering disc number sectors ⌝ }
+    requires { ⌜ f ≡ numbered disc number ⌝ }
     ensures { λ r. ⌜ affected disc r ≡ gather (flushOthers disc number) number sectors ⌝ }
 {
     let held = disc.pending_in(number) as usize + sectors as usize;
     let left = fragments::left_over(held);
-    let f = disc.numbered(number);
     let grown = Entry::new(number, change::grown(f, held));
     Effect::Grow {
         flushed,
@@ -51,13 +52,13 @@ fn gather(disc: Disc, flushed: Entry, number: usize, sectors: u32) -> Effect
     }
 }
 
-// A WRITE of 1 up at the next writable address of the fragment with a number.
-fn write_to(disc: Disc, address: Lba, sectors: u32, number: usize) -> Decision
+// A WRITE of 1 up at the next writable address of the fragment with a number, whose record is `f`.
+fn write_to(disc: Disc, address: Lba, sectors: u32, number: usize, f: Fragment) -> Decision
     requires { ⌜ Ready disc ⌝ }
     requires { ⌜ Writable disc address number ⌝ }
+    requires { ⌜ f ≡ numbered disc number ⌝ }
     ensures { λ r. ⌜ decided disc r ≡ writeTo disc address sectors number ⌝ }
 {
-    let f = disc.numbered(number);
     if address.passes(sectors, f.end_address()) {
         return Decision::refused(DriveRefusal::EndOfUserArea);
     }
@@ -73,7 +74,7 @@ fn write_to(disc: Disc, address: Lba, sectors: u32, number: usize) -> Decision
     let flush = first.plan;
     let plan = Plan::new(flush, transfer);
     let flushed = first.entry;
-    let effect = gather(disc, flushed, number, sectors);
+    let effect = gather(disc, flushed, number, f, sectors);
     Decision::accepted(effect, first.recorded + gathered, Reply::none(), plan)
 }
 
@@ -88,9 +89,10 @@ pub(crate) fn write(disc: Disc, address: Lba, sectors: u32) -> Decision
     if disc.finalized {
         return Decision::refused(DriveRefusal::WriteProtected);
     }
-    let found = holder::writable_at(disc, address);
-    match found {
-        Found::Number(number) => write_to(disc, address, sectors, number),
-        Found::Nowhere => Decision::refused(DriveRefusal::InvalidAddressForWrite),
+    let holder = holder::writable_at(disc, address);
+    if holder.number == 0 {
+        return Decision::refused(DriveRefusal::InvalidAddressForWrite);
     }
+    let f = holder.fragment;
+    write_to(disc, address, sectors, holder.number, f)
 }

@@ -25,7 +25,8 @@ pub enum Side {
 }
 
 impl Holder {
-    fn nobody() -> Holder
+    // No fragment.
+    pub fn nobody() -> Holder
         ensures { λ r. ⌜ r ≡ nobody ⌝ }
     {
         Holder {

@@ -1,5 +1,5 @@
 -- The fragment that an address lies in, as the search by halving finds it on a sound list, and what the commands take from it.
-use Prim.Native.Nat.{ℕ, suc, _-_, _<_}
+use Prim.Native.Nat.{ℕ, suc, _-_, _≤_, _<_}
 use mathlib.Core.Path.{_≡_, refl, sym, _∙_, ap}
 use mathlib.Core.Bool.{true, false, not}
 use native.Mathlib.Omega.{arith}
@@ -9,7 +9,7 @@ use Rattle.commands.specs.Types.{Lba, Fragment, Disc, Found, Number, Now
 use Rattle.fragments.specs.Address.{firstSector}
 use Rattle.fragments.specs.Fragment.{end, complete, firstUnrecorded, takes}
 use Rattle.fragments.specs.List.{reachFound}
-use Rattle.search.specs.Search.{finds, steps, halving, held}
+use Rattle.search.specs.Search.{finds, steps, halving, nobody, held}
 use Rattle.disc.specs.Records.{pendingIn, nextWritable, used, numbered, atAddress, writableAt}
 use Rattle.disc.specs.Rules.{at, Sound}
 use Rattle.disc.specs.Ready.{Ready}
@@ -72,19 +72,36 @@ module _ (d : Disc) (s : Sound d) where
 
 -- its number, by what the search gives
 module _ (d : Disc) (a : Lba) where
-  pub held-nowhere : (x : Found) → atAddress d a ≡ x → held (d .fragments) x .number ≡ 0 → Nowhere ≡ x
-  held-nowhere (Number n) e z = absurd (omega (arith, z, located d (a .0) n e .from))
-  held-nowhere Nowhere e z = refl
+  held-none : (x : Found) → ((n : ℕ) → x ≡ Number n → 1 ≤ n) → held (d .fragments) x .number ≡ 0 → Nowhere ≡ x
+  held-none (Number n) some z = absurd (omega (arith, z, some n refl))
+  held-none Nowhere some z = refl
+
+  pub held-nowhere : held (d .fragments) (atAddress d a) .number ≡ 0 → Nowhere ≡ atAddress d a
+  held-nowhere = held-none (atAddress d a) (λ n e. located d (a .0) n e .from)
+
+  pub held-unwritable : held (d .fragments) (writableAt d a) .number ≡ 0 → Nowhere ≡ writableAt d a
+  held-unwritable = held-none (writableAt d a) (λ n e. writable-found d a n e .from)
 
   pub held-number : (x : Found) → (held (d .fragments) x .number ≡ 0 → ⊥) → Number (held (d .fragments) x .number) ≡ x
   held-number (Number n) z = refl
   held-number Nowhere z = absurd (z refl)
 
-  -- a WRITE goes to it where it takes the address, and else nowhere
+  -- the record that comes with it
+  pub held-record :
+      (x : Found) → (held (d .fragments) x .number ≡ 0 → ⊥) → held (d .fragments) x .fragment ≡ numbered d (held (d .fragments) x .number)
+  held-record (Number n) z = refl
+  held-record Nowhere z = absurd (z refl)
+
+  pub held-writable :
+      (x : Found) → writableAt d a ≡ x → (held (d .fragments) x .number ≡ 0 → ⊥) → Writable d a (held (d .fragments) x .number)
+  held-writable (Number n) e z = writable-found d a n e
+  held-writable Nowhere e z = absurd (z refl)
+
+  -- a WRITE goes to the one that the address lies in, where that takes it, and else nowhere
   module _ (r : Ready d) where
     writes-here :
         (x : Found) → atAddress d a ≡ x
-        → (let h = held (d .fragments) x in takes a (pendingIn d (h .number)) (h .fragment) ≡ true → Number (h .number) ≡ writableAt d a)
+        → (let h = held (d .fragments) x in takes a (pendingIn d (h .number)) (h .fragment) ≡ true → x ≡ writableAt d a)
     writes-here (Number n) e t =
         let w = located d (a .0) n e in
         let f = numbered d n in
@@ -109,9 +126,11 @@ module _ (d : Disc) (a : Lba) where
     writes-nowhere Nowhere e t = refl
 
     pub held-takes :
-        (let h = held (d .fragments) (atAddress d a) in takes a (pendingIn d (h .number)) (h .fragment) ≡ true → Number (h .number) ≡ writableAt d a)
-    held-takes = writes-here (atAddress d a) refl
+        (let h = held (d .fragments) (atAddress d a) in
+        takes a (pendingIn d (h .number)) (h .fragment) ≡ true → h ≡ held (d .fragments) (writableAt d a))
+    held-takes t = ap (held (d .fragments)) (writes-here (atAddress d a) refl t)
 
     pub held-refuses :
-        (let h = held (d .fragments) (atAddress d a) in takes a (pendingIn d (h .number)) (h .fragment) ≡ false → Nowhere ≡ writableAt d a)
-    held-refuses = writes-nowhere (writableAt d a) refl
+        (let h = held (d .fragments) (atAddress d a) in
+        takes a (pendingIn d (h .number)) (h .fragment) ≡ false → nobody ≡ held (d .fragments) (writableAt d a))
+    held-refuses t = ap (held (d .fragments)) (writes-nowhere (writableAt d a) refl t)

@@ -1,4 +1,3 @@
-use mathlib.Core.Path.{refl}
 use Rattle.disc.specs.Records.{atAddress}
 use Rattle.commands.proofs.Laws.Holder.{held-nowhere, held-number}
 use borrow.Author.Needs.{needs}
@@ -12,7 +11,7 @@ returns : tie.Need-returns
 returns c =
     let d = c .before .before .before .args .disc in
     let a = c .before .before .before .args .address in
-    held-nowhere d a (atAddress d a) refl (rw (c .before .before .holder-of .ensures) at (c .if1 .taken))
+    held-nowhere d a (rw (c .before .before .holder-of .ensures) at (c .if1 .taken))
 
 returns-2 : tie.Need-returns-2
 returns-2 c =

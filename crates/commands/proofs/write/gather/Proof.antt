@@ -16,11 +16,8 @@ add-held c = search needs
 left-over-requires : tie.Need-left-over-requires
 left-over-requires c κs = search needs
 
-numbered-requires : tie.Need-numbered-requires
-numbered-requires c κs = search needs
-
 grown-requires : tie.Need-grown-requires
-grown-requires c κs = rw (c .numbered .ensures, c .before .before .pending-in .ensures) (omega (arith, c .before .before .before .pre .1 .1 .blocks))
+grown-requires c κs = rw (c .before .before .pre .1 .1 .1, c .before .pending-in .ensures) (omega (arith, c .before .before .pre .1 .1 .0 .blocks))
 
 new-requires : tie.Need-new-requires
 new-requires c κs = search needs
@@ -33,8 +30,8 @@ owner-of-requires c κs = search needs
 
 returns : tie.Need-returns
 returns c =
-    rw (c .owner-of .ensures, c .before .new .ensures, c .before .before .grown .ensures, c .before .before .before .numbered .ensures, c .before .before .before .before .left-over .ensures, c .before .before .before .before .before .pending-in .ensures, c .before .before .before .before .before .before .pre .1 .0)
-    (affected-gathered (c .before .before .before .before .before .before .args .disc) (c .before .before .before .before .before .before .args .number) (c .before .before .before .before .before .before .pre .0) (c .before .before .before .before .before .before .pre .1 .1 .from) (c .before .before .before .before .before .before .args .sectors))
+    rw (c .owner-of .ensures, c .before .new .ensures, c .before .before .grown .ensures, c .before .before .before .before .before .pre .1 .1 .1, c .before .before .before .left-over .ensures, c .before .before .before .before .pending-in .ensures, c .before .before .before .before .before .pre .1 .0)
+    (affected-gathered (c .before .before .before .before .before .args .disc) (c .before .before .before .before .before .args .number) (c .before .before .before .before .before .pre .0) (c .before .before .before .before .before .pre .1 .1 .0 .from) (c .before .before .before .before .before .args .sectors))
 
 pub gather-spec : {M : Type 1} → statement M
 gather-spec =
@@ -44,7 +41,6 @@ gather-spec =
     cast-held
     add-held
     left-over-requires
-    numbered-requires
     grown-requires
     new-requires
     cast-t9

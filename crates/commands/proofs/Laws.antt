@@ -1,4 +1,4 @@
--- One file a topic, named as in specs/, and three beside them: the session's part of Close, what an effect makes of a disc, and the fragment that an address lies in.
+-- One file a topic, named as in specs/, and two beside them: the session's part of Close, and what an effect makes of a disc.
 pub mod Flush
 pub mod Read
 pub mod Write

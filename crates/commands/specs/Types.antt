@@ -12,6 +12,7 @@ pub use Rattle.disc.specs.declared.state.Disc.{Disc}
 pub use Rattle.fragments.specs.declared.list.Found.{Found}
 pub use Rattle.fragments.specs.declared.list.Found.the-variants.{Number, Nowhere}
 pub use Rattle.search.specs.declared.search.Holder.{Holder}
+pub use Rattle.search.specs.declared.search.Sought.{Sought}
 pub use Rattle.decisions.specs.declared.plan.Flush.{Flush}
 pub use Rattle.decisions.specs.declared.plan.Flush.the-variants.{Skip, Record}
 pub use Rattle.decisions.specs.declared.plan.Transfer.{Transfer}

@@ -11,12 +11,13 @@ ghost use Rattle.disc.specs.Ready.{Ready};
 ghost use Rattle.disc.specs.Records.{atAddress, reachAround, writableAt};
 
 // With its number; number 0 and an unused record where there is none.
-fn holder_of(disc: Disc, address: Lba) -> Holder
+fn holder_at(disc: Disc, address: Lba) -> Holder
     requires { ⌜ Ready disc ⌝ }
     ensures { λ r. ⌜ r ≡ held (disc .fragments) (atAddress disc address) ⌝ }
 {
     let records = disc.fragments;
-    search::at_address(records, address)
+    let sought = search::halving(records, address);
+    sought.holder
 }
 
 // Its number.
@@ -24,7 +25,7 @@ pub(crate) fn at_address(disc: Disc, address: Lba) -> Found
     requires { ⌜ Ready disc ⌝ }
     ensures { λ r. ⌜ r ≡ atAddress disc address ⌝ }
 {
-    let holder = holder_of(disc, address);
+    let holder = holder_at(disc, address);
     if holder.number == 0 {
         return Found::Nowhere;
     }
@@ -36,7 +37,7 @@ pub(crate) fn reach_around(disc: Disc, address: Lba) -> Reach
     requires { ⌜ Ready disc ⌝ }
     ensures { λ r. ⌜ r ≡ reachAround disc address ⌝ }
 {
-    let holder = holder_of(disc, address);
+    let holder = holder_at(disc, address);
     let f = holder.fragment;
     let recorded = f.recorded_end();
     let readable = disc.next_writable(holder.number, f);
@@ -48,10 +49,10 @@ pub(crate) fn writable_at(disc: Disc, address: Lba) -> Holder
     requires { ⌜ Ready disc ⌝ }
     ensures { λ r. ⌜ r ≡ held (disc .fragments) (writableAt disc address) ⌝ }
 {
-    let holder = holder_of(disc, address);
+    let holder = holder_at(disc, address);
     let f = holder.fragment;
     if f.takes(address, disc.pending_in(holder.number)) {
         return holder;
     }
-    Holder::nobody()
+    Holder::none()
 }

@@ -1,4 +1,4 @@
-// READ TRACK INFORMATION (52h): which fragment it reports; what it says of it is the crate's of reports.
+// READ TRACK INFORMATION (52h): which fragment it reports. What it says of that one is decided in `reporting`.
 use crate::holder;
 use decisions::Decision;
 use disc::Disc;

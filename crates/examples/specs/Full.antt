@@ -33,7 +33,7 @@ wide n = 0 ∷ 0 ∷ (n / 256) ∷ (n % 256) ∷ []
 abbrev writeAt : ℕ → ℕ → List ℕ
 writeAt a n = cdb (0x2A ∷ 0 ∷ (wide a ++ (0 ∷ 0 ∷ n ∷ [])))
 
--- READ TRACK INFORMATION at one, and what it says of the tail of a full list
+-- READ TRACK INFORMATION at such an address, and what it says of the tail of a full list
 abbrev trackAt : ℕ → List ℕ
 trackAt a = cdb (0x52 ∷ 0 ∷ (wide a ++ (0 ∷ 0 ∷ 36 ∷ [])))
 

@@ -7,7 +7,7 @@ use Rattle.examples.specs.Types.{Fragment, Appended, Reserved, Left, Rig
 use Rattle.fragments.specs.Address.{lba}
 use Rattle.fragments.specs.Fragment.{fragment, unusedRecord}
 use Rattle.fragments.specs.List.{limit}
-use Rattle.search.specs.Search.{step, finds, seen, halve, steps, halving}
+use Rattle.search.specs.Search.{step, finds, seen, sought, noHolder, halve, enough, halving}
 use Rattle.examples.specs.States.{column, lastStart, fullOfTail}
 
 -- blocks 2 and 3, so sectors 32 to 63: an address before them, the first and the last of them, the one after; and a record not in use
@@ -29,10 +29,11 @@ pub few-records :
     (map (number three) (0 ∷ 31 ∷ 32 ∷ 47 ∷ 48 ∷ 79 ∷ 80 ∷ 1104 ∷ 2127 ∷ 2128 ∷ 4799 ∷ 4800 ∷ 0xFFFFFFFF ∷ [])
     ≡ (1 ∷ 1 ∷ 0 ∷ 0 ∷ 2 ∷ 2 ∷ 0 ∷ 0 ∷ 0 ∷ 3 ∷ 3 ∷ 0 ∷ 0 ∷ []))
     × (map (λ a. finds three (halving (lba a)) .fragment .start .0) (0 ∷ 48 ∷ 80 ∷ 4799 ∷ []) ≡ (0 ∷ 3 ∷ 0 ∷ 133 ∷ []))
+    × (map (λ a. finds three (halving (lba a)) .fragment .length) (0 ∷ 48 ∷ 80 ∷ 4799 ∷ []) ≡ (2 ∷ 2 ∷ 0 ∷ 167 ∷ []))
     × (seen three (halving (lba 0)) ≡ (80 ∷ 40 ∷ 20 ∷ 10 ∷ 5 ∷ 2 ∷ 1 ∷ 0 ∷ []))
     × (seen three (halving (lba 80)) ≡ (80 ∷ 40 ∷ 20 ∷ 10 ∷ 5 ∷ 2 ∷ 1 ∷ []))
 unfolding finds seen halve
-few-records = (refl, refl, refl, refl)
+few-records = (refl, refl, refl, refl, refl)
 
 -- a full list of fragments of a block each, the last one a tail: every one at its first sector, by its index, and the dividing block after it
 unfoldable pub indices : ℕ → List ℕ
@@ -45,12 +46,12 @@ pub every-record :
 unfolding finds halve column indices
 every-record = (refl, refl)
 
--- the last is found by the seventh look, one beyond the end looked for in vain by seven; eight looks are needed for some, as the first
+-- the last is found by the seventh look, and an address past its end by none of seven; the first needs eight
 pub looks-needed :
     (seen fullOfTail (halving (lba (16 * lastStart))) ≡ (80 ∷ 120 ∷ 140 ∷ 150 ∷ 155 ∷ 158 ∷ 159 ∷ []))
-    × (number fullOfTail (16 * (lastStart + 130)) ≡ 0)
+    × (sought fullOfTail (halving (lba (16 * (lastStart + 130)))) ≡ record { holder = noHolder; looks = 7 })
     × (seen fullOfTail (halving (lba 0)) ≡ (80 ∷ 40 ∷ 20 ∷ 10 ∷ 5 ∷ 2 ∷ 1 ∷ 0 ∷ []))
     × (finds fullOfTail (halve 8 (lba 0) 0 limit) .number ≡ 1) × (finds fullOfTail (halve 7 (lba 0) 0 limit) .number ≡ 0)
-    × (steps ≡ 8)
+    × (enough ≡ 8)
 unfolding finds seen halve column
 looks-needed = (refl, refl, refl, refl, refl, refl)

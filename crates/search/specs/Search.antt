@@ -1,11 +1,12 @@
 -- The search for the fragment that an address lies in, as a definition that counts its looks. That it finds what the list's own definition
 -- finds, `holderOf` of `fragments`, is a law about lists whose fragments lie apart (`halving-finds`).
-use Prim.Native.Nat.{ℕ, zero, suc, _+_, _-_, _/_}
+use Prim.Native.Nat.{ℕ, zero, suc, _+_, _-_, _/_, _<_}
+use mathlib.Core.Path.{_≡_}
 use mathlib.Core.Bool.{cond, _||_}
 use mathlib.Core.List.{List, [], _∷_}
-use lib.ListN.{getD}
+use lib.ListN.{length, getD}
 use lib.Dec.{eqb, ltb}
-use Rattle.search.specs.Types.{Lba, Fragment, Found, Number, Nowhere, Holder, Side, Left, Right, Here}
+use Rattle.search.specs.Types.{Lba, Fragment, Found, Number, Nowhere, Holder, Sought, Side, Left, Right, Here}
 use Rattle.fragments.specs.Address.{firstSector}
 use Rattle.fragments.specs.Fragment.{unusedRecord, unused, end}
 use Rattle.fragments.specs.List.{limit, recordNumbered}
@@ -32,9 +33,17 @@ unfoldable pub seen : {n : ℕ} → List Fragment → Search n → List ℕ
 seen fs (ends n h) = []
 seen fs (looks n i next) = i ∷ seen fs (next (getD fs i unusedRecord))
 
+-- two lists have the same records at these indices
+abbrev pub SameAt : List ℕ → List Fragment → List Fragment → Type 0
+SameAt is fs gs = (k : ℕ) → k < length is → getD fs (getD is k 0) unusedRecord ≡ getD gs (getD is k 0) unusedRecord
+
+-- what a search comes to: what it finds, and how many records it looks at
+abbrev pub sought : {n : ℕ} → List Fragment → Search n → Sought
+sought fs s = record { holder = finds fs s; looks = length (seen fs s) }
+
 -- no fragment
-abbrev pub nobody : Holder
-nobody = record { number = 0; fragment = unusedRecord }
+abbrev pub noHolder : Holder
+noHolder = record { number = 0; fragment = unusedRecord }
 
 -- the middle of the indices from low to before high
 abbrev pub middle : ℕ → ℕ → ℕ
@@ -48,21 +57,21 @@ onward Here left right here = here
 
 -- halving: n looks at the most, each at the middle one of the records in question, those from the index low to before high
 unfoldable pub halve : (n : ℕ) → Lba → ℕ → ℕ → Search n
-halve zero a low high = ends zero nobody
+halve zero a low high = ends zero noHolder
 halve (suc n) a low high =
     let m = middle low high in
-    cond (eqb low high) (ends (suc n) nobody)
+    cond (eqb low high) (ends (suc n) noHolder)
     (looks n m
     (λ f. onward (step a f) (halve n a low m) (halve n a (m + 1) high) (ends n (record { number = m + 1; fragment = f }))))
 
--- eight looks suffice for the records of a disc
-abbrev pub steps : ℕ
-steps = 8
+-- eight looks are enough for the records of a disc
+abbrev pub enough : ℕ
+enough = 8
 
-abbrev pub halving : Lba → Search steps
-halving a = halve steps a 0 limit
+abbrev pub halving : Lba → Search 8
+halving a = halve enough a 0 limit
 
 -- what a search ought to find: the fragment of the list's own definition
 abbrev pub held : List Fragment → Found → Holder
 held fs (Number n) = record { number = n; fragment = recordNumbered fs n }
-held fs Nowhere = nobody
+held fs Nowhere = noHolder

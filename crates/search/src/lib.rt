@@ -4,4 +4,5 @@
 mod search;
 
 pub use search::Holder;
-pub use search::at_address;
+pub use search::Sought;
+pub use search::halving;

@@ -3,15 +3,21 @@ use fragments::Fragment;
 use fragments::LIMIT;
 use fragments::Lba;
 ghost use mathlib.Core.Path.{_≡_};
-ghost use Rattle.search.specs.Search.{step, nobody, finds, halving};
+ghost use Rattle.search.specs.Search.{step, noHolder, sought, halving};
 
-// How many steps a search takes at the most. The records are fewer than 2^8: halved so often, none is left.
-const STEPS: usize = 8;
+// How many records a search looks at, at the most. Those of a disc are fewer than 2^8: halved so often, none is left.
+const LOOKS: usize = 8;
 
 // The fragment that an address lies in, with its number; number 0 and an unused record where there is none.
 pub struct Holder {
     pub number: usize,
     pub fragment: Fragment,
+}
+
+// What a search comes to: what it has found, and how many records it has looked at.
+pub struct Sought {
+    pub holder: Holder,
+    pub looks: usize,
 }
 
 // What one look at one record tells of the fragment that an address lies in.
@@ -26,8 +32,8 @@ pub enum Side {
 
 impl Holder {
     // No fragment.
-    pub fn nobody() -> Holder
-        ensures { λ r. ⌜ r ≡ nobody ⌝ }
+    pub fn none() -> Holder
+        ensures { λ r. ⌜ r ≡ noHolder ⌝ }
     {
         Holder {
             number: 0,
@@ -53,15 +59,16 @@ fn step(address: Lba, f: Fragment) -> Side
 }
 
 // The search: the records from the index `low` to before `high` are in question, and each step is given the one in their middle.
-pub fn at_address(fragments: [Fragment; LIMIT], address: Lba) -> Holder
-    ensures { λ r. ⌜ r ≡ finds fragments (halving address) ⌝ }
+pub fn halving(fragments: [Fragment; LIMIT], address: Lba) -> Sought
+    ensures { λ r. ⌜ r ≡ sought fragments (halving address) ⌝ }
 {
     let mut low: usize = 0;
     let mut high: usize = LIMIT;
-    let mut steps: usize = 0;
-    while steps < STEPS && low < high {
+    let mut looks: usize = 0;
+    while looks < LOOKS && low < high {
         let index = low + (high - low) / 2;
         let f = fragments[index];
+        looks += 1;
         match step(address, f) {
             Side::Left => {
                 high = index;
@@ -70,13 +77,14 @@ pub fn at_address(fragments: [Fragment; LIMIT], address: Lba) -> Holder
                 low = index + 1;
             }
             Side::Here => {
-                return Holder {
+                let holder = Holder {
                     number: index + 1,
                     fragment: f,
                 };
+                return Sought { holder, looks };
             }
         }
-        steps += 1;
     }
-    Holder::nobody()
+    let holder = Holder::none();
+    Sought { holder, looks }
 }

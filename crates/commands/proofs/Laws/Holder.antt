@@ -9,7 +9,7 @@ use Rattle.commands.specs.Types.{Lba, Fragment, Disc, Found, Number, Now
 use Rattle.fragments.specs.Address.{firstSector}
 use Rattle.fragments.specs.Fragment.{end, complete, firstUnrecorded, takes}
 use Rattle.fragments.specs.List.{reachFound}
-use Rattle.search.specs.Search.{finds, steps, halving, nobody, held}
+use Rattle.search.specs.Search.{finds, halving, noHolder, held}
 use Rattle.disc.specs.Records.{pendingIn, nextWritable, used, numbered, atAddress, writableAt}
 use Rattle.disc.specs.Rules.{at, Sound}
 use Rattle.disc.specs.Ready.{Ready}
@@ -40,8 +40,8 @@ module _ (d : Disc) (s : Sound d) where
   eight-looks a =
       record {
         right = holder-found a;
-        few = seen-few steps (d .fragments) (halving a);
-        alone = λ gs same. seen-decides steps (d .fragments) gs (halving a) same;
+        few = seen-few 8 (d .fragments) (halving a);
+        alone = λ gs same. seen-decides 8 (d .fragments) gs (halving a) same;
       }
 
   -- number 0 has no pending sectors, so an unused record under it reaches nowhere
@@ -132,5 +132,5 @@ module _ (d : Disc) (a : Lba) where
 
     pub held-refuses :
         (let h = held (d .fragments) (atAddress d a) in
-        takes a (pendingIn d (h .number)) (h .fragment) ≡ false → nobody ≡ held (d .fragments) (writableAt d a))
+        takes a (pendingIn d (h .number)) (h .fragment) ≡ false → noHolder ≡ held (d .fragments) (writableAt d a))
     held-refuses t = ap (held (d .fragments)) (writes-nowhere (writableAt d a) refl t)

@@ -9,7 +9,7 @@ use lib.Dec.{eqb, ltb}
 use Rattle.outcomes.specs.Types.{Lba, Disc, Found, Number, Nowhere, Verdict, Accepted, Drive, WriteProtected, EndOfUserArea, AddressOutOfRange, BlankCheck, Skip}
 use Rattle.fragments.specs.Address.{firstSector, lba, sectorsIn}
 use Rattle.fragments.specs.Fragment.{end}
-use Rattle.disc.specs.Records.{pendingIn, records, numbered, writableAt, isReadable}
+use Rattle.disc.specs.Records.{pendingIn, numbered, writableAt, isReadable}
 use Rattle.disc.specs.Rules.{at}
 use Rattle.disc.specs.Ready.{Ready}
 use Rattle.decisions.specs.Plan.{plan}

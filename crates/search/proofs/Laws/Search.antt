@@ -8,11 +8,11 @@ use native.Mathlib.Omega.{arith}
 use borrow.Author.Tests.{leb-true, le-leb, ltb-true, ltb-false, lt-ltb, le-ltb, eq-eqb, ne-eqb}
 use lib.Dec.{leb, ltb}
 use lib.ListN.{length, getD}
-use Rattle.search.specs.Types.{Lba, Fragment, Found, Number, Nowhere, Holder, Side, Left, Right, Here}
-use Rattle.search.specs.Search.{step, Search, ends, looks, finds, seen, nobody, middle, onward, halve, steps, halving, held}
+use Rattle.search.specs.Types.{Lba, Fragment, Found, Number, Nowhere, Holder, Sought, Side, Left, Right, Here}
+use Rattle.search.specs.Search.{step, Search, ends, looks, finds, seen, SameAt, sought, noHolder, middle, onward, halve, enough, halving, held}
 use Rattle.fragments.specs.Address.{firstSector}
 use Rattle.fragments.specs.Fragment.{unusedRecord, unused, end, holds}
-use Rattle.fragments.specs.List.{limit, listed, find, holderOf}
+use Rattle.fragments.specs.List.{limit, listed, holderOf}
 use Rattle.fragments.proofs.Laws.Bool.{and-left, and-right, and-both, or-left, or-right, by-cases, cond-yes, cond-no}
 use Rattle.fragments.proofs.Laws.Numbers.{order-cases, equal-cases}
 use Rattle.fragments.proofs.Laws.List.{use-cases, listed-le, listed-at, listed-used, find-hit, find-none}
@@ -25,9 +25,7 @@ seen-few (suc n) fs (looks _ i next) = omega (arith, seen-few n fs (next (getD f
 
 -- two lists with the same records there are the same to it
 pub seen-decides :
-    (n : ℕ) (fs gs : List Fragment) (s : Search n)
-    → ((k : ℕ) → k < length (seen fs s) → getD fs (getD (seen fs s) k 0) unusedRecord ≡ getD gs (getD (seen fs s) k 0) unusedRecord)
-    → finds fs s ≡ finds gs s
+    (n : ℕ) (fs gs : List Fragment) (s : Search n) → SameAt (seen fs s) fs gs → finds fs s ≡ finds gs s
 unfolding seen finds
 seen-decides n fs gs (ends _ h) same = refl
 seen-decides (suc n) fs gs (looks _ i next) same =
@@ -54,45 +52,63 @@ module _ (a : Lba) (f : Fragment) where
     step-here below =
         cond-no (unused f || ltb (a .0) (firstSector (f .start) .0)) Left _ not-left ∙ cond-yes (ltb (a .0) (firstSector (end f) .0)) Here Right (lt-ltb _ _ below)
 
+-- so many looks more
+abbrev pub after : ℕ → Sought → Sought
+after k s = record { holder = s .holder; looks = s .looks + k }
+
+pub after-none : (s : Sought) → s ≡ after 0 s
+after-none s = ap (λ (n : ℕ). record { holder = s .holder; looks = n }) (omega arith)
+
+pub after-after : (k : ℕ) (s : Sought) → after k (after 1 s) ≡ after (k + 1) s
+after-after k s = ap (λ (n : ℕ). record { holder = s .holder; looks = n }) (omega arith)
+
 -- a search by halving from step to step: it is over, no record is in question, or a look at the middle one leaves a side or finds it
 module _ (fs : List Fragment) (a : Lba) (low high : ℕ) where
   abbrev looked : Fragment
   looked = getD fs (middle low high) unusedRecord
 
-  pub finds-over : finds fs (halve 0 a low high) ≡ nobody
-  unfolding finds halve
-  finds-over = refl
+  pub sought-over : sought fs (halve 0 a low high) ≡ record { holder = noHolder; looks = 0 }
+  unfolding finds seen halve
+  sought-over = refl
 
-  pub finds-none : (n : ℕ) → low ≡ high → finds fs (halve n a low high) ≡ nobody
-  unfolding finds halve
-  finds-none zero e = refl
-  finds-none (suc n) e = rw (eq-eqb low high e)
+  pub sought-none : (n : ℕ) → low ≡ high → sought fs (halve n a low high) ≡ record { holder = noHolder; looks = 0 }
+  unfolding finds seen halve
+  sought-none zero e = refl
+  sought-none (suc n) e = rw (eq-eqb low high e)
 
   -- how it goes on, by what the step says
-  goes : ℕ → Side → Holder
+  goes : ℕ → Side → Sought
   goes n t =
-      finds fs (onward t (halve n a low (middle low high)) (halve n a (middle low high + 1) high) (ends n (record { number = middle low high + 1; fragment = looked })))
+      sought fs (onward t (halve n a low (middle low high)) (halve n a (middle low high + 1) high) (ends n (record { number = middle low high + 1; fragment = looked })))
 
-  finds-next : (n : ℕ) → (low ≡ high → ⊥) → finds fs (halve (suc n) a low high) ≡ goes n (step a looked)
-  unfolding finds halve goes
-  finds-next n e = rw (ne-eqb low high e)
+  sought-next : (n : ℕ) → (low ≡ high → ⊥) → sought fs (halve (suc n) a low high) ≡ after 1 (goes n (step a looked))
+  unfolding finds seen halve goes
+  sought-next n e =
+      let s = goes n (step a looked) in
+      let one : suc (s .looks) ≡ s .looks + 1 = omega arith in
+      rw (ne-eqb low high e) (ap (λ (k : ℕ). record { holder = s .holder; looks = k }) one)
 
-  pub finds-left :
-      (n : ℕ) → (low ≡ high → ⊥) → step a looked ≡ Left → finds fs (halve (suc n) a low high) ≡ finds fs (halve n a low (middle low high))
+  pub sought-left :
+      (n : ℕ) → (low ≡ high → ⊥) → step a looked ≡ Left
+      → sought fs (halve (suc n) a low high) ≡ after 1 (sought fs (halve n a low (middle low high)))
   unfolding goes
-  finds-left n e t = finds-next n e ∙ ap (goes n) t
+  sought-left n e t = sought-next n e ∙ ap (λ s. after 1 (goes n s)) t
 
-  pub finds-right :
+  pub sought-right :
       (n : ℕ) → (low ≡ high → ⊥) → step a looked ≡ Right
-      → finds fs (halve (suc n) a low high) ≡ finds fs (halve n a (middle low high + 1) high)
+      → sought fs (halve (suc n) a low high) ≡ after 1 (sought fs (halve n a (middle low high + 1) high))
   unfolding goes
-  finds-right n e t = finds-next n e ∙ ap (goes n) t
+  sought-right n e t = sought-next n e ∙ ap (λ s. after 1 (goes n s)) t
 
-  pub finds-here :
+  pub sought-here :
       (n : ℕ) → (low ≡ high → ⊥) → step a looked ≡ Here
-      → finds fs (halve (suc n) a low high) ≡ record { number = middle low high + 1; fragment = looked }
-  unfolding goes finds
-  finds-here n e t = finds-next n e ∙ ap (goes n) t
+      → sought fs (halve (suc n) a low high) ≡ record { holder = record { number = middle low high + 1; fragment = looked }; looks = 1 }
+  unfolding goes finds seen
+  sought-here n e t = sought-next n e ∙ ap (λ s. after 1 (goes n s)) t
+
+-- what it finds of that
+abbrev holds-it : Sought → Holder
+holds-it s = s .holder
 
 -- along the list the records in use come first, and each ends before the next ones start
 pub record Rising (fs : List Fragment) : Type 0 where
@@ -150,7 +166,7 @@ module _ (fs : List Fragment) (a : Lba) (r : Rising fs) where
       let index : i + 1 - 1 ≡ i = omega arith in
       rw (holder-is i (p .0) (p .1)) (ap (λ (j : ℕ). record { number = i + 1; fragment = at j }) index)
 
-  held-none : (x : Found) → holderOf fs a ≡ x → ((i : ℕ) → Holds i → ⊥) → held fs x ≡ nobody
+  held-none : (x : Found) → holderOf fs a ≡ x → ((i : ℕ) → Holds i → ⊥) → held fs x ≡ noHolder
   held-none (Number n) e none = let y = found-holds n e in absurd (none (y .0) (y .2))
   held-none Nowhere e none = refl
 
@@ -183,13 +199,13 @@ module _ (fs : List Fragment) (a : Lba) (r : Rising fs) where
       (λ h. absurd (let k = ap (λ j. end (at j) .0) h in omega (arith, k, below, past)))
       (λ h. h)
 
-  none-within : (low high : ℕ) → high ≤ low → Within low high → nobody ≡ held fs (holderOf fs a)
+  none-within : (low high : ℕ) → high ≤ low → Within low high → noHolder ≡ held fs (holderOf fs a)
   none-within low high e w =
       sym (held-none (holderOf fs a) refl (λ i p. let b = w i p in omega (arith, e, b .0, b .1)))
 
   -- n looks suffice for fewer than 2^n records in question
   halve-finds : (n low high : ℕ) → high < low + 2 ^ n → Within low high → finds fs (halve n a low high) ≡ held fs (holderOf fs a)
-  halve-finds zero low high few w = finds-over fs a low high ∙ none-within low high (omega (arith, few)) w
+  halve-finds zero low high few w = ap holds-it (sought-over fs a low high) ∙ none-within low high (omega (arith, few)) w
   halve-finds (suc n) low high few w =
       let m = middle low high in
       let double : 2 ^ suc n ≡ 2 * 2 ^ n = omega arith in
@@ -197,23 +213,23 @@ module _ (fs : List Fragment) (a : Lba) (r : Rising fs) where
       let left : ((i : ℕ) → Holds i → i < m) → finds fs (halve n a low m) ≡ held fs (holderOf fs a) =
       λ b. halve-finds n low m (omega (arith, few, double, some)) (λ i p. (w i p .0, b i p)) in
       equal-cases low high
-      (λ e. finds-none fs a low high (suc n) e ∙ none-within low high (omega (arith, e)) w)
+      (λ e. ap holds-it (sought-none fs a low high (suc n) e) ∙ none-within low high (omega (arith, e)) w)
       (λ e.
       use-cases (at m)
-      (λ off. finds-left fs a low high n e (step-unused a (at m) off) ∙ left (unused-left m off))
+      (λ off. ap holds-it (sought-left fs a low high n e (step-unused a (at m) off)) ∙ left (unused-left m off))
       (λ on.
       by-cases (ltb (a .0) (firstSector (at m .start) .0))
-      (λ t. let above = ltb-true _ _ t in finds-left fs a low high n e (step-above a (at m) above) ∙ left (above-left m above))
+      (λ t. let above = ltb-true _ _ t in ap holds-it (sought-left fs a low high n e (step-above a (at m) above)) ∙ left (above-left m above))
       (λ t.
       let from = ltb-false (a .0) (firstSector (at m .start) .0) t in
       let l = listed-index m on in
       by-cases (ltb (a .0) (firstSector (end (at m)) .0))
       (λ u.
-      finds-here fs a low high n e (step-here a (at m) on from (ltb-true _ _ u))
+      ap holds-it (sought-here fs a low high n e (step-here a (at m) on from (ltb-true _ _ u)))
       ∙ sym (held-is m (l, and-both (le-leb (firstSector (at m .start) .0) (a .0) from) u)))
       (λ u.
       let past = ltb-false (a .0) (firstSector (end (at m)) .0) u in
-      finds-right fs a low high n e (step-past a (at m) on from past)
+      ap holds-it (sought-right fs a low high n e (step-past a (at m) on from past))
       ∙ halve-finds n (m + 1) high (omega (arith, few, double, some))
       (λ i p. (omega (arith, past-right m l from past i p), w i p .1))))))
 
@@ -221,5 +237,5 @@ module _ (fs : List Fragment) (a : Lba) (r : Rising fs) where
 pub halving-finds :
     (fs : List Fragment) (a : Lba) → length fs ≡ limit → Rising fs → finds fs (halving a) ≡ held fs (holderOf fs a)
 halving-finds fs a array r =
-    halve-finds fs a r steps 0 limit (omega arith)
+    halve-finds fs a r enough 0 limit (omega arith)
     (λ i p. (omega arith, omega (arith, p .0, listed-le fs, array)))

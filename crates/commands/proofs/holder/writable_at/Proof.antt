@@ -8,8 +8,8 @@ use borrow.Author.Needs.{needs}
 use Rattle.commands.proofs.holder.writable_at.Statement.{statement}
 use Rattle.commands.proofs.holder.writable_at.Tie as tie
 
-holder-of-requires : tie.Need-holder-of-requires
-holder-of-requires c κs = search needs
+holder-at-requires : tie.Need-holder-at-requires
+holder-at-requires c κs = search needs
 
 pending-in-requires : tie.Need-pending-in-requires
 pending-in-requires c κs = search needs
@@ -22,27 +22,27 @@ returns c =
     let d = c .before .before .before .before .before .args .disc in
     let a = c .before .before .before .before .before .args .address in
     let h = held (d .fragments) (atAddress d a) in
-    let t : takes a (pendingIn d (h .number)) (h .fragment) ≡ true = rw (c .before .before .before .before .holder-of .ensures) at (sym (rw (c .before .before .pending-in .ensures) at (c .before .takes .ensures)) ∙ c .if1 .taken) in
-    c .before .before .before .before .holder-of .ensures ∙ held-takes d a (c .before .before .before .before .before .pre) t
+    let t : takes a (pendingIn d (h .number)) (h .fragment) ≡ true = rw (c .before .before .before .before .holder-at .ensures) at (sym (rw (c .before .before .pending-in .ensures) at (c .before .takes .ensures)) ∙ c .if1 .taken) in
+    c .before .before .before .before .holder-at .ensures ∙ held-takes d a (c .before .before .before .before .before .pre) t
 
-nobody-requires : tie.Need-nobody-requires
-nobody-requires c κs = search needs
+none-requires : tie.Need-none-requires
+none-requires c κs = search needs
 
 returns-2 : tie.Need-returns-2
 returns-2 c =
     let d = c .before .before .before .before .before .before .args .disc in
     let a = c .before .before .before .before .before .before .args .address in
     let h = held (d .fragments) (atAddress d a) in
-    let t : takes a (pendingIn d (h .number)) (h .fragment) ≡ false = rw (c .before .before .before .before .before .holder-of .ensures) at (sym (rw (c .before .before .before .pending-in .ensures) at (c .before .before .takes .ensures)) ∙ c .before .if1 .left) in
-    c .nobody .ensures ∙ held-refuses d a (c .before .before .before .before .before .before .pre) t
+    let t : takes a (pendingIn d (h .number)) (h .fragment) ≡ false = rw (c .before .before .before .before .before .holder-at .ensures) at (sym (rw (c .before .before .before .pending-in .ensures) at (c .before .before .takes .ensures)) ∙ c .before .if1 .left) in
+    c .none .ensures ∙ held-refuses d a (c .before .before .before .before .before .before .pre) t
 
 pub writable-at-spec : {M : Type 1} → statement M
 writable-at-spec =
     tie.close
     (tie.spec
-    holder-of-requires
+    holder-at-requires
     pending-in-requires
     takes-requires
     returns
-    nobody-requires
+    none-requires
     returns-2)

@@ -15,6 +15,9 @@ const RECORDED: u16 = 64;
 /// The records of a list that is neither short nor full.
 const SOME_RECORDS: usize = 64;
 
+/// The allocation of 52h: its whole reply.
+const REPORT: u16 = cdb::FRAGMENT_INFORMATION_LENGTH as u16;
+
 /// Numbers of answers.
 const ACCEPTED: u32 = 0;
 const ADDRESS_OUT_OF_RANGE: u32 = 0x052100;
@@ -95,9 +98,9 @@ pub fn cases(buffers: &mut Buffers) -> Vec<Case> {
             add(format!("WRITE {sectors}"), cdb::write(disc.next(), sectors), &start, bytes);
         }
         add("51h".into(), cdb::read_disc_information(34), &start, 0);
-        let by_address = cdb::read_fragment_information(0, disc.tail_start(), 36);
+        let by_address = cdb::read_fragment_information(0, disc.tail_start(), REPORT);
         add("52h by address".into(), by_address, &start, 0);
-        let by_number = cdb::read_fragment_information(1, disc.tail().into(), 36);
+        let by_number = cdb::read_fragment_information(1, disc.tail().into(), REPORT);
         add("52h by number".into(), by_number, &start, 0);
         add("CLOSE 001".into(), cdb::close(cdb::FRAGMENT, disc.tail()), &start, 0);
         disc.write(4);
@@ -175,7 +178,7 @@ fn finds(records: usize, buffers: &mut Buffers) -> Vec<Case> {
     let case = |(place, address, number)| Case {
         name: format!("52h by address, {place}"),
         list: list_of(records),
-        cdb: cdb::read_fragment_information(0, address, 36),
+        cdb: cdb::read_fragment_information(0, address, REPORT),
         start: disc.state.clone(),
         bytes: 0,
         number,

@@ -49,11 +49,11 @@ noHolder = record { number = 0; fragment = unusedRecord }
 abbrev pub middle : ℕ → ℕ → ℕ
 middle low high = low + (high - low) / 2
 
--- how it goes on after a step
-abbrev pub onward : {A : Type 0} → Side → A → A → A → A
-onward Left left right here = left
-onward Right left right here = right
-onward Here left right here = here
+-- a choice by what a step says
+abbrev pub bySide : {A : Type 0} → Side → A → A → A → A
+bySide Left left right here = left
+bySide Right left right here = right
+bySide Here left right here = here
 
 -- halving: n looks at the most, each at the middle one of the records in question, those from the index low to before high
 unfoldable pub halve : (n : ℕ) → Lba → ℕ → ℕ → Search n
@@ -62,7 +62,7 @@ halve (suc n) a low high =
     let m = middle low high in
     cond (eqb low high) (ends (suc n) noHolder)
     (looks n m
-    (λ f. onward (step a f) (halve n a low m) (halve n a (m + 1) high) (ends n (record { number = m + 1; fragment = f }))))
+    (λ f. bySide (step a f) (halve n a low m) (halve n a (m + 1) high) (ends n (record { number = m + 1; fragment = f }))))
 
 -- eight looks are enough for the records of a disc
 abbrev pub enough : ℕ

@@ -9,7 +9,7 @@ use borrow.Author.Tests.{leb-true, le-leb, ltb-true, ltb-false, lt-ltb, le-ltb, 
 use lib.Dec.{leb, ltb}
 use lib.ListN.{length, getD}
 use Rattle.search.specs.Types.{Lba, Fragment, Found, Number, Nowhere, Holder, Sought, Side, Left, Right, Here}
-use Rattle.search.specs.Search.{step, Search, ends, looks, finds, seen, SameAt, sought, noHolder, middle, onward, halve, enough, halving, held}
+use Rattle.search.specs.Search.{step, Search, ends, looks, finds, seen, SameAt, sought, noHolder, middle, bySide, halve, enough, halving, held}
 use Rattle.fragments.specs.Address.{firstSector}
 use Rattle.fragments.specs.Fragment.{unusedRecord, unused, end, holds}
 use Rattle.fragments.specs.List.{limit, listed, holderOf}
@@ -79,7 +79,7 @@ module _ (fs : List Fragment) (a : Lba) (low high : ℕ) where
   -- how it goes on, by what the step says
   goes : ℕ → Side → Sought
   goes n t =
-      sought fs (onward t (halve n a low (middle low high)) (halve n a (middle low high + 1) high) (ends n (record { number = middle low high + 1; fragment = looked })))
+      sought fs (bySide t (halve n a low (middle low high)) (halve n a (middle low high + 1) high) (ends n (record { number = middle low high + 1; fragment = looked })))
 
   sought-next : (n : ℕ) → (low ≡ high → ⊥) → sought fs (halve (suc n) a low high) ≡ after 1 (goes n (step a looked))
   unfolding finds seen halve goes
@@ -106,9 +106,9 @@ module _ (fs : List Fragment) (a : Lba) (low high : ℕ) where
   unfolding goes finds seen
   sought-here n e t = sought-next n e ∙ ap (λ s. after 1 (goes n s)) t
 
--- what it finds of that
-abbrev holds-it : Sought → Holder
-holds-it s = s .holder
+-- the fragment of it
+abbrev heldIn : Sought → Holder
+heldIn s = s .holder
 
 -- along the list the records in use come first, and each ends before the next ones start
 pub record Rising (fs : List Fragment) : Type 0 where
@@ -205,7 +205,7 @@ module _ (fs : List Fragment) (a : Lba) (r : Rising fs) where
 
   -- n looks suffice for fewer than 2^n records in question
   halve-finds : (n low high : ℕ) → high < low + 2 ^ n → Within low high → finds fs (halve n a low high) ≡ held fs (holderOf fs a)
-  halve-finds zero low high few w = ap holds-it (sought-over fs a low high) ∙ none-within low high (omega (arith, few)) w
+  halve-finds zero low high few w = ap heldIn (sought-over fs a low high) ∙ none-within low high (omega (arith, few)) w
   halve-finds (suc n) low high few w =
       let m = middle low high in
       let double : 2 ^ suc n ≡ 2 * 2 ^ n = omega arith in
@@ -213,23 +213,23 @@ module _ (fs : List Fragment) (a : Lba) (r : Rising fs) where
       let left : ((i : ℕ) → Holds i → i < m) → finds fs (halve n a low m) ≡ held fs (holderOf fs a) =
       λ b. halve-finds n low m (omega (arith, few, double, some)) (λ i p. (w i p .0, b i p)) in
       equal-cases low high
-      (λ e. ap holds-it (sought-none fs a low high (suc n) e) ∙ none-within low high (omega (arith, e)) w)
+      (λ e. ap heldIn (sought-none fs a low high (suc n) e) ∙ none-within low high (omega (arith, e)) w)
       (λ e.
       use-cases (at m)
-      (λ off. ap holds-it (sought-left fs a low high n e (step-unused a (at m) off)) ∙ left (unused-left m off))
+      (λ off. ap heldIn (sought-left fs a low high n e (step-unused a (at m) off)) ∙ left (unused-left m off))
       (λ on.
       by-cases (ltb (a .0) (firstSector (at m .start) .0))
-      (λ t. let above = ltb-true _ _ t in ap holds-it (sought-left fs a low high n e (step-above a (at m) above)) ∙ left (above-left m above))
+      (λ t. let above = ltb-true _ _ t in ap heldIn (sought-left fs a low high n e (step-above a (at m) above)) ∙ left (above-left m above))
       (λ t.
       let from = ltb-false (a .0) (firstSector (at m .start) .0) t in
       let l = listed-index m on in
       by-cases (ltb (a .0) (firstSector (end (at m)) .0))
       (λ u.
-      ap holds-it (sought-here fs a low high n e (step-here a (at m) on from (ltb-true _ _ u)))
+      ap heldIn (sought-here fs a low high n e (step-here a (at m) on from (ltb-true _ _ u)))
       ∙ sym (held-is m (l, and-both (le-leb (firstSector (at m .start) .0) (a .0) from) u)))
       (λ u.
       let past = ltb-false (a .0) (firstSector (end (at m)) .0) u in
-      ap holds-it (sought-right fs a low high n e (step-past a (at m) on from past))
+      ap heldIn (sought-right fs a low high n e (step-past a (at m) on from past))
       ∙ halve-finds n (m + 1) high (omega (arith, few, double, some))
       (λ i p. (omega (arith, past-right m l from past i p), w i p .1))))))
 

@@ -1,14 +1,19 @@
 -- The search for the fragment that an address lies in, computed: what it finds, and which records it looks at on the way.
-use Prim.Native.Nat.{ℕ, zero, suc, _+_, _-_, _*_}
+use Prim.Native.Nat.{ℕ, zero, suc, _+_, _-_, _*_, _≤_}
 use mathlib.Core.Path.{_≡_, refl}
+use mathlib.Core.Bool.{true, false}
 use mathlib.Core.List.{List, [], _∷_, _++_, map}
 use lib.ListN.{replicate}
-use Rattle.examples.specs.Types.{Fragment, Appended, Reserved, Left, Right, Here}
+use Rattle.examples.specs.Types.{Lba, Fragment, Appended, Reserved, Disc, Left, Right, Here}
 use Rattle.fragments.specs.Address.{lba}
 use Rattle.fragments.specs.Fragment.{fragment, unusedRecord}
-use Rattle.fragments.specs.List.{limit}
-use Rattle.search.specs.Search.{step, finds, seen, sought, noHolder, halve, enough, halving}
-use Rattle.examples.specs.States.{column, lastStart, fullOfTail}
+use Rattle.fragments.specs.List.{limit, listed, every, holderOf}
+use Rattle.search.specs.Search.{step, finds, seen, SameAt, sought, noHolder, halve, enough, halving, held}
+use Rattle.disc.specs.Sound.{usedFirst, firstAtZero, followsFrom, inOrder, endsWithin, recordedWithin, zeroedWithin, incompleteLast, tailLast, tailOrFull, pendingNamed, finalizedComplete, sound}
+use Rattle.disc.proofs.Laws.Rules.{sound-rules}
+use Rattle.commands.specs.Holder.{EightLooks}
+use Rattle.commands.proofs.Laws.Holder.{eight-looks}
+use Rattle.examples.specs.States.{on, column, lastStart, fullOfTail}
 
 -- blocks 2 and 3, so sectors 32 to 63: an address before them, the first and the last of them, the one after; and a record not in use
 pub sides :
@@ -55,3 +60,23 @@ pub looks-needed :
     × (enough ≡ 8)
 unfolding finds seen halve column
 looks-needed = (refl, refl, refl, refl, refl, refl)
+
+-- what the reader's statement says of a disc with those three fragments, drawn from it as a hypothesis: a weaker statement would not do
+abbrev disc : Disc
+disc = on 300 0 0 false (fragment 1 0 2 2 0 Reserved ∷ fragment 1 3 2 2 0 Appended ∷ fragment 2 133 167 0 0 Appended ∷ [])
+
+pub drawn :
+    (a : Lba) → EightLooks disc a
+    → (finds three (halving a) ≡ held three (holderOf three a)) × (sought three (halving a) .looks ≤ 8)
+    × ((gs : List Fragment) → SameAt (seen three (halving a)) three gs → finds three (halving a) ≡ finds gs (halving a))
+drawn a e = (e .right, e .few, e .alone)
+
+-- and the disc is a sound one, so it holds of it
+pub sound-disc : sound disc ≡ true
+unfolding
+    sound listed every usedFirst firstAtZero followsFrom inOrder endsWithin recordedWithin zeroedWithin incompleteLast tailLast tailOrFull
+    pendingNamed finalizedComplete
+sound-disc = refl
+
+pub has-eight-looks : (a : Lba) → EightLooks disc a
+has-eight-looks = eight-looks disc (sound-rules disc sound-disc)

@@ -40,18 +40,19 @@ pub few-records :
 unfolding finds seen halve
 few-records = (refl, refl, refl, refl, refl)
 
--- a full list of fragments of a block each, the last one a tail: every one at its first sector, by its index, and the dividing block after it
+-- the numbers below n
 unfoldable pub indices : ℕ → List ℕ
 indices zero = []
 indices (suc n) = indices n ++ (n ∷ [])
 
+-- a full list of fragments of a block each, the last one a tail: every one at its first sector, by its index, and the dividing block after it
 pub every-record :
     (map (λ i. number fullOfTail (32 * i)) (indices limit) ≡ map (λ i. i + 1) (indices limit))
     × (map (λ i. number fullOfTail (32 * i + 16)) (indices (limit - 1)) ≡ replicate (limit - 1) 0)
 unfolding finds halve column indices
 every-record = (refl, refl)
 
--- the last is found by the seventh look, and an address past its end by none of seven; the first needs eight
+-- the last one is found by the seventh look, and an address past its end is found nowhere after seven; the first one needs eight
 pub looks-needed :
     (seen fullOfTail (halving (lba (16 * lastStart))) ≡ (80 ∷ 120 ∷ 140 ∷ 150 ∷ 155 ∷ 158 ∷ 159 ∷ []))
     × (sought fullOfTail (halving (lba (16 * (lastStart + 130)))) ≡ record { holder = noHolder; looks = 7 })

@@ -68,6 +68,7 @@ halve (suc n) a low high =
 abbrev pub enough : ℕ
 enough = 8
 
+-- the search among the records of a disc; its type says eight, so that another number above is refused
 abbrev pub halving : Lba → Search 8
 halving a = halve enough a 0 limit
 

@@ -35,7 +35,7 @@ module _ (d : Disc) (s : Sound d) where
   pub holder-found : (a : Lba) → finds (d .fragments) (halving a) ≡ held (d .fragments) (atAddress d a)
   holder-found a = halving-finds (d .fragments) a (s .array) sound-rising
 
-  -- and for the reader, with what they are
+  -- for the reader: the right fragment, few looks, and nothing else decides
   pub eight-looks : (a : Lba) → EightLooks d a
   eight-looks a =
       record {

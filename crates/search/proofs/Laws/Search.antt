@@ -106,7 +106,7 @@ module _ (fs : List Fragment) (a : Lba) (low high : ℕ) where
   unfolding goes finds seen
   sought-here n e t = sought-next n e ∙ ap (λ s. after 1 (goes n s)) t
 
--- the fragment of it
+-- what a search has found
 abbrev heldIn : Sought → Holder
 heldIn s = s .holder
 

@@ -1,0 +1,93 @@
+// The whole reply of GET CONFIGURATION.
+use crate::feature;
+use crate::feature::Feature;
+ghost use mathlib.Core.Path.{_≡_};
+ghost use Prim.Native.Nat.{_+_, _≤_};
+ghost use Rattle.features.specs.Bytes.{bytes32, stored};
+ghost use Rattle.features.specs.Feature.{wholeDescriptor, selected};
+ghost use Rattle.features.specs.Configuration.{configurationBytes, listing, askedOf};
+
+// A reply's bytes, zeros after them, and how many there are.
+pub struct Listing {
+    pub bytes: [u8; Listing::LIMIT],
+    pub length: usize,
+}
+
+// The numbers of features in order, zeros after them, and how many there are.
+pub struct Asked {
+    pub numbers: [u16; Feature::COUNT],
+    pub count: usize,
+}
+
+impl Listing {
+    // Bytes of a reply's header.
+    const HEADER: usize = 8;
+
+    // Room for the header and ten of the longest descriptors.
+    pub const LIMIT: usize = 128;
+}
+
+// The bytes with a number's four from a place on, the highest first.
+fn put_word(bytes: [u8; Listing::LIMIT], at: usize, n: u32) -> [u8; Listing::LIMIT]
+    requires { ⌜ at + 4 ≤ 128 ⌝ }
+    ensures { λ r. ⌜ r ≡ stored bytes at (bytes32 n) ⌝ }
+{
+    let mut bytes = bytes;
+    bytes[at] = (n / 0x1000000 % 0x100) as u8;
+    bytes[at + 1] = (n / 0x10000 % 0x100) as u8;
+    bytes[at + 2] = (n / 0x100 % 0x100) as u8;
+    bytes[at + 3] = (n % 0x100) as u8;
+    bytes
+}
+
+// The bytes with a feature's descriptor from a place on.
+fn put_descriptor(bytes: [u8; Listing::LIMIT], at: usize, f: Feature) -> [u8; Listing::LIMIT]
+    requires { ⌜ (at + 12 ≤ 128) × (f .version ≤ 1) ⌝ }
+    ensures { λ r. ⌜ r ≡ stored bytes at (wholeDescriptor f) ⌝ }
+{
+    let mut bytes = bytes;
+    bytes[at] = (f.number / 0x100 % 0x100) as u8;
+    bytes[at + 1] = (f.number % 0x100) as u8;
+    bytes[at + 2] = 4 * f.version + 1;
+    bytes[at + 3] = f.length;
+    let bytes = put_word(bytes, at + 4, f.first);
+    put_word(bytes, at + 8, f.second)
+}
+
+// The whole reply to a request type and a starting feature.
+pub fn configuration(request: u8, start: u16) -> Listing
+    ensures { λ r. ⌜ r ≡ listing (configurationBytes request start) ⌝ }
+{
+    let mut bytes = [0u8; Listing::LIMIT];
+    bytes[7] = feature::PROFILE as u8;
+    let mut length = Listing::HEADER;
+    let mut i = 0;
+    while i < Feature::COUNT {
+        let f = Feature::at(i);
+        if f.is_asked(request, start) {
+            bytes = put_descriptor(bytes, length, f);
+            length += 4 + f.length as usize;
+        }
+        i += 1;
+    }
+    let bytes = put_word(bytes, 0, (length - 4) as u32);
+    Listing { bytes, length }
+}
+
+// The numbers of the features that a request asks for.
+pub fn numbers(request: u8, start: u16) -> Asked
+    ensures { λ r. ⌜ r ≡ askedOf (selected request start) ⌝ }
+{
+    let mut numbers = [0u16; Feature::COUNT];
+    let mut count = 0;
+    let mut i = 0;
+    while i < Feature::COUNT {
+        let f = Feature::at(i);
+        if f.is_asked(request, start) {
+            numbers[count] = f.number;
+            count += 1;
+        }
+        i += 1;
+    }
+    Asked { numbers, count }
+}

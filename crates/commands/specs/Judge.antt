@@ -6,7 +6,7 @@ use mathlib.Core.List.{List}
 use lib.ListN.{length}
 use lib.Dec.{eqb}
 use Rattle.protocol.specs.Answer.{number}
-use Rattle.commands.specs.Types.{Disc, Verdict, Command, TestUnitReady, RequestSense, ReadCapacity, Read, Write, SynchronizeCache, ReserveTrack, CloseTrackSession, ReadDiscInformation, ReadTrackInformation, Unlisted, InvalidOperationCode, CommandBlockLength, MediumSize, UnsoundState, TransferLength}
+use Rattle.commands.specs.Types.{Disc, Verdict, Command, TestUnitReady, RequestSense, Inquiry, ReadCapacity, Read, Write, SynchronizeCache, ReserveTrack, CloseTrackSession, GetConfiguration, ReadDiscInformation, ReadTrackInformation, Unlisted, InvalidOperationCode, CommandBlockLength, MediumSize, UnsoundState, TransferLength}
 use Rattle.protocol.specs.Command.{decode}
 use Rattle.disc.specs.Sound.{allowedState}
 use Rattle.disc.specs.Blank.{inRange}
@@ -19,6 +19,7 @@ use Rattle.commands.specs.Read.{read}
 use Rattle.commands.specs.Write.{write}
 use Rattle.commands.specs.Reserve.{reserve}
 use Rattle.commands.specs.Close.{close}
+use Rattle.reporting.specs.Identity.{inquiry, getConfiguration}
 use Rattle.reporting.specs.Reports.{requestSense, readCapacity, readDiscInformation, readTrackInformation}
 
 -- TEST UNIT READY (00h) is accepted
@@ -29,12 +30,14 @@ testUnitReady d = accept d d noReply noPlan
 unfoldable pub perform : Disc → Command → Verdict
 perform d TestUnitReady = testUnitReady d
 perform d (RequestSense allocation) = requestSense d allocation
+perform d (Inquiry page allocation) = inquiry d page allocation
 perform d ReadCapacity = readCapacity d
 perform d (Read a n) = read d a n
 perform d (Write a n) = write d a n
 perform d SynchronizeCache = synchronizeCache d
 perform d (ReserveTrack size) = reserve d size
 perform d (CloseTrackSession function n) = close d function n
+perform d (GetConfiguration request start allocation) = getConfiguration d request start allocation
 perform d (ReadDiscInformation dataType allocation) = readDiscInformation d dataType allocation
 perform d (ReadTrackInformation addressType n allocation) = readTrackInformation d addressType n allocation
 perform d Unlisted = refuse d InvalidOperationCode

@@ -23,6 +23,7 @@ pub(crate) fn perform(disc: Disc, command: Command) -> Decision
     match command {
         Command::TestUnitReady => Decision::unchanged(Reply::none()),
         Command::RequestSense { allocation } => reporting::request_sense(disc, allocation),
+        Command::Inquiry { page, allocation } => reporting::inquiry(disc, page, allocation),
         Command::ReadCapacity => reporting::read_capacity(disc),
         Command::Read { address, length } => read::read(disc, address, length),
         Command::Write { address, length } => write::write(disc, address, length),
@@ -33,6 +34,11 @@ pub(crate) fn perform(disc: Disc, command: Command) -> Decision
             function,
             number as usize,
         ),
+        Command::GetConfiguration {
+            request,
+            start,
+            allocation,
+        } => reporting::get_configuration(disc, request, start, allocation),
         Command::ReadDiscInformation {
             data_type,
             allocation,

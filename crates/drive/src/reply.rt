@@ -1,6 +1,7 @@
 // The reply's bytes, copied to the beginning of the lent reply buffer; the bytes past them stay.
 use crate::bytes;
 use decisions::Transfer;
+use protocol::Content;
 use protocol::Reply;
 ghost use mathlib.Core.Path.{_≡_};
 ghost use mathlib.Core.List.{_++_};
@@ -17,8 +18,18 @@ fn send_report(report: Reply, reply: &mut [u8]) -> usize
     ensures reply { λ _. ⌜ now (reply .exit) ≡ splice (now (reply .entry)) 0 (take (report .length) (report .bytes)) ⌝ }
 {
     let length = report.length;
-    let bytes = report.bytes;
-    bytes::put(reply, 0, &bytes[0..length]);
+    let content = report.content;
+    match content {
+        Content::Own => {
+            let bytes = report.bytes;
+            bytes::put(reply, 0, &bytes[0..length]);
+        }
+        Content::Configuration { request, start } => {
+            let listing = features::configuration(request, start);
+            let bytes = listing.bytes;
+            bytes::put(reply, 0, &bytes[0..length]);
+        }
+    }
     length
 }
 

@@ -4,4 +4,5 @@ pub mod Answer
 pub mod Command
 pub mod Lengths
 pub mod Reply
+pub mod Inquiry
 pub mod Reports

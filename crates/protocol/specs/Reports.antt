@@ -1,21 +1,11 @@
 -- The bytes of the reports: 03h REQUEST SENSE, 25h READ CAPACITY, 51h READ DISC INFORMATION, 52h READ TRACK INFORMATION.
-use Prim.Native.Nat.{ℕ, _+_, _/_, _%_}
+use Prim.Native.Nat.{ℕ, _+_}
 use mathlib.Core.Bool.{Bool, cond}
 use mathlib.Core.List.{List, [], _∷_, _++_}
 use lib.ListN.{replicate}
 use Rattle.fragments.specs.Address.{sectorsIn}
+pub use Rattle.features.specs.Bytes.{low, high, bytes32}
 use Rattle.protocol.specs.Types.{Lba, Sense, DiscReport, TrackReport}
-
--- a number's low byte and the one above it
-abbrev pub low : ℕ → ℕ
-low n = n % 0x100
-
-abbrev pub high : ℕ → ℕ
-high n = n / 0x100 % 0x100
-
--- four bytes, the highest first
-abbrev pub bytes32 : ℕ → List ℕ
-bytes32 n = (n / 0x1000000 % 0x100) ∷ (n / 0x10000 % 0x100) ∷ high n ∷ low n ∷ []
 
 -- a number that counts where a test holds
 abbrev pub when : Bool → ℕ → ℕ

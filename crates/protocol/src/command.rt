@@ -9,6 +9,10 @@ pub enum Command {
     RequestSense {
         allocation: u8,
     },
+    Inquiry {
+        page: u8,
+        allocation: u16,
+    },
     ReadCapacity,
     Read {
         address: Lba,
@@ -25,6 +29,11 @@ pub enum Command {
     CloseTrackSession {
         function: u8,
         number: u16,
+    },
+    GetConfiguration {
+        request: u8,
+        start: u16,
+        allocation: u16,
     },
     ReadDiscInformation {
         data_type: u8,
@@ -77,6 +86,10 @@ impl Command {
             0x03 => Command::RequestSense {
                 allocation: byte_at(cdb, 4),
             },
+            0x12 => Command::Inquiry {
+                page: byte_at(cdb, 1) % 2,
+                allocation: word16(cdb, 3),
+            },
             0x25 => Command::ReadCapacity,
             0x28 => Command::Read {
                 address: Lba(word32(cdb, 2) as u64),
@@ -87,6 +100,11 @@ impl Command {
                 length: word16(cdb, 7) as u32,
             },
             0x35 => Command::SynchronizeCache,
+            0x46 => Command::GetConfiguration {
+                request: byte_at(cdb, 1) % 4,
+                start: word16(cdb, 2),
+                allocation: word16(cdb, 7),
+            },
             0x53 => Command::ReserveTrack {
                 size: word32(cdb, 5),
             },

@@ -2,7 +2,7 @@
 use crate::command::Command;
 ghost use mathlib.Core.Path.{_≡_};
 ghost use Prim.Native.Nat.{min};
-ghost use Rattle.protocol.specs.Lengths.{dataLength, replyRoom, lengthsFit};
+ghost use Rattle.protocol.specs.Lengths.{inquiryRoom, configurationRoom, dataLength, replyRoom, lengthsFit};
 
 // Bytes of a command block.
 pub const CDB_LENGTH: usize = 12;
@@ -12,8 +12,10 @@ pub const SECTOR_LENGTH: usize = 2048;
 
 pub const BLOCK_LENGTH: usize = 32768;
 
-// Bytes of the whole reports of REQUEST SENSE, READ CAPACITY, READ DISC INFORMATION and READ TRACK INFORMATION.
+// Bytes of the whole reports of REQUEST SENSE, INQUIRY, READ CAPACITY, READ DISC INFORMATION and READ TRACK INFORMATION.
 pub(crate) const SENSE_LENGTH: usize = 18;
+
+pub(crate) const INQUIRY_LENGTH: usize = 36;
 
 pub(crate) const CAPACITY_LENGTH: usize = 8;
 
@@ -29,6 +31,27 @@ pub(crate) fn cut(whole: usize, allocation: usize) -> usize
         return whole;
     }
     allocation
+}
+
+// The room for INQUIRY's report: none where the page bit has it refused.
+fn inquiry_room(page: u8, allocation: usize) -> usize
+    ensures { λ r. ⌜ r ≡ inquiryRoom page allocation ⌝ }
+{
+    if page == 0 {
+        return cut(INQUIRY_LENGTH, allocation);
+    }
+    0
+}
+
+// The room for GET CONFIGURATION's reply: none where the request type has it refused.
+fn configuration_room(request: u8, start: u16, allocation: usize) -> usize
+    ensures { λ r. ⌜ r ≡ configurationRoom request start allocation ⌝ }
+{
+    if request == 3 {
+        return 0;
+    }
+    let whole = features::configuration(request, start);
+    cut(whole.length, allocation)
 }
 
 impl Command {
@@ -48,8 +71,14 @@ impl Command {
     {
         match self {
             Command::RequestSense { allocation } => cut(SENSE_LENGTH, allocation as usize),
+            Command::Inquiry { page, allocation } => inquiry_room(page, allocation as usize),
             Command::ReadCapacity => CAPACITY_LENGTH,
             Command::Read { address: _, length } => SECTOR_LENGTH * (length as usize),
+            Command::GetConfiguration {
+                request,
+                start,
+                allocation,
+            } => configuration_room(request, start, allocation as usize),
             Command::ReadDiscInformation {
                 data_type: _,
                 allocation,

@@ -2,6 +2,7 @@
 // Nothing here needs a disc.
 mod answer;
 mod command;
+mod inquiry;
 mod lengths;
 mod reply;
 mod reports;
@@ -14,6 +15,7 @@ pub use command::Command;
 pub use lengths::BLOCK_LENGTH;
 pub use lengths::CDB_LENGTH;
 pub use lengths::SECTOR_LENGTH;
+pub use reply::Content;
 pub use reply::Reply;
 pub use reports::DiscReport;
 pub use reports::TrackReport;

@@ -1,24 +1,44 @@
-// A report, cut to the length that the command allows.
+// A reply, cut to the length that the command allows.
 use crate::lengths;
 ghost use mathlib.Core.Path.{_≡_};
-ghost use Rattle.protocol.specs.Reply.{cutReply, noReply};
+ghost use Rattle.protocol.specs.Types.{Own};
+ghost use Rattle.protocol.specs.Reply.{cutReply, configurationReply, noReply};
 
-// A report's bytes by value: the whole report, zeros after it, and how many bytes of it are sent.
+// What a reply says: the bytes that it holds itself, or what GET CONFIGURATION says, which is longer than any other report and is written
+// only where it is sent.
+pub enum Content {
+    Own,
+    Configuration { request: u8, start: u16 },
+}
+
+// A reply by value: its own bytes, zeros after them, what it says, and how many bytes of that are sent.
 pub struct Reply {
     pub bytes: [u8; Reply::LIMIT],
+    pub content: Content,
     pub length: usize,
 }
 
 impl Reply {
-    // The longest report's bytes.
+    // The most bytes that a reply holds itself.
     pub const LIMIT: usize = 36;
 
-    // The report of the first `length` bytes, of which at most the allocation length is sent.
-    pub(crate) fn report(bytes: [u8; Reply::LIMIT], length: usize, allocation: usize) -> Reply
-        ensures { λ r. ⌜ r ≡ cutReply bytes length allocation ⌝ }
+    // A reply of so many bytes, of which at most the allocation length is sent.
+    fn cut(bytes: [u8; Reply::LIMIT], content: Content, whole: usize, allocation: usize) -> Reply
+        ensures { λ r. ⌜ r ≡ cutReply bytes content whole allocation ⌝ }
     {
-        let length = lengths::cut(length, allocation);
-        Reply { bytes, length }
+        let length = lengths::cut(whole, allocation);
+        Reply {
+            bytes,
+            content,
+            length,
+        }
+    }
+
+    // A report of its first `whole` bytes.
+    pub(crate) fn report(bytes: [u8; Reply::LIMIT], whole: usize, allocation: usize) -> Reply
+        ensures { λ r. ⌜ r ≡ cutReply bytes Own whole allocation ⌝ }
+    {
+        Reply::cut(bytes, Content::Own, whole, allocation)
     }
 
     // No bytes.
@@ -26,6 +46,20 @@ impl Reply {
         ensures { λ r. ⌜ r ≡ noReply ⌝ }
     {
         let bytes = [0u8; Reply::LIMIT];
-        Reply { bytes, length: 0 }
+        Reply {
+            bytes,
+            content: Content::Own,
+            length: 0,
+        }
+    }
+
+    // GET CONFIGURATION's reply.
+    pub fn of_configuration(request: u8, start: u16, allocation: usize) -> Reply
+        ensures { λ r. ⌜ r ≡ configurationReply request start allocation ⌝ }
+    {
+        let bytes = [0u8; Reply::LIMIT];
+        let whole = features::configuration(request, start);
+        let content = Content::Configuration { request, start };
+        Reply::cut(bytes, content, whole.length, allocation)
     }
 }

@@ -1,10 +1,11 @@
 -- Bytes stored one after another, before zeros.
-use Prim.Native.Nat.{ℕ, suc, _+_}
+use Prim.Native.Nat.{ℕ, suc, _+_, _<_}
 use mathlib.Core.Path.{_≡_, refl, sym, ap, _∙_}
 use mathlib.Core.List.{List, [], _∷_, _++_, append-assoc}
 use native.Mathlib.Omega.{arith}
-use lib.ListN.{length, set, length-append}
-use lib.Seq.{set-append-seam, append-snoc}
+use native.Mathlib.Numerals.{add-one}
+use lib.ListN.{length, take, set, getD, length-append}
+use lib.Seq.{set-append-seam, append-snoc, length-take-le, take-suc}
 use Rattle.features.specs.Bytes.{stored}
 
 -- in two parts
@@ -43,3 +44,12 @@ stored-twelve l i x y z hx hy e₁ e₂ e₃ =
     let b : i + 8 ≡ i + length (x ++ y) = omega (arith, length-append x y) in
     let two = e₂ ∙ (ap (λ (k : List ℕ). stored k (i + 4) y) e₁ ∙ (ap (λ (k : ℕ). stored (stored l i x) (i + k) y) (sym hx) ∙ stored-parts l i x y)) in
     e₃ ∙ (ap (λ (k : List ℕ). stored k (i + 8) z) two ∙ (ap (λ (k : ℕ). stored (stored l i (x ++ y)) k z) b ∙ (stored-parts l i (x ++ y) z ∙ ap (stored l i) (append-assoc x y z))))
+
+-- one more
+pub stored-next :
+    (l : List ℕ) (i k d : ℕ) (x : List ℕ) → k < length x → set (stored l i (take k x)) (i + k) (getD x k d) ≡ stored l i (take (k + 1) x)
+unfolding stored
+stored-next l i k d x h =
+    let size : k ≡ length (take k x) = sym (length-take-le k x (omega arith)) in
+    rw (add-one, take-suc x k d h)
+    (ap (λ (n : ℕ). set (stored l i (take k x)) (i + n) (getD x k d)) size ∙ stored-parts l i (take k x) (getD x k d ∷ []))

@@ -2,6 +2,7 @@
 use Prim.Native.Nat.{ℕ, _+_, _*_, _/_, _^_, _≤_, _<_}
 use mathlib.Core.Path.{_≡_}
 use lib.ListN.{length}
+use Rattle.protocol.specs.Reply.{said}
 use Rattle.outcomes.specs.Types.{Flush, Skip, Record, Transfer, Nothing, Send, Gather, Fill, Verdict}
 
 -- the pending block has 1 to 15 sectors, and its block lies in the medium
@@ -31,4 +32,4 @@ pub record Fits (mediumLent dataLent replyLent : ℕ) (v : Verdict) : Type 0 whe
   pub transfer : TransferFits mediumLent dataLent (v .plan .transfer)
   pub run : RunFits replyLent (v .plan .transfer)
   pub report : v .reply .length ≤ replyLent
-  pub whole : v .reply .length ≤ length (v .reply .bytes)
+  pub whole : v .reply .length ≤ length (said (v .reply .content) (v .reply .bytes))

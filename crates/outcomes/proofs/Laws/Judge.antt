@@ -8,7 +8,7 @@ use borrow.Author.Tests.{not-false, eq-eqb, le-leb, ne-eqb}
 use native.Mathlib.Nat.{le-refl}
 use lib.ListN.{length, replicate, length-append}
 use lib.Dec.{eqb}
-use Rattle.outcomes.specs.Types.{Lba, Disc, Verdict, Found, Number, Nowhere, Command, TestUnitReady, RequestSense, ReadCapacity, Read, Write, SynchronizeCache, ReserveTrack, CloseTrackSession, ReadDiscInformation, ReadTrackInformation, Unlisted, InvalidOperationCode, InvalidFieldInCommand, AddressOutOfRange, BlankCheck, DriveRefusal, LinkRefusal, Accepted, Link, Drive, CommandBlockLength, MediumSize, UnsoundState, TransferLength, WriteProtected, InvalidAddressForWrite, IncompleteTrackInSession, EmptyTrack, NoMoreReservations, EndOfUserArea, Send}
+use Rattle.outcomes.specs.Types.{Lba, Disc, Verdict, Found, Number, Nowhere, Command, TestUnitReady, RequestSense, Inquiry, ReadCapacity, Read, Write, SynchronizeCache, ReserveTrack, CloseTrackSession, GetConfiguration, ReadDiscInformation, ReadTrackInformation, Unlisted, InvalidOperationCode, InvalidFieldInCommand, AddressOutOfRange, BlankCheck, DriveRefusal, LinkRefusal, Accepted, Link, Drive, CommandBlockLength, MediumSize, UnsoundState, TransferLength, WriteProtected, InvalidAddressForWrite, IncompleteTrackInSession, EmptyTrack, NoMoreReservations, EndOfUserArea, Send}
 use Rattle.fragments.specs.Address.{lba}
 use Rattle.protocol.specs.Answer.{allowedSense, noSense, refusalSense, isRefusalSense}
 use Rattle.protocol.specs.Command.{decode}
@@ -17,11 +17,14 @@ use Rattle.disc.specs.Records.{used, isListed, hasTail, atAddress, isRecorded, 
 use Rattle.disc.specs.Sound.{sound, allowedState}
 use Rattle.disc.specs.Blank.{inRange}
 use Rattle.disc.specs.Ready.{Ready}
-use Rattle.protocol.specs.Lengths.{lengthsFit, replyRoom, capacityLength, dataLength}
+use Rattle.protocol.specs.Lengths.{lengthsFit, replyRoom, inquiryRoom, configurationRoom, capacityLength, dataLength}
 use Rattle.decisions.specs.Plan.{noPlan}
 use Rattle.disc.specs.Verdict.{refuseLink, refuse, accepted, accept, rise}
-use Rattle.protocol.specs.Reply.{report}
+use Rattle.features.specs.Configuration.{configurationBytes}
+use Rattle.protocol.specs.Inquiry.{inquiryBytes}
+use Rattle.protocol.specs.Reply.{report, configurationReply, said}
 use Rattle.commands.specs.Read.{read}
+use Rattle.reporting.specs.Identity.{inquiry, getConfiguration}
 use Rattle.reporting.specs.Reports.{requestSense, readCapacity, discReport, readDiscInformation, trackReport, trackVerdict, trackFound, trackNumbered, readTrackInformation}
 use Rattle.protocol.specs.Reports.{senseBytes, capacityBytes, discBytes, trackBytes}
 use Rattle.commands.specs.Judge.{judgeAsAsked, testUnitReady, perform, judgeCommand, judge}
@@ -48,6 +51,7 @@ read-outcome d a n r =
 report-outcome :
     (d : Disc) (c : Command) (bytes : List ℕ) (n : ℕ) → min (length bytes) n ≤ replyRoom c → Ready d
     → Outcome d c (accept d d (report bytes n) noPlan)
+unfolding said
 report-outcome d c bytes n m r =
     same-outcome d c (report bytes n)
     (record { fits = m; whole = omega (arith, length-append bytes (replicate (36 - length bytes) 0)) }) r
@@ -59,6 +63,19 @@ sense-outcome d n r = report-outcome d (RequestSense n) (senseBytes (d .sense)) 
 capacity-outcome : (d : Disc) → Ready d → Outcome d ReadCapacity (readCapacity d)
 unfolding readCapacity replyRoom
 capacity-outcome d r = report-outcome d ReadCapacity (capacityBytes (lastReadable d)) capacityLength (le-refl _) r
+
+inquiry-outcome : (d : Disc) (p n : ℕ) → Ready d → Outcome d (Inquiry p n) (inquiry d p n)
+unfolding inquiry inquiryBytes replyRoom inquiryRoom
+inquiry-outcome d p n r =
+    let c = Inquiry p n in
+    cond-cases (Outcome d c) (eqb p 0) _ _ (λ e. report-outcome d c inquiryBytes n (rw e (le-refl _)) r) (λ e. refused InvalidFieldInCommand)
+
+configuration-outcome : (d : Disc) (t s n : ℕ) → Ready d → Outcome d (GetConfiguration t s n) (getConfiguration d t s n)
+unfolding getConfiguration replyRoom configurationRoom said
+configuration-outcome d t s n r =
+    let c = GetConfiguration t s n in
+    cond-cases (Outcome d c) (eqb t 3) _ _ (λ e. refused InvalidFieldInCommand)
+    (λ e. same-outcome d c (configurationReply t s n) (record { fits = rw e (le-refl _); whole = omega arith }) r)
 
 disc-outcome : (d : Disc) (t n : ℕ) → Ready d → Outcome d (ReadDiscInformation t n) (readDiscInformation d t n)
 unfolding readDiscInformation discBytes replyRoom
@@ -98,12 +115,14 @@ pub perform-outcome : (d : Disc) (c : Command) → Ready d → Outcome d c (perf
 unfolding perform
 perform-outcome d TestUnitReady r = ready-outcome d r
 perform-outcome d (RequestSense n) r = sense-outcome d n r
+perform-outcome d (Inquiry p n) r = inquiry-outcome d p n r
 perform-outcome d ReadCapacity r = capacity-outcome d r
 perform-outcome d (Read a n) r = read-outcome d a n r
 perform-outcome d (Write a n) r = write-outcome d a n r
 perform-outcome d SynchronizeCache r = synchronize-outcome d SynchronizeCache r
 perform-outcome d (ReserveTrack n) r = reserve-outcome d (ReserveTrack n) n r
 perform-outcome d (CloseTrackSession f n) r = close-outcome d (CloseTrackSession f n) f n r
+perform-outcome d (GetConfiguration t s n) r = configuration-outcome d t s n r
 perform-outcome d (ReadDiscInformation t n) r = disc-outcome d t n r
 perform-outcome d (ReadTrackInformation t n m) r = track-outcome d t n m r
 perform-outcome d Unlisted r = refused InvalidOperationCode

@@ -13,6 +13,7 @@ use Rattle.disc.specs.Rules.{Sound}
 use Rattle.disc.specs.Blank.{inRange}
 use Rattle.disc.specs.Ready.{Ready}
 use Rattle.protocol.specs.Lengths.{dataLength, replyRoom, lengthsFit}
+use Rattle.protocol.specs.Reply.{said}
 use Rattle.outcomes.specs.Lent.{FlushFits, TransferFits, RunFits, Fits}
 use Rattle.disc.specs.Verdict.{refuseLink}
 use Rattle.commands.specs.Judge.{perform, judge}
@@ -62,7 +63,7 @@ transfer-fits d c t k n m r e l (fills b x u) =
 -- what a decision asks of the lent buffers is there
 pub decided-fits :
     {c : Command} {n m : ℕ} (d : Disc) (k : ℕ) (v : Verdict) → k ≡ 32768 * d .capacity → Decided d c n m v → Fits k n m v
-unfolding refuseLink
+unfolding refuseLink said
 decided-fits d k v e (onLink x) = record { flush = tt; transfer = tt; run = tt; report = omega arith; whole = omega arith }
 decided-fits {c} {n} {m} d k v e (byDrive r a l) =
     let o = allowed-outcome d c r a in

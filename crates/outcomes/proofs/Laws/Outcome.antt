@@ -17,7 +17,7 @@ use Rattle.disc.specs.Ready.{Ready}
 use Rattle.protocol.specs.Lengths.{replyRoom}
 use Rattle.decisions.specs.Plan.{noPlan, plan}
 use Rattle.disc.specs.Verdict.{rise, accepted, accept, refuse}
-use Rattle.protocol.specs.Reply.{noReply}
+use Rattle.protocol.specs.Reply.{noReply, said}
 use Rattle.commands.specs.Flush.{flush, flushPlan, synchronizeCache}
 use Rattle.commands.specs.Write.{flushOthers, gather, writeTo, writeFound, write, Writable, flushOthersPlan, grownRecord}
 use Rattle.commands.specs.Reserve.{splitTail, reserve}
@@ -39,10 +39,10 @@ use Rattle.disc.proofs.Laws.Onward.{Onward, same-onward, onward-on, NoBlock, on
 use Rattle.outcomes.proofs.Laws.Plan.{Placed, placed-none, placed-flush, placed-gather, placed-fill, placed-send}
 use Rattle.outcomes.proofs.Laws.Keep.{split-onward, fill-grows, shorten-onward, close-tail-onward, open-session-onward, gather-grows, split-sound, fill-sound, shorten-sound, close-tail-closed, open-session-sound, finalize-sound, only-blank, gather-sound, write-room}
 
--- a report's bytes are there, and the command asks for room for them
+-- a reply's bytes are there, and the command asks for room for them
 pub record Room (c : Command) (r : Reply) : Type 0 where
   pub fits : r .length ≤ replyRoom c
-  pub whole : r .length ≤ length (r .bytes)
+  pub whole : r .length ≤ length (said (r .content) (r .bytes))
 
 pub data Outcome (d : Disc) (c : Command) : Verdict → Type 0 where
   done :
@@ -52,6 +52,7 @@ pub data Outcome (d : Disc) (c : Command) : Verdict → Type 0 where
 
 -- no reply has room everywhere
 pub no-room : (c : Command) → Room c noReply
+unfolding said
 no-room c = record { fits = omega arith; whole = omega arith }
 
 -- an accepted command that leaves the list alone

@@ -7,30 +7,44 @@ ghost use mathlib.Core.Path.{_≡_};
 ghost use mathlib.Core.List.{_++_};
 ghost use Prim.Native.Nat.{_≤_};
 ghost use lib.ListN.{length, take};
+ghost use Rattle.features.specs.Configuration.{configurationBytes};
+ghost use Rattle.protocol.specs.Reply.{said, replyBytes};
 ghost use Rattle.decisions.specs.Run.{sentWithin, pendingWithin};
 ghost use Rattle.drive.specs.Bytes.{splice};
 ghost use Rattle.drive.specs.Reply.{sentBytes, Sendable};
 
+// The first bytes that a reply holds itself.
+fn send_own(bytes: [u8; Reply::LIMIT], sent: usize, reply: &mut [u8])
+    requires { ⌜ (sent ≤ length bytes) × (sent ≤ length (now reply)) ⌝ }
+    ensures { λ _. ⌜ now (reply .exit) ≡ splice (now (reply .entry)) 0 (take sent bytes) ⌝ }
+{
+    bytes::put(reply, 0, &bytes[0..sent]);
+}
+
+// The first bytes of what GET CONFIGURATION says, which are made only here.
+fn send_configuration(request: u8, start: u16, sent: usize, reply: &mut [u8])
+    requires { ⌜ (sent ≤ length (configurationBytes request start)) × (sent ≤ length (now reply)) ⌝ }
+    ensures { λ _. ⌜ now (reply .exit) ≡ splice (now (reply .entry)) 0 (take sent (configurationBytes request start)) ⌝ }
+{
+    let listing = features::configuration(request, start);
+    let bytes = listing.bytes;
+    bytes::put(reply, 0, &bytes[0..sent]);
+}
+
 // A report, cut to its length.
 fn send_report(report: Reply, reply: &mut [u8]) -> usize
-    requires { ⌜ (report .length ≤ length (report .bytes)) × (report .length ≤ length (now reply)) ⌝ }
-    ensures { λ r. ⌜ r ≡ length (take (report .length) (report .bytes)) ⌝ }
-    ensures reply { λ _. ⌜ now (reply .exit) ≡ splice (now (reply .entry)) 0 (take (report .length) (report .bytes)) ⌝ }
+    requires { ⌜ (report .length ≤ length (said (report .content) (report .bytes))) × (report .length ≤ length (now reply)) ⌝ }
+    ensures { λ r. ⌜ r ≡ length (replyBytes report) ⌝ }
+    ensures reply { λ _. ⌜ now (reply .exit) ≡ splice (now (reply .entry)) 0 (replyBytes report) ⌝ }
 {
-    let length = report.length;
+    let sent = report.length;
+    let bytes = report.bytes;
     let content = report.content;
     match content {
-        Content::Own => {
-            let bytes = report.bytes;
-            bytes::put(reply, 0, &bytes[0..length]);
-        }
-        Content::Configuration { request, start } => {
-            let listing = features::configuration(request, start);
-            let bytes = listing.bytes;
-            bytes::put(reply, 0, &bytes[0..length]);
-        }
+        Content::Own => send_own(bytes, sent, reply),
+        Content::Configuration { request, start } => send_configuration(request, start, sent, reply),
     }
-    length
+    sent
 }
 
 // The sectors that a READ sends, as the lower layer hands them out: those of the medium, then those of the pending buffer.

@@ -7,4 +7,5 @@ pub use feature::PROFILE;
 pub use listing::Asked;
 pub use listing::Listing;
 pub use listing::configuration;
+pub use listing::configuration_length;
 pub use listing::numbers;

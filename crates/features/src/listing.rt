@@ -3,6 +3,7 @@ use crate::feature;
 use crate::feature::Feature;
 ghost use mathlib.Core.Path.{_≡_};
 ghost use Prim.Native.Nat.{_+_, _≤_};
+ghost use lib.ListN.{length};
 ghost use Rattle.features.specs.Bytes.{bytes32, stored};
 ghost use Rattle.features.specs.Feature.{wholeDescriptor, selected};
 ghost use Rattle.features.specs.Configuration.{configurationBytes, listing, askedOf};
@@ -54,7 +55,24 @@ fn put_descriptor(bytes: [u8; Listing::LIMIT], at: usize, f: Feature) -> [u8; Li
     put_word(bytes, at + 8, f.second)
 }
 
-// The whole reply to a request type and a starting feature.
+// The bytes of the whole reply to a request type and a starting feature. It has a loop of its own, since every command's lengths are tested
+// and none of them may pay for the bytes.
+pub fn configuration_length(request: u8, start: u16) -> usize
+    ensures { λ r. ⌜ r ≡ length (configurationBytes request start) ⌝ }
+{
+    let mut length = Listing::HEADER;
+    let mut i = 0;
+    while i < Feature::COUNT {
+        let f = Feature::at(i);
+        if f.is_asked(request, start) {
+            length += 4 + f.length as usize;
+        }
+        i += 1;
+    }
+    length
+}
+
+// The whole reply to them.
 pub fn configuration(request: u8, start: u16) -> Listing
     ensures { λ r. ⌜ r ≡ listing (configurationBytes request start) ⌝ }
 {

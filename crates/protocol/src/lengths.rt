@@ -50,8 +50,7 @@ fn configuration_room(request: u8, start: u16, allocation: usize) -> usize
     if request == 3 {
         return 0;
     }
-    let whole = features::configuration(request, start);
-    cut(whole.length, allocation)
+    cut(features::configuration_length(request, start), allocation)
 }
 
 impl Command {

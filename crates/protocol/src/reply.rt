@@ -58,8 +58,8 @@ impl Reply {
         ensures { λ r. ⌜ r ≡ configurationReply request start allocation ⌝ }
     {
         let bytes = [0u8; Reply::LIMIT];
-        let whole = features::configuration(request, start);
+        let whole = features::configuration_length(request, start);
         let content = Content::Configuration { request, start };
-        Reply::cut(bytes, content, whole.length, allocation)
+        Reply::cut(bytes, content, whole, allocation)
     }
 }

@@ -10,6 +10,7 @@ use borrow.Author.Tests.{eqb-true, eqb-false}
 use lib.Dec.{eqb}
 use Rattle.fragments.specs.Address.{lba}
 use Rattle.protocol.specs.Answer.{refusalSense}
+use Rattle.protocol.specs.Reply.{replyBytes}
 use Rattle.commands.specs.Judge.{judge}
 use Rattle.outcomes.specs.Lent.{FlushFits, TransferFits}
 use Rattle.outcomes.specs.Recorded.{flushes, transfers, recordsBlock, flushedCount}
@@ -32,13 +33,13 @@ use Rattle.drive.proofs.Laws.Step.{verdict-decided, verdict-block, verd
 
 -- a verdict that moves nothing leaves every buffer as it is
 link-carried : (s : Drive) (q : Request) (x : LinkRefusal) → carriedOut (refuseLink (s .disc) x) s q ≡ untouched s q (Link x) (s .disc)
-unfolding carriedOut refuseLink sentBytes movedMedium movedPending transferredMedium transferredPending flushedMedium flushedPending
+unfolding carriedOut refuseLink sentBytes replyBytes movedMedium movedPending transferredMedium transferredPending flushedMedium flushedPending
 link-carried s q x = ap (λ (b : List ℕ). record { answer = Link x; reply = _; recorded = 0; buffer = b; after = s }) (splice-nil (q .buffer) 0)
 
 refuse-carried :
     (s : Drive) (q : Request) (x : DriveRefusal)
     → carriedOut (refuse (s .disc) x) s q ≡ untouched s q (byDrive x) (withSense (s .disc) (refusalSense x))
-unfolding carriedOut refuse sentBytes movedMedium movedPending transferredMedium transferredPending flushedMedium flushedPending
+unfolding carriedOut refuse sentBytes replyBytes movedMedium movedPending transferredMedium transferredPending flushedMedium flushedPending
 refuse-carried s q x =
     ap (λ (b : List ℕ). record { answer = byDrive x; reply = _; recorded = 0; buffer = b; after = drive (withSense (s .disc) (refusalSense x)) (s .medium) (s .pending) })
     (splice-nil (q .buffer) 0)

@@ -3,8 +3,11 @@ use mathlib.Core.Path.{_≡_, refl, sym, ap, _∙_}
 use Prim.Native.Nat.{ℕ, _+_, _-_, _≤_}
 use native.Mathlib.Omega.{arith}
 use mathlib.Core.List.{List, [], _∷_, _++_}
-use lib.ListN.{length, take, length-append}
-use lib.Seq.{length-take-le}
+use lib.ListN.{length, take, replicate, length-append, length-replicate}
+use Rattle.features.specs.declared.listing.Listing.{Listing}
+use Rattle.features.specs.Configuration.{listing}
+use lib.Seq.{length-take-le, take-append-le}
+use Rattle.protocol.specs.Reply.{said, replyBytes}
 use types.Run.{OneOf, miss}
 use denote.Enum.Declared.{tagOf}
 use Rattle.decisions.proofs.plan.Transfer.{the-type}
@@ -15,13 +18,29 @@ use Rattle.drive.specs.Bytes.{splice}
 use Rattle.drive.specs.Reply.{sentBytes, Sendable}
 use Rattle.drive.proofs.Laws.Bytes.{length-splice, splice-splice}
 
--- a report, from the part of its bytes that is lent
+-- the first bytes, from the part that is lent; what comes after them does not matter
+pub first-put : (n : ℕ) (x buffer after : List ℕ) → after ≡ splice buffer 0 (take (n - 0) x) → after ≡ splice buffer 0 (take n x)
+first-put n x buffer after e = let k : n - 0 ≡ n = omega arith in e ∙ ap (λ (m : ℕ). splice buffer 0 (take m x)) k
+
+pub listing-room : (x : List ℕ) (l : Listing) → length x ≤ 128 → l ≡ listing x → length (l .bytes) ≡ 128
+listing-room x l h e =
+    ap (λ (r : Listing). length (r .bytes)) e
+    ∙ omega (arith, length-append x (replicate (128 - length x) 0), length-replicate {A = ℕ} (128 - length x) 0)
+
+pub listing-put :
+    (n : ℕ) (x : List ℕ) (l : Listing) (buffer after : List ℕ) → n ≤ length x → l ≡ listing x → after ≡ splice buffer 0 (take (n - 0) (l .bytes))
+    → after ≡ splice buffer 0 (take n x)
+listing-put n x l buffer after h e put =
+    first-put n (l .bytes) buffer after put
+    ∙ ap (splice buffer 0) (ap (λ (r : Listing). take n (r .bytes)) e ∙ take-append-le n x (replicate (128 - length x) 0) h)
+
+-- a report, by what it says
 pub report-put :
-    (r : Reply) (buffer after : List ℕ) → r .length ≤ length (r .bytes) → after ≡ splice buffer 0 (take (r .length - 0) (r .bytes))
-    → (r .length ≡ length (take (r .length) (r .bytes))) × (after ≡ splice buffer 0 (take (r .length) (r .bytes)))
-report-put r buffer after h e =
-    let k : r .length - 0 ≡ r .length = omega arith in
-    (sym (length-take-le (r .length) (r .bytes) h), e ∙ ap (λ (n : ℕ). splice buffer 0 (take n (r .bytes))) k)
+    (r : Reply) (buffer after : List ℕ) → r .length ≤ length (said (r .content) (r .bytes))
+    → after ≡ splice buffer 0 (take (r .length) (said (r .content) (r .bytes)))
+    → (r .length ≡ length (replyBytes r)) × (after ≡ splice buffer 0 (replyBytes r))
+unfolding replyBytes
+report-put r buffer after h e = (sym (length-take-le (r .length) (said (r .content) (r .bytes)) h), e)
 
 -- what a READ sends is what the lower layer hands out
 pub run-sent :
@@ -52,7 +71,7 @@ module _ (buffer first x y one two : List ℕ) (e : one ≡ x) (f : two ≡ y) (
 -- every other command sends its report
 pub report-sent :
     (t : Transfer) (r : Reply) (medium pending : List ℕ) → OneOf (0 ∷ 2 ∷ 3 ∷ []) (tagOf the-type t)
-    → take (r .length) (r .bytes) ≡ sentBytes t r medium pending
+    → replyBytes r ≡ sentBytes t r medium pending
 unfolding sentBytes
 report-sent Nothing r medium pending h = refl
 report-sent (Send a n i k) r medium pending h = absurd (miss (0 ∷ 2 ∷ 3 ∷ []) 1 tt h)

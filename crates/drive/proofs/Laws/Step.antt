@@ -9,6 +9,7 @@ use lib.Dec.{eqb}
 use lib.ListN.{length, take, drop, length-append, length-take}
 use Rattle.protocol.specs.Answer.{number}
 use Rattle.protocol.specs.Command.{decode}
+use Rattle.protocol.specs.Reply.{replyBytes}
 use Rattle.commands.specs.Judge.{judge}
 use Rattle.outcomes.specs.Lent.{TransferFits, RunFits, Fits}
 use Rattle.disc.specs.Verdict.{refuseLink, rise}
@@ -74,7 +75,7 @@ lent-pending d m p h = eqb-true _ _ (and-right (eqb m (32768 * d .capacity)) (eq
 -- the reply buffer has room for what is sent
 sent-room :
     (t : Transfer) (r : Reply) (medium pending : List ℕ) (m : ℕ) → RunFits m t → r .length ≤ m → length (sentBytes t r medium pending) ≤ m
-unfolding sentBytes
+unfolding sentBytes replyBytes
 sent-room Nothing r medium pending m g h = simp length-take (omega arith)
 sent-room (Send a n i k) r medium pending m g h =
     let x = drop (2048 * a .0) medium in
@@ -185,7 +186,7 @@ decision-served s q d r medium pending buffer same out =
 pub declined-served :
     (s : Drive) (q : Request) (x : LinkRefusal) (r : Outcome) → refuseLink (s .disc) x ≡ verdictOn s q → r ≡ declined (s .disc .sense) x
     → AnsweredByChange s q r (s .medium) (s .pending) (q .buffer)
-unfolding carriedOut refuseLink sentBytes movedMedium movedPending transferredMedium transferredPending flushedMedium flushedPending changed affected
+unfolding carriedOut refuseLink sentBytes replyBytes movedMedium movedPending transferredMedium transferredPending flushedMedium flushedPending changed affected
 declined-served s q x r same e =
     verdict-answered s q (refuseLink (s .disc) x) (responseOf (s .disc) r) (s .medium) (s .pending) (q .buffer) same
     (record { responds = ap (responseOf (s .disc)) e; recordedMedium = refl; keptPending = refl; filledBuffer = sym (splice-nil (q .buffer) 0) })

@@ -11,25 +11,74 @@ use Rattle.features.specs.Bytes.{bytes16, bytes32, stored}
 use Rattle.features.specs.Feature.{profile, features, featureAt, wholeDescriptor, descriptor, descriptors, isAsked, asked, selected, numbers}
 use Rattle.features.specs.Configuration.{configurationBytes, listing, askedOf}
 use Rattle.features.proofs.Laws.Bytes.{stored-over}
-use Rattle.features.proofs.Laws.Feature.{Row, row-at, descriptors-append, numbers-append, length-numbers, asked-on, asked-off}
+use Rattle.features.proofs.Laws.Feature.{Row, row-at, descriptors-append, numbers-append, length-numbers, asked-on, asked-off, asked-most}
 
 -- the descriptors of those that are asked for of the first i features
 abbrev pub listed : ℕ → ℕ → ℕ → List ℕ
 listed r s i = descriptors (asked r s (take i features))
+
+-- how long the reply is with them
+pub record Counted (r s i n : ℕ) : Type 0 where
+  pub turns : i ≤ 10
+  pub length : n ≡ 8 + length (listed r s i)
+  pub most : n ≤ 8 + 12 * i
+
+pub counted-start : (r s : ℕ) → Counted r s 0 8
+unfolding asked descriptors
+counted-start r s = record { turns = omega arith; length = refl; most = omega arith }
+
+last : (f : Feature) → descriptors (f ∷ []) ≡ descriptor f
+unfolding descriptors
+last f = append-nil (descriptor f)
+
+-- a turn of a loop, with a feature that is asked for and with one that is not
+module _ (r s i : ℕ) (h : i < 10) where
+  listed-more : isAsked r s (featureAt i) ≡ true → listed r s (i + 1) ≡ listed r s i ++ descriptor (featureAt i)
+  listed-more e =
+      ap descriptors (asked-on r s i h e)
+      ∙ (descriptors-append (asked r s (take i features)) (featureAt i ∷ []) ∙ ap (λ (t : List ℕ). listed r s i ++ t) (last (featureAt i)))
+
+  listed-same : isAsked r s (featureAt i) ≡ false → listed r s (i + 1) ≡ listed r s i
+  listed-same e = ap descriptors (asked-off r s i h e)
+
+  pub counted-on : {n : ℕ} → Counted r s i n → isAsked r s (featureAt i) ≡ true → Counted r s (i + 1) (n + (4 + featureAt i .length))
+  counted-on w e =
+      let row = row-at i h in
+      let x = listed r s i in
+      record {
+        turns = omega arith;
+        length = rw (listed-more e) (omega (arith, w .length, length-append x (descriptor (featureAt i)), row .size));
+        most = omega (arith, w .most, row .most);
+      }
+
+  pub counted-off : {n : ℕ} → Counted r s i n → isAsked r s (featureAt i) ≡ false → Counted r s (i + 1) n
+  counted-off w e = record { turns = omega arith; length = rw (listed-same e) (w .length); most = omega (arith, w .most) }
+
+-- all of them
+taken : (i : ℕ) → 10 ≤ i → take i features ≡ features
+unfolding features
+taken i h = take-all i features h
+
+listed-selected : (r s i : ℕ) → 10 ≤ i → listed r s i ≡ descriptors (selected r s)
+listed-selected r s i h = ap (λ (fs : List Feature). descriptors (asked r s fs)) (taken i h)
+
+pub counted-all : (r s i n : ℕ) → Counted r s i n → 10 ≤ i → n ≡ length (configurationBytes r s)
+unfolding configurationBytes
+counted-all r s i n w h =
+    let size : n ≡ 8 + length (descriptors (selected r s)) = rw (listed-selected r s i h) at (w .length) in
+    omega (arith, size)
 
 -- the reply so far: a header without its length, the descriptors, zeros
 abbrev pub header : List ℕ
 header = 0 ∷ 0 ∷ 0 ∷ 0 ∷ 0 ∷ 0 ∷ 0 ∷ profile ∷ []
 
 pub record Listed (r s i : ℕ) (l : List ℕ) (n : ℕ) : Type 0 where
-  pub turns : i ≤ 10
+  pub counted : Counted r s i n
   pub bytes : l ≡ header ++ (listed r s i ++ replicate (120 - length (listed r s i)) 0)
-  pub length : n ≡ 8 + length (listed r s i)
-  pub most : n ≤ 8 + 12 * i
 
 pub listed-start : (r s : ℕ) → Listed r s 0 (set (replicate 128 0) 7 profile) 8
 unfolding asked descriptors
-listed-start r s = record { turns = omega arith; bytes = refl; length = refl; most = omega arith }
+listed-start r s = record { counted = counted-start r s; bytes = refl }
 
 -- one descriptor more, over zeros
 one-more :
@@ -52,43 +101,26 @@ one-more x y k h fits =
     ∙ ap (λ (l : List ℕ). y ++ l) (replicate-append-replicate {A = ℕ} k m 0 ∙ ap (λ (n : ℕ). replicate n 0) rest))
     ∙ sym (append-assoc x y (replicate (120 - length (x ++ y)) 0)))))
 
-last : (f : Feature) → descriptors (f ∷ []) ≡ descriptor f
-unfolding descriptors
-last f = append-nil (descriptor f)
-
--- a turn of the loop, with a feature that is asked for and with one that is not
 module _ (r s i : ℕ) {l : List ℕ} {n : ℕ} (w : Listed r s i l n) (h : i < 10) where
   pub listed-on :
       {l₁ : List ℕ} → isAsked r s (featureAt i) ≡ true → l₁ ≡ stored l n (wholeDescriptor (featureAt i)) → Listed r s (i + 1) l₁ (n + (4 + featureAt i .length))
   listed-on e put =
       let row = row-at i h in
       let x = listed r s i in
-      let more : listed r s (i + 1) ≡ x ++ descriptor (featureAt i) =
-          ap descriptors (asked-on r s i h e) ∙ (descriptors-append (asked r s (take i features)) (featureAt i ∷ []) ∙ ap (λ (t : List ℕ). x ++ t) (last (featureAt i))) in
-      let size : length (x ++ descriptor (featureAt i)) ≡ length x + (4 + featureAt i .length) =
-          length-append x (descriptor (featureAt i)) ∙ ap (λ (k : ℕ). length x + k) (row .size) in
+      let k = w .counted in
       record {
-        turns = omega arith;
+        counted = counted-on r s i h k e;
         bytes =
-            rw more
+            rw (listed-more r s i h e)
             (put
             ∙ (ap (λ (t : List ℕ). stored t n (wholeDescriptor (featureAt i))) (w .bytes)
-            ∙ (ap (λ (k : ℕ). stored (header ++ (x ++ replicate (120 - length x) 0)) k (wholeDescriptor (featureAt i))) (w .length)
+            ∙ (ap (λ (m : ℕ). stored (header ++ (x ++ replicate (120 - length x) 0)) m (wholeDescriptor (featureAt i))) (k .length)
             ∙ (ap (stored (header ++ (x ++ replicate (120 - length x) 0)) (8 + length x)) (row .whole)
-            ∙ one-more x (descriptor (featureAt i)) (8 - featureAt i .length) (omega (arith, row .size, row .most)) (omega (arith, w .length, w .most))))));
-        length = rw more (omega (arith, w .length, size));
-        most = omega (arith, w .most, row .most);
+            ∙ one-more x (descriptor (featureAt i)) (8 - featureAt i .length) (omega (arith, row .size, row .most)) (omega (arith, k .length, k .most))))));
       }
 
   pub listed-off : isAsked r s (featureAt i) ≡ false → Listed r s (i + 1) l n
-  listed-off e =
-      let same : listed r s (i + 1) ≡ listed r s i = ap descriptors (asked-off r s i h e) in
-      record { turns = omega arith; bytes = rw same (w .bytes); length = rw same (w .length); most = omega (arith, w .most) }
-
--- all of them
-taken : (i : ℕ) → 10 ≤ i → take i features ≡ features
-unfolding features
-taken i h = take-all i features h
+  listed-off e = record { counted = counted-off r s i h (w .counted) e; bytes = rw (listed-same r s i h e) (w .bytes) }
 
 -- the length put in the header
 headed :
@@ -106,12 +138,11 @@ pub listed-all :
     → record { bytes = l₁; length = n } ≡ listing (configurationBytes r s)
 unfolding configurationBytes
 listed-all r s i l l₁ n w h put =
-    let all : listed r s i ≡ descriptors (selected r s) = ap (λ (fs : List Feature). descriptors (asked r s fs)) (taken i h) in
-    let size : n ≡ 8 + length (descriptors (selected r s)) = rw all at (w .length) in
+    let all = listed-selected r s i h in
+    let size : n ≡ 8 + length (descriptors (selected r s)) = rw all at (w .counted .length) in
     let start : l ≡ header ++ (descriptors (selected r s) ++ replicate (120 - length (descriptors (selected r s))) 0) = rw all at (w .bytes) in
     let bytes = put ∙ (ap (λ (t : List ℕ). stored t 0 (bytes32 (n - 4))) start ∙ headed (descriptors (selected r s)) n size) in
-    let whole : n ≡ length (configurationBytes r s) = omega (arith, size) in
-    rw (bytes, whole)
+    rw (bytes, counted-all r s i n (w .counted) h)
 
 -- those that are asked for of the first i features, their numbers and zeros
 abbrev named : ℕ → ℕ → ℕ → List Feature
@@ -166,3 +197,12 @@ named-all r s i l n w h =
     let e : l ≡ numbers (selected r s) ++ replicate (10 - length (selected r s)) 0 = rw all at (w .numbers) in
     let k : n ≡ length (selected r s) = rw all at (w .count) in
     rw (e, k)
+
+-- the longest reply is that with every feature
+all-features : length (descriptors features) ≡ 92
+unfolding features descriptors
+all-features = refl
+
+pub configuration-most : (r s : ℕ) → length (configurationBytes r s) ≤ 100
+unfolding configurationBytes
+configuration-most r s = omega (arith, asked-most r s features, all-features)

@@ -78,3 +78,14 @@ module _ (r s i : ℕ) (h : i < 10) where
   pub asked-off : isAsked r s (featureAt i) ≡ false → asked r s (take (i + 1) features) ≡ asked r s (take i features)
   unfolding asked
   asked-off e = rw (taken, asked-append r s (take i features) (featureAt i ∷ []), e) (append-nil (asked r s (take i features)))
+
+-- no request asks for more than there is
+cond-most : (b : Bool) (f : Feature) (x y : List Feature) → length (descriptors x) ≤ length (descriptors y) → length (descriptors (cond b (f ∷ x) x)) ≤ length (descriptors (f ∷ y))
+unfolding descriptors
+cond-most true f x y h = omega (arith, length-append (descriptor f) (descriptors x), length-append (descriptor f) (descriptors y))
+cond-most false f x y h = omega (arith, length-append (descriptor f) (descriptors y))
+
+pub asked-most : (r s : ℕ) (fs : List Feature) → length (descriptors (asked r s fs)) ≤ length (descriptors fs)
+unfolding asked
+asked-most r s [] = omega arith
+asked-most r s (f ∷ fs) = cond-most (isAsked r s f) f (asked r s fs) fs (asked-most r s fs)

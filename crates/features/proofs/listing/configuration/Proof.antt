@@ -39,7 +39,7 @@ is-asked-requires c κs = search needs
 put-descriptor-requires : tie.Need-put-descriptor-requires Inv-loop μ-loop
 put-descriptor-requires c κs =
     let row = rw (← c .before .before .at .ensures) at (row-at (c .before .before .before .before .loop .i) (c .before .before .before .loop-test .taken)) in
-    (omega (arith, c .before .before .before .before .loop .inv .most, c .before .before .before .loop-test .taken), row .version)
+    (omega (arith, c .before .before .before .before .loop .inv .counted .most, c .before .before .before .loop-test .taken), row .version)
 
 cast-length : tie.Need-cast-length Inv-loop μ-loop
 cast-length c = search needs

@@ -12,7 +12,7 @@ use Rattle.outcomes.specs.Recorded.{among}
 use Rattle.drive.specs.Bytes.{zeros}
 use Rattle.drive.specs.Step.{Drive, Request}
 use Rattle.drive.specs.Alike.{Alike}
-use Rattle.history.specs.Types.{Lba, Disc, Answer, Accepted, Link, Drive as byDrive, Command, TestUnitReady, RequestSense, ReadCapacity, Read, Write, SynchronizeCache, ReserveTrack, CloseTrackSession, ReadDiscInformation, ReadTrackInformation, Unlisted}
+use Rattle.history.specs.Types.{Lba, Disc, Answer, Accepted, Link, Drive as byDrive, Command, TestUnitReady, RequestSense, Inquiry, ReadCapacity, Read, Write, SynchronizeCache, ReserveTrack, CloseTrackSession, GetConfiguration, ReadDiscInformation, ReadTrackInformation, Unlisted}
 use Rattle.history.specs.Sequence.{Start, Turn, found, result, final, Admissible}
 use Rattle.history.specs.Account.{Extent, extentOf, sectorAt, account}
 
@@ -27,11 +27,13 @@ unfoldable pub writeOf : Command → List ℕ → List Written
 writeOf (Write a n) x = record { address = a .0; count = n; payload = x } ∷ []
 writeOf TestUnitReady x = []
 writeOf (RequestSense allocation) x = []
+writeOf (Inquiry page allocation) x = []
 writeOf ReadCapacity x = []
 writeOf (Read a n) x = []
 writeOf SynchronizeCache x = []
 writeOf (ReserveTrack size) x = []
 writeOf (CloseTrackSession function n) x = []
+writeOf (GetConfiguration requestType start allocation) x = []
 writeOf (ReadDiscInformation dataType allocation) x = []
 writeOf (ReadTrackInformation addressType n allocation) x = []
 writeOf Unlisted x = []

@@ -21,6 +21,7 @@ use Rattle.commands.specs.Read.{sending, read}
 use Rattle.commands.specs.Write.{flushOthersPlan, Writable, writeTo, writeFound, write}
 use Rattle.commands.specs.Reserve.{splitTail, reserve}
 use Rattle.commands.specs.Close.{filledRecord, appendTail, closeIncomplete, closeFragment, hasIncompleteReserved, closeTail, openSession, closeSession, finalized, finalize, close}
+use Rattle.reporting.specs.Identity.{inquiry, getConfiguration}
 use Rattle.reporting.specs.Reports.{requestSense, readCapacity, readDiscInformation, readTrackInformation, trackVerdict, trackFound, trackNumbered}
 use Rattle.commands.specs.Judge.{testUnitReady, perform}
 use Rattle.fragments.proofs.Laws.Bool.{and-both, and-false, by-cases, or-left, or-right, or-cases, same-test, cond-yes, cond-no, cond-cases}
@@ -35,7 +36,7 @@ use Rattle.commands.proofs.Laws.Flush.{owner, flush-grows, flush-sound, flush-u
 use Rattle.commands.proofs.Laws.Write.{writable-found}
 use Rattle.commands.proofs.Laws.Reserve.{reserve-cases}
 use Rattle.outcomes.proofs.Laws.Counts.{blank-only-none}
-use Rattle.history.specs.Types.{Lba, Fragment, Kind, Reserved, Appended, Disc, Found, Number, Nowhere, Accepted, DriveRefusal, WriteProtected, InvalidFieldInCommand, AddressOutOfRange, InvalidOperationCode, InvalidAddressForWrite, IncompleteTrackInSession, EmptyTrack, NoMoreReservations, EndOfUserArea, Reply, Flush, Plan, Verdict, Skip, Record, Nothing, Gather, Fill, Command, TestUnitReady, RequestSense, ReadCapacity, Read, Write, SynchronizeCache, ReserveTrack, CloseTrackSession, ReadDiscInformation, ReadTrackInformation, Unlisted}
+use Rattle.history.specs.Types.{Lba, Fragment, Kind, Reserved, Appended, Disc, Found, Number, Nowhere, Accepted, DriveRefusal, WriteProtected, InvalidFieldInCommand, AddressOutOfRange, InvalidOperationCode, InvalidAddressForWrite, IncompleteTrackInSession, EmptyTrack, NoMoreReservations, EndOfUserArea, Reply, Flush, Plan, Verdict, Skip, Record, Nothing, Gather, Fill, Command, TestUnitReady, RequestSense, Inquiry, ReadCapacity, Read, Write, SynchronizeCache, ReserveTrack, CloseTrackSession, GetConfiguration, ReadDiscInformation, ReadTrackInformation, Unlisted}
 use Rattle.history.specs.Account.{extentOf}
 use Rattle.history.specs.Past.{Past, blockRecorded, sectorGathered, sectorsGathered, pastFlushed, pastFilled, pastAfter}
 
@@ -558,15 +559,19 @@ module _ (d : Disc) (h : Past) (r : Ready d) (w : Recalls d h) where
 
   -- every command
   pub recalled-performed : (c : Command) → Recalled (pastAfter d c h) (perform d c)
-  unfolding perform pastAfter testUnitReady requestSense readCapacity readDiscInformation synchronizeCache
+  unfolding perform pastAfter testUnitReady requestSense inquiry getConfiguration readCapacity readDiscInformation synchronizeCache
   recalled-performed TestUnitReady = recalled-same noReply
   recalled-performed (RequestSense allocation) = recalled-same _
+  recalled-performed (Inquiry page allocation) =
+      cond-cases (Recalled h) (eqb page 0) _ _ (λ t. recalled-same _) (λ t. recalled-refused h InvalidFieldInCommand)
   recalled-performed ReadCapacity = recalled-same _
   recalled-performed (Read a n) = recalled-read a n
   recalled-performed (Write a n) = recalled-write a n
   recalled-performed SynchronizeCache = recalled-flush (flush d) noReply
   recalled-performed (ReserveTrack size) = recalled-reserve size
   recalled-performed (CloseTrackSession function j) = recalled-close function j
+  recalled-performed (GetConfiguration requestType start allocation) =
+      cond-cases (Recalled h) (eqb requestType 3) _ _ (λ t. recalled-refused h InvalidFieldInCommand) (λ t. recalled-same _)
   recalled-performed (ReadDiscInformation dataType allocation) =
       cond-cases (Recalled h) (eqb dataType 0) _ _ (λ t. recalled-same _) (λ t. recalled-refused h InvalidFieldInCommand)
   recalled-performed (ReadTrackInformation addressType number allocation) = recalled-track addressType number allocation

@@ -23,7 +23,7 @@ use Rattle.drive.specs.Step.{Drive, Request, Result, verdictOn, carriedOut, ste
 use Rattle.drive.proofs.Laws.Alike.{step-link, step-refused}
 use Rattle.drive.proofs.Laws.Cut.{Served, served-after, served-alike}
 use Rattle.drive.proofs.Laws.Step.{verdict-decided}
-use Rattle.history.specs.Types.{Lba, Disc, Answer, Accepted, Link, Drive as byDrive, Verdict, Command, TestUnitReady, RequestSense, ReadCapacity, Read, Write, SynchronizeCache, ReserveTrack, CloseTrackSession, ReadDiscInformation, ReadTrackInformation, Unlisted}
+use Rattle.history.specs.Types.{Lba, Disc, Answer, Accepted, Link, Drive as byDrive, Verdict, Command, TestUnitReady, RequestSense, Inquiry, ReadCapacity, Read, Write, SynchronizeCache, ReserveTrack, CloseTrackSession, GetConfiguration, ReadDiscInformation, ReadTrackInformation, Unlisted}
 use Rattle.history.specs.Sequence.{Start, Turn, found, result, final, Admissible}
 use Rattle.history.specs.Account.{Extent, Account, opened, extentOf, written, flushed, filled, credited, noted, accountFrom, account}
 use Rattle.history.specs.Brought.{Written, writeOf, acceptedWrite, writes, broughtTo, sole, broughtIn}
@@ -179,9 +179,11 @@ credited-pads n x (CloseTrackSession function number) sectors k b first none =
     (λ t. subst (λ (l : Account). Pads b k l) (sym (cond-no test (filled x (flushed x k)) (flushed x k) t)) (pads-flushed b x k first))
 credited-pads n x TestUnitReady sectors k b first none = pads-same b k
 credited-pads n x (RequestSense allocation) sectors k b first none = pads-same b k
+credited-pads n x (Inquiry page allocation) sectors k b first none = pads-same b k
 credited-pads n x ReadCapacity sectors k b first none = pads-same b k
 credited-pads n x (Read a count) sectors k b first none = pads-same b k
 credited-pads n x (ReserveTrack size) sectors k b first none = pads-same b k
+credited-pads n x (GetConfiguration requestType start allocation) sectors k b first none = pads-same b k
 credited-pads n x (ReadDiscInformation dataType allocation) sectors k b first none = pads-same b k
 credited-pads n x (ReadTrackInformation addressType number allocation) sectors k b first none = pads-same b k
 credited-pads n x Unlisted sectors k b first none = pads-same b k
@@ -294,11 +296,13 @@ isWrite : Command → Bool
 isWrite (Write a count) = true
 isWrite TestUnitReady = false
 isWrite (RequestSense allocation) = false
+isWrite (Inquiry page allocation) = false
 isWrite ReadCapacity = false
 isWrite (Read a count) = false
 isWrite SynchronizeCache = false
 isWrite (ReserveTrack size) = false
 isWrite (CloseTrackSession function number) = false
+isWrite (GetConfiguration requestType start allocation) = false
 isWrite (ReadDiscInformation dataType allocation) = false
 isWrite (ReadTrackInformation addressType number allocation) = false
 isWrite Unlisted = false
@@ -400,11 +404,13 @@ module _
     accepted-traced e (Write a count) is = equal-cases count 0 (write-empty e a count is) (write-some e a count is)
     accepted-traced e TestUnitReady is = command-plain e TestUnitReady is refl
     accepted-traced e (RequestSense allocation) is = command-plain e (RequestSense allocation) is refl
+    accepted-traced e (Inquiry page allocation) is = command-plain e (Inquiry page allocation) is refl
     accepted-traced e ReadCapacity is = command-plain e ReadCapacity is refl
     accepted-traced e (Read a count) is = command-plain e (Read a count) is refl
     accepted-traced e SynchronizeCache is = command-plain e SynchronizeCache is refl
     accepted-traced e (ReserveTrack size) is = command-plain e (ReserveTrack size) is refl
     accepted-traced e (CloseTrackSession function number) is = command-plain e (CloseTrackSession function number) is refl
+    accepted-traced e (GetConfiguration requestType start allocation) is = command-plain e (GetConfiguration requestType start allocation) is refl
     accepted-traced e (ReadDiscInformation dataType allocation) is = command-plain e (ReadDiscInformation dataType allocation) is refl
     accepted-traced e (ReadTrackInformation addressType number allocation) is =
         command-plain e (ReadTrackInformation addressType number allocation) is refl

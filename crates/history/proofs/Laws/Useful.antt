@@ -17,6 +17,7 @@ use Rattle.commands.specs.Flush.{flush, flushPlan}
 use Rattle.commands.specs.Write.{flushOthers, flushOthersPlan, gather, writeTo, writeFound, write}
 use Rattle.reporting.specs.Reports.{sessionState, discStatus, readDiscInformation}
 use Rattle.protocol.specs.Reports.{discBytes}
+use Rattle.protocol.specs.Reply.{said, replyBytes}
 use Rattle.commands.specs.Judge.{perform, judgeCommand, judge}
 use Rattle.disc.specs.Verdict.{accepted, accept}
 use Rattle.drive.specs.Reply.{sentBytes}
@@ -50,7 +51,7 @@ computed :
     (one .answer ≡ Accepted) × (one .recorded ≡ 1)
     × ((m p : List ℕ) → sentBytes (two .plan .transfer) (two .reply) m p ≡ 0x00 ∷ 0x20 ∷ 0x05 ∷ 1 ∷ 1 ∷ 1 ∷ 1 ∷ replicate 27 0)
     × (three .answer ≡ Accepted) × (three .recorded ≡ 1)
-unfolding sentBytes decode writeOpcode fields listed some every find sumRecorded firstOfSession usedFirst firstAtZero followsFrom inOrder endsWithin recordedWithin zeroedWithin incompleteLast tailLast tailOrFull pendingNamed finalizedComplete sound allowedState isRefusalSense allowedSense blank dataLength replyRoom lengthsFit accepted accept flush flushPlan flushOthers flushOthersPlan gather writeTo writeFound write sessionState discStatus discBytes readDiscInformation perform judgeCommand judge
+unfolding sentBytes replyBytes said decode writeOpcode fields listed some every find sumRecorded firstOfSession usedFirst firstAtZero followsFrom inOrder endsWithin recordedWithin zeroedWithin incompleteLast tailLast tailOrFull pendingNamed finalizedComplete sound allowedState isRefusalSense allowedSense blank dataLength replyRoom lengthsFit accepted accept flush flushPlan flushOthers flushOthersPlan gather writeTo writeFound write sessionState discStatus discBytes readDiscInformation perform judgeCommand judge
 computed = (refl, refl, λ m p. refl, refl, refl)
 
 module _ (s : Drive) (start : Start 300 s) where

@@ -24,7 +24,7 @@ use Rattle.drive.specs.Alike.{recordedByte}
 use Rattle.drive.specs.Requests.{WriteOf}
 use Rattle.drive.proofs.Laws.Bytes.{length-zeros}
 use Rattle.drive.proofs.Laws.Cut.{write-verdict}
-use Rattle.history.specs.Types.{Lba, Disc, Verdict, Answer, Accepted, Link, Drive as byDrive, Command, TestUnitReady, RequestSense, ReadCapacity, Read, Write, SynchronizeCache, ReserveTrack, CloseTrackSession, ReadDiscInformation, ReadTrackInformation, Unlisted}
+use Rattle.history.specs.Types.{Lba, Disc, Verdict, Answer, Accepted, Link, Drive as byDrive, Command, TestUnitReady, RequestSense, Inquiry, ReadCapacity, Read, Write, SynchronizeCache, ReserveTrack, CloseTrackSession, GetConfiguration, ReadDiscInformation, ReadTrackInformation, Unlisted}
 use Rattle.history.specs.Sequence.{Start, Turn, result, final}
 use Rattle.history.specs.Forms.{longest, addresses, writeCdb}
 use Rattle.history.specs.Cut.{Parts, none, part, CutOf, Again, ends, same, cut}
@@ -141,11 +141,13 @@ recut-command ks q (Write a n) is =
     (λ t. inl (cond-no (isCut q (a .0) n ks) (partsOf (a .0) ks (q .payload)) (q ∷ []) t))
 recut-command ks q TestUnitReady is = inl refl
 recut-command ks q (RequestSense allocation) is = inl refl
+recut-command ks q (Inquiry page allocation) is = inl refl
 recut-command ks q ReadCapacity is = inl refl
 recut-command ks q (Read a n) is = inl refl
 recut-command ks q SynchronizeCache is = inl refl
 recut-command ks q (ReserveTrack size) is = inl refl
 recut-command ks q (CloseTrackSession function n) is = inl refl
+recut-command ks q (GetConfiguration requestType start allocation) is = inl refl
 recut-command ks q (ReadDiscInformation dataType allocation) is = inl refl
 recut-command ks q (ReadTrackInformation addressType n allocation) is = inl refl
 recut-command ks q Unlisted is = inl refl

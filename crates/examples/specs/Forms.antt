@@ -5,6 +5,7 @@ use Prim.Native.Nat.{ℕ}
 use mathlib.Core.Path.{_≡_, refl}
 use mathlib.Core.Bool.{true, false}
 use mathlib.Core.List.{List, [], _∷_, map}
+use Rattle.protocol.specs.Reply.{said, replyBytes}
 use Rattle.protocol.specs.Answer.{sense, isRefusalSense, allowedSense}
 use Rattle.disc.specs.Blank.{blank}
 use Rattle.protocol.specs.Command.{decode}
@@ -106,7 +107,7 @@ runs =
 
 pub forms : map (λ (r : Run). played (r .disc) (r .lines)) runs ≡ map (λ (r : Run). map (λ (l : Line). l .expected) (r .lines)) runs
 unfolding
-    shown played blank judge judgeCommand perform decode dataLength replyRoom lengthsFit accepted accept refuse refuseLink
+    shown replyBytes said played blank judge judgeCommand perform decode dataLength replyRoom lengthsFit accepted accept refuse refuseLink
     isRefusalSense allowedSense listed some every find sumRecorded
     usedFirst firstAtZero followsFrom inOrder endsWithin recordedWithin zeroedWithin incompleteLast tailLast tailOrFull pendingNamed
     finalizedComplete sound allowedState

@@ -7,6 +7,7 @@ use mathlib.Core.Path.{_≡_, refl}
 use mathlib.Core.Bool.{true, false}
 use mathlib.Core.List.{List, [], _∷_, _++_, map}
 use lib.ListN.{replicate}
+use Rattle.protocol.specs.Reply.{said, replyBytes}
 use Rattle.protocol.specs.Answer.{sense, isRefusalSense, allowedSense}
 use Rattle.protocol.specs.Command.{decode}
 use Rattle.protocol.specs.Reports.{discBytes, trackBytes}
@@ -161,7 +162,7 @@ sound-starts = refl
 
 pub full : map (λ (r : Run). performed (start r) (r .lines)) runs ≡ map (λ (r : Run). map (λ (l : Line). l .expected) (r .lines)) runs
 unfolding
-    shown performed column perform decode accepted accept refuse listed some find sumRecorded firstOfSession
+    shown replyBytes said performed column perform decode accepted accept refuse listed some find sumRecorded firstOfSession
     flush flushPlan synchronizeCache flushOthers flushOthersPlan gather writeTo writeFound write
     splitTail reserve appendTail closeIncomplete closeFragment closeTail openSession closeSession finalize close
     sessionState discStatus discBytes readDiscInformation nextWritableOrZero freeSectors trackBytes trackVerdict trackFound trackNumbered

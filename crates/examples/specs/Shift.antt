@@ -6,6 +6,7 @@ use mathlib.Core.Bool.{cond}
 use mathlib.Core.List.{List, [], _∷_, map}
 use lib.ListN.{take, replicate}
 use Rattle.examples.specs.Types.{Sense, Reserved, Appended, Fragment, Disc, Verdict}
+use Rattle.protocol.specs.Reply.{said, replyBytes}
 use Rattle.protocol.specs.Answer.{sense, number, isRefusalSense, allowedSense}
 use Rattle.protocol.specs.Command.{decode}
 use Rattle.fragments.specs.Fragment.{fragment}
@@ -41,7 +42,7 @@ shown v =
     record {
       answer = number (v .answer);
       recorded = v .recorded;
-      reply = take (v .reply .length) (v .reply .bytes);
+      reply = replyBytes (v .reply);
       sense = d .sense;
       next = cond (hasTail d) (nextWritable d (used d) (lastRecord d) .0) 0;
       pending = d .pending;
@@ -121,7 +122,7 @@ table =
 
 pub shift : run (blank 300) (map (λ l. l .command) table) ≡ map (λ l. l .expected) table
 unfolding
-    shown run blank judge judgeCommand perform decode dataLength replyRoom lengthsFit accepted accept refuse refuseLink
+    shown replyBytes said run blank judge judgeCommand perform decode dataLength replyRoom lengthsFit accepted accept refuse refuseLink
     isRefusalSense allowedSense listed some every find sumRecorded highestReadable firstOfSession
     usedFirst firstAtZero followsFrom inOrder endsWithin recordedWithin zeroedWithin incompleteLast tailLast tailOrFull pendingNamed
     finalizedComplete sound allowedState

@@ -6,6 +6,7 @@ use mathlib.Core.Path.{_≡_, refl}
 use mathlib.Core.Bool.{Bool, true, false}
 use mathlib.Core.List.{List, [], _∷_, _++_, map}
 use lib.ListN.{length, replicate}
+use Rattle.protocol.specs.Reply.{said, replyBytes}
 use Rattle.protocol.specs.Answer.{sense, isRefusalSense, allowedSense}
 use Rattle.disc.specs.Blank.{blank}
 use Rattle.protocol.specs.Command.{decode}
@@ -471,7 +472,7 @@ runs =
 
 pub tour : map (λ (r : Run). played (r .disc) (r .lines)) runs ≡ map (λ (r : Run). map (λ (l : Line). l .expected) (r .lines)) runs
 unfolding
-    shown played blank judge judgeCommand perform decode dataLength replyRoom lengthsFit accepted accept refuse refuseLink
+    shown replyBytes said played blank judge judgeCommand perform decode dataLength replyRoom lengthsFit accepted accept refuse refuseLink
     isRefusalSense allowedSense listed some every find sumRecorded highestReadable firstOfSession
     usedFirst firstAtZero followsFrom inOrder endsWithin recordedWithin zeroedWithin incompleteLast tailLast tailOrFull pendingNamed
     finalizedComplete sound allowedState

@@ -1,32 +1,73 @@
-// A reply taken apart.
-use features::Feature;
+// A reply taken apart. Its length and its first feature leave one reply that the drive can send; every byte is compared with that.
+ghost use mathlib.Core.Path.{_≡_};
+ghost use lib.ListN.{length, take};
+ghost use Rattle.features.specs.Feature.{selected};
+ghost use Rattle.features.specs.Configuration.{configurationBytes};
+ghost use Rattle.configuration.specs.Reading.{refused, reading, sameBytes, readReply};
+ghost use Rattle.configuration.specs.First.{firstFeature};
+
+// The request types that ask for every feature from one on, and for that one alone.
+const ALL: u8 = 0;
+
+const ONE: u8 = 2;
 
 // What is read of a reply: the current profile, and the numbers of its features in order, zeros after them. All zero where it is refused.
 pub struct Reading {
     pub accepted: bool,
     pub profile: u16,
     pub count: usize,
-    pub features: [u16; Feature::COUNT],
+    pub features: [u16; 10],
 }
 
-// Two bytes from a place on, the highest first; past the end, the highest number there is.
-fn word(reply: &[u8], at: usize) -> u16
+impl Reading {
+    // Of a reply that is not accepted.
+    fn refused() -> Reading
+        ensures { λ r. ⌜ r ≡ refused ⌝ }
+    {
+        let features = [0u16; 10];
+        Reading {
+            accepted: false,
+            profile: 0,
+            count: 0,
+            features,
+        }
+    }
+
+    // Of the reply to a request.
+    fn of(request: u8, start: u16) -> Reading
+        ensures { λ r. ⌜ r ≡ reading (selected request start) ⌝ }
+    {
+        let asked = features::numbers(request, start);
+        let features = asked.numbers;
+        Reading {
+            accepted: true,
+            profile: features::PROFILE,
+            count: asked.count,
+            features,
+        }
+    }
+}
+
+// The number of a reply's first feature; where there is none, one that no feature has.
+fn first_feature(reply: &[u8]) -> u16
+    ensures { λ r. ⌜ r ≡ firstFeature (now (reply .entry)) ⌝ }
 {
-    if reply.len() < at + 2 {
+    if reply.len() < 10 {
         return 0xFFFF;
     }
-    0x100 * (reply[at] as u16) + reply[at + 1] as u16
+    0x100 * (reply[8] as u16) + reply[9] as u16
 }
 
-// Whether a reply is these bytes.
-fn is(reply: &[u8], bytes: &[u8]) -> bool
+// Whether two runs of bytes are the same.
+fn is_same(one: &[u8], other: &[u8]) -> bool
+    ensures { λ r. ⌜ r ≡ sameBytes (now (one .entry)) (now (other .entry)) ⌝ }
 {
-    if reply.len() != bytes.len() {
+    if one.len() != other.len() {
         return false;
     }
     let mut i = 0;
-    while i < reply.len() {
-        if reply[i] != bytes[i] {
+    while i < one.len() {
+        if one[i] != other[i] {
             return false;
         }
         i += 1;
@@ -36,35 +77,24 @@ fn is(reply: &[u8], bytes: &[u8]) -> bool
 
 // Whether a reply is the whole one to a request.
 fn answers(reply: &[u8], request: u8, start: u16) -> bool
+    ensures { λ r. ⌜ r ≡ sameBytes (now (reply .entry)) (configurationBytes request start) ⌝ }
 {
     let whole = features::configuration(request, start);
-    let bytes = whole.bytes;
     let length = whole.length;
-    is(reply, &bytes[0..length])
+    let bytes = whole.bytes;
+    is_same(reply, &bytes[0..length])
 }
 
 // Reads a reply: it is the whole reply to a request for its first feature alone, or for all from that one on, or it is refused.
 pub fn read(reply: &[u8]) -> Reading
+    ensures { λ r. ⌜ r ≡ readReply (now (reply .entry)) ⌝ }
 {
-    let first = word(reply, 8);
-    if answers(reply, 2, first) {
-        return Reading::of(2, first);
+    let first = first_feature(reply);
+    if answers(reply, ONE, first) {
+        return Reading::of(ONE, first);
     }
-    if answers(reply, 0, first) {
-        return Reading::of(0, first);
+    if answers(reply, ALL, first) {
+        return Reading::of(ALL, first);
     }
     Reading::refused()
-}
-impl Reading {
-    fn refused() -> Reading
-    {
-        let features = [0u16; Feature::COUNT];
-        Reading { accepted: false, profile: 0, count: 0, features }
-    }
-    fn of(request: u8, start: u16) -> Reading
-    {
-        let asked = features::numbers(request, start);
-        let features = asked.numbers;
-        Reading { accepted: true, profile: 0x001B, count: asked.count, features }
-    }
 }

@@ -1,6 +1,6 @@
 -- The drive's features, as a table: those of source document 000's Table 5 and, of its Table 3, the feature DVD+R. Fields that are left
 -- open there are zero.
-use Prim.Native.Nat.{ℕ, _+_, _*_}
+use Prim.Native.Nat.{ℕ, _+_, _*_, _<_}
 use mathlib.Core.Bool.{Bool, cond}
 use mathlib.Core.List.{List, [], _∷_, _++_}
 use lib.ListN.{take, getD}
@@ -64,3 +64,12 @@ selected request start = asked request start features
 unfoldable pub numbers : List Feature → List ℕ
 numbers [] = []
 numbers (f ∷ fs) = f .number ∷ numbers fs
+
+-- features in rising order of number: all above a number, and by themselves
+unfoldable pub Above : ℕ → List Feature → Type 0
+Above n [] = Unit {0}
+Above n (f ∷ fs) = (n < f .number) × Above (f .number) fs
+
+unfoldable pub Rising : List Feature → Type 0
+Rising [] = Unit {0}
+Rising (f ∷ fs) = Above (f .number) fs

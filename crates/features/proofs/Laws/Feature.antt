@@ -7,8 +7,10 @@ use native.Mathlib.Omega.{arith}
 use native.Mathlib.Numerals.{add-one}
 use lib.ListN.{length, take, getD, replicate, length-append}
 use lib.Seq.{take-suc}
+use lib.Dec.{eqb}
+use borrow.Author.Tests.{le-leb, ne-eqb}
 use Rattle.features.specs.Types.{Feature}
-use Rattle.features.specs.Feature.{feature, features, featureAt, wholeDescriptor, descriptor, descriptors, isAsked, asked, numbers}
+use Rattle.features.specs.Feature.{feature, features, featureAt, wholeDescriptor, descriptor, descriptors, isAsked, asked, numbers, Above, Rising}
 
 -- a row of the table as the code stores it: the data have four bytes and zeros after them, or eight
 pub record Row (f : Feature) : Type 0 where
@@ -89,3 +91,22 @@ pub asked-most : (r s : ℕ) (fs : List Feature) → length (descriptors (asked 
 unfolding asked
 asked-most r s [] = omega arith
 asked-most r s (f ∷ fs) = cond-most (isAsked r s f) f (asked r s fs) fs (asked-most r s fs)
+
+-- the table's numbers rise
+pub features-rise : Rising features
+unfolding features Rising Above
+features-rise =
+    (omega arith, (omega arith, (omega arith, (omega arith, (omega arith, (omega arith, (omega arith, (omega arith, (omega arith, tt)))))))))
+
+-- in rising order a request asks for all that are above its starting number, or for none of them
+pub above-from : (r s n : ℕ) (fs : List Feature) → eqb r 2 ≡ false → Above n fs → s ≤ n → asked r s fs ≡ fs
+unfolding asked Above
+above-from r s n [] e a h = refl
+above-from r s n (f ∷ fs) e a h =
+    rw (e, le-leb s (f .number) (omega (arith, a .0, h))) (ap (λ (x : List Feature). f ∷ x) (above-from r s (f .number) fs e (a .1) (omega (arith, a .0, h))))
+
+pub above-one : (r s n : ℕ) (fs : List Feature) → eqb r 2 ≡ true → Above n fs → s ≤ n → asked r s fs ≡ []
+unfolding asked Above
+above-one r s n [] e a h = refl
+above-one r s n (f ∷ fs) e a h =
+    rw (e, ne-eqb (f .number) s (λ q. omega (arith, a .0, h, q))) (above-one r s (f .number) fs e (a .1) (omega (arith, a .0, h)))

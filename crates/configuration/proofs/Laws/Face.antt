@@ -1,0 +1,2 @@
+-- The C face.
+use Prim.Native.Nat.{ℕ}

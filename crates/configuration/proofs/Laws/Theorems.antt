@@ -1,0 +1,2 @@
+-- The reader and the drive's replies.
+use Prim.Native.Nat.{ℕ}

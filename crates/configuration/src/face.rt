@@ -1,0 +1,40 @@
+// The C face: what is read of a reply, in words.
+use crate::reader;
+use crate::reader::Reading;
+ghost use mathlib.Core.Path.{_≡_};
+ghost use lib.ListN.{length};
+ghost use Rattle.configuration.specs.Face.{wordsOf, Faced};
+
+// Words of what is read: the profile, the number of features, and their numbers.
+const WORDS: usize = 12;
+
+// Writes what is read into the words.
+fn write(words: &mut [u32], reading: Reading)
+    requires { ⌜ (length (now words) ≡ 12) × (length (reading .features) ≡ 10) ⌝ }
+    ensures { λ _. ⌜ now (words .exit) ≡ wordsOf reading ⌝ }
+{
+    words[0] = reading.profile as u32;
+    words[1] = reading.count as u32;
+    let features = reading.features;
+    let mut i = 0;
+    while i < 10 {
+        words[i + 2] = features[i] as u32;
+        i += 1;
+    }
+}
+
+// Reads a reply into twelve words: 0. 1 where it is no uncut reply of the drive, and 2 where there are not twelve words; then the words stay.
+#[no_mangle]
+pub extern "C" fn gladhamre_configuration(reply: &[u8], words: &mut [u32]) -> u32
+    ensures { λ r. ⌜ Faced (now (reply .entry)) (now (words .entry)) r (now (words .exit)) ⌝ }
+{
+    if words.len() != WORDS {
+        return 2;
+    }
+    let reading = reader::read(reply);
+    if !reading.accepted {
+        return 1;
+    }
+    write(words, reading);
+    0
+}

@@ -21,6 +21,6 @@ unfoldable pub faceWords : List ℕ → List ℕ → List ℕ
 faceWords reply words = cond (eqb (faceNumber reply words) 0) (wordsOf (readReply reply)) words
 
 -- the promise of the C face
-pub record Faced (reply words : List ℕ) (number : ℕ) (after : List ℕ) : Type 0 where
-  pub number : number ≡ faceNumber reply words
-  pub words : after ≡ faceWords reply words
+pub record Faced (reply words : List ℕ) (n : ℕ) (after : List ℕ) : Type 0 where
+  pub number : n ≡ faceNumber reply words
+  pub written : after ≡ faceWords reply words

@@ -13,13 +13,13 @@ abbrev pub ReadBack : Type 0
 ReadBack = (request start : ℕ) → readReply (configurationBytes request start) ≡ reading (selected request start)
 
 -- a reply that the drive can send, and what is read of it
-pub record Sent (bytes : List ℕ) (r : Reading) : Type 0 where
+pub record Sent (x : List ℕ) (r : Reading) : Type 0 where
   pub request : ℕ
   pub start : ℕ
   pub served : request ≤ 2
   pub fits : start ≤ 0xFFFF
-  pub bytes : bytes ≡ configurationBytes request start
-  pub reading : r ≡ reading (selected request start)
+  pub reply : x ≡ configurationBytes request start
+  pub told : r ≡ reading (selected request start)
 
 -- and whatever is accepted is such a reply
 abbrev pub OnlySent : Type 0

@@ -2,6 +2,7 @@
 use crate::reader;
 use crate::reader::Reading;
 ghost use mathlib.Core.Path.{_≡_};
+ghost use Prim.Native.Nat.{_≤_};
 ghost use lib.ListN.{length};
 ghost use Rattle.configuration.specs.Face.{wordsOf, Faced};
 
@@ -10,15 +11,15 @@ const WORDS: usize = 12;
 
 // Writes what is read into the words.
 fn write(words: &mut [u32], reading: Reading)
-    requires { ⌜ (length (now words) ≡ 12) × (length (reading .features) ≡ 10) ⌝ }
+    requires { ⌜ (length (now words) ≡ 12) × (reading .count ≤ 10) ⌝ }
     ensures { λ _. ⌜ now (words .exit) ≡ wordsOf reading ⌝ }
 {
-    words[0] = reading.profile as u32;
+    words[0] = reading.profile;
     words[1] = reading.count as u32;
     let features = reading.features;
     let mut i = 0;
     while i < 10 {
-        words[i + 2] = features[i] as u32;
+        words[2 + i] = features[i];
         i += 1;
     }
 }

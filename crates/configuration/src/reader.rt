@@ -14,9 +14,9 @@ const ONE: u8 = 2;
 // What is read of a reply: the current profile, and the numbers of its features in order, zeros after them. All zero where it is refused.
 pub struct Reading {
     pub accepted: bool,
-    pub profile: u16,
+    pub profile: u32,
     pub count: usize,
-    pub features: [u16; 10],
+    pub features: [u32; 10],
 }
 
 impl Reading {
@@ -24,7 +24,7 @@ impl Reading {
     fn refused() -> Reading
         ensures { λ r. ⌜ r ≡ refused ⌝ }
     {
-        let features = [0u16; 10];
+        let features = [0u32; 10];
         Reading {
             accepted: false,
             profile: 0,
@@ -55,7 +55,9 @@ fn first_feature(reply: &[u8]) -> u16
     if reply.len() < 10 {
         return 0xFFFF;
     }
-    0x100 * (reply[8] as u16) + reply[9] as u16
+    let high = reply[8];
+    let low = reply[9];
+    0x100 * (high as u16) + low as u16
 }
 
 // Whether two runs of bytes are the same.

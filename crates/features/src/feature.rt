@@ -4,7 +4,7 @@ ghost use Prim.Native.Nat.{_<_};
 ghost use Rattle.features.specs.Feature.{feature, featureAt, isAsked};
 
 // The current profile: DVD+R.
-pub const PROFILE: u16 = 0x001B;
+pub const PROFILE: u32 = 0x001B;
 
 // The request type that asks for one feature alone.
 const ONE: u8 = 2;

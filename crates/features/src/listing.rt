@@ -16,7 +16,7 @@ pub struct Listing {
 
 // The numbers of features in order, zeros after them, and how many there are.
 pub struct Asked {
-    pub numbers: [u16; Feature::COUNT],
+    pub numbers: [u32; Feature::COUNT],
     pub count: usize,
 }
 
@@ -96,13 +96,13 @@ pub fn configuration(request: u8, start: u16) -> Listing
 pub fn numbers(request: u8, start: u16) -> Asked
     ensures { λ r. ⌜ r ≡ askedOf (selected request start) ⌝ }
 {
-    let mut numbers = [0u16; Feature::COUNT];
+    let mut numbers = [0u32; Feature::COUNT];
     let mut count = 0;
     let mut i = 0;
     while i < Feature::COUNT {
         let f = Feature::at(i);
         if f.is_asked(request, start) {
-            numbers[count] = f.number;
+            numbers[count] = f.number as u32;
             count += 1;
         }
         i += 1;

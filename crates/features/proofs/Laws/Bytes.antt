@@ -4,7 +4,7 @@ use mathlib.Core.Path.{_≡_, refl, sym, ap, _∙_}
 use mathlib.Core.List.{List, [], _∷_, _++_, append-assoc}
 use native.Mathlib.Omega.{arith}
 use native.Mathlib.Numerals.{add-one}
-use lib.ListN.{length, take, set, getD, length-append}
+use lib.ListN.{length, take, set, getD, length-set, length-append}
 use lib.Seq.{set-append-seam, append-snoc, length-take-le, take-suc}
 use Rattle.features.specs.Bytes.{stored}
 
@@ -53,3 +53,8 @@ stored-next l i k d x h =
     let size : k ≡ length (take k x) = sym (length-take-le k x (omega arith)) in
     rw (add-one, take-suc x k d h)
     (ap (λ (n : ℕ). set (stored l i (take k x)) (i + n) (getD x k d)) size ∙ stored-parts l i (take k x) (getD x k d ∷ []))
+
+pub length-stored : (l : List ℕ) (i : ℕ) (x : List ℕ) → length (stored l i x) ≡ length l
+unfolding stored
+length-stored l i [] = refl
+length-stored l i (b ∷ x) = length-stored (set l i b) (i + 1) x ∙ length-set l i b

@@ -27,6 +27,9 @@ at-requires c κs = search needs
 is-asked-requires : tie.Need-is-asked-requires Inv-loop μ-loop
 is-asked-requires c κs = search needs
 
+cast-numbers : tie.Need-cast-numbers Inv-loop μ-loop
+cast-numbers c = search needs
+
 mul-numbers : tie.Need-mul-numbers Inv-loop μ-loop
 mul-numbers c = search needs
 
@@ -50,7 +53,7 @@ loop-again c =
     ⊎-elim
     (λ t.
     let e = rw f at (sym (c .before .is-asked .ensures) ∙ t .0 .taken) in
-    rw (t .1, t .2, f) (named-on _ _ _ w h e))
+    rw (t .2, t .3, f) (named-on _ _ _ w h e))
     (λ t.
     let e = rw f at (sym (c .before .is-asked .ensures) ∙ t .0 .left) in
     rw (t .1, t .2) (named-off _ _ _ w h e))
@@ -70,6 +73,7 @@ numbers-spec =
     loop-holds
     at-requires
     is-asked-requires
+    cast-numbers
     mul-numbers
     array-write-numbers
     add-count

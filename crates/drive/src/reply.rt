@@ -42,7 +42,12 @@ fn send_report(report: Reply, reply: &mut [u8]) -> usize
     let content = report.content;
     match content {
         Content::Own => send_own(bytes, sent, reply),
-        Content::Configuration { request, start } => send_configuration(request, start, sent, reply),
+        Content::Configuration { request, start } => send_configuration(
+            request,
+            start,
+            sent,
+            reply,
+        ),
     }
     sent
 }

@@ -90,7 +90,7 @@ one-more x y k h fits =
     let split : 120 - length x ≡ 12 + m = omega arith in
     let front : 8 + length x ≡ length (header ++ x) = omega arith in
     let size : length (replicate {A = ℕ} 12 0) ≡ length (y ++ replicate k 0) =
-        omega (arith, length-append y (replicate k 0), length-replicate {A = ℕ} k 0, h) in
+    omega (arith, length-append y (replicate k 0), length-replicate {A = ℕ} k 0, h) in
     let rest : k + m ≡ 120 - length (x ++ y) = omega (arith, length-append x y, h) in
     rw (split, front, ← replicate-append-replicate {A = ℕ} 12 m 0, ← append-assoc header x (replicate 12 0 ++ replicate m 0))
     (stored-over (header ++ x) (replicate 12 0) (replicate m 0) (y ++ replicate k 0) size

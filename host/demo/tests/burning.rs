@@ -88,24 +88,28 @@ const REPLIES: [(usize, &str); 23] = [
 /// INQUIRY's reply.
 const INQUIRY: &[u8; 36] = b"\x05\x80\x00\x02\x1F\x00\x00\x00GLADHAMRDVD+R LOGGER    1.00";
 
-/// The whole reply of GET CONFIGURATION: its header, and the features, each from its number on.
-const CONFIGURATION: [u8; 100] = [
-    0, 0, 0, 96, 0, 0, 0x00, 0x1B, // what follows the length, and the current profile
-    0x00, 0x00, 0x01, 8, 0x00, 0x1B, 1, 0, 0x00, 0x10, 0,
-    0, // DVD+R, which is current, and DVD-ROM
-    0x00, 0x01, 0x01, 8, 0, 0, 0, 0, 0, 0, 0, 0, //
-    0x00, 0x02, 0x01, 4, 0, 0, 0, 0, //
-    0x00, 0x03, 0x01, 4, 0, 0, 0, 0, //
-    0x00, 0x10, 0x01, 8, 0, 0, 0, 0, 0, 0, 1, 0, // the page is present
-    0x00, 0x1F, 0x01, 4, 0, 0, 0, 0, //
-    0x00, 0x2B, 0x05, 4, 1, 0, 0, 0, // version 1, and the write bit
-    0x01, 0x00, 0x01, 4, 0, 0, 0, 0, //
-    0x01, 0x05, 0x01, 4, 0, 0, 0, 0, //
-    0x01, 0x07, 0x01, 4, 0, 0, 0, 0,
+/// The whole reply of GET CONFIGURATION: its header, then the features.
+const CONFIGURATION: [&str; 11] = [
+    "00 00 00 60 00 00 00 1B",
+    "00 00 01 08 00 1B 01 00 00 10 00 00",
+    "00 01 01 08 00 00 00 00 00 00 00 00",
+    "00 02 01 04 00 00 00 00",
+    "00 03 01 04 00 00 00 00",
+    "00 10 01 08 00 00 00 00 00 00 01 00",
+    "00 1F 01 04 00 00 00 00",
+    "00 2B 05 04 01 00 00 00",
+    "01 00 01 04 00 00 00 00",
+    "01 05 01 04 00 00 00 00",
+    "01 07 01 04 00 00 00 00",
 ];
 
 /// The reply for feature 002Bh alone.
-const DVD_PLUS_R: [u8; 16] = [0, 0, 0, 12, 0, 0, 0x00, 0x1B, 0x00, 0x2B, 0x05, 4, 1, 0, 0, 0];
+const DVD_PLUS_R: &str = "00 00 00 0C 00 00 00 1B 00 2B 05 04 01 00 00 00";
+
+/// Bytes from hexadecimal.
+fn bytes(text: &str) -> Vec<u8> {
+    text.split(' ').map(|byte| u8::from_str_radix(byte, 16).expect("a byte")).collect()
+}
 
 fn part() -> Part {
     let mut parts = script::read(Path::new(SCRIPT)).expect("it is there");
@@ -188,7 +192,10 @@ fn who_is_there_is_told_byte_for_byte() {
         .filter(|(cdb, ..)| [cdb::INQUIRY, cdb::GET_CONFIGURATION].contains(&cdb[0]))
         .map(|(_, _, outcome)| outcome.reply().to_vec())
         .collect();
-    let expected = [&INQUIRY[..], &CONFIGURATION[..8], &CONFIGURATION, &DVD_PLUS_R, &DVD_PLUS_R];
+    let (header, whole) = (bytes(CONFIGURATION[0]), bytes(&CONFIGURATION.join(" ")));
+    let one = bytes(DVD_PLUS_R);
+    assert_eq!(whole.len(), 100);
+    let expected = [INQUIRY.to_vec(), header, whole, one.clone(), one];
     assert_eq!(replies, expected);
 }
 

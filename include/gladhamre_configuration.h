@@ -49,9 +49,9 @@ extern "C" {
  * reply          the bytes that the drive sent, `reply_length` of them and none after.
  * configuration  `configuration_words` words, which must be GLADHAMRE_CONFIGURATION_WORDS.
  *
- * 0: the words are the reply's. 2, tested first: there are more or fewer words. 1: the bytes are no uncut reply of the drive. A reply that
- * was cut to its allocation length is none, nor is one of another drive or with any byte changed; the drive has 20 of them, by request
- * type and starting feature. On 1 and 2 nothing is written.
+ * 0: the words are the reply's. 2, tested first: there are more or fewer words. 1: the bytes are no uncut reply of the drive, which has
+ * 20 of them, by request type and starting feature. A reply that was cut to its allocation length is none, nor is another drive's. On 1
+ * and 2 nothing is written.
  */
 uint32_t gladhamre_configuration(
     const uint8_t *reply, size_t reply_length,

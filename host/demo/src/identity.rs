@@ -23,7 +23,7 @@ pub fn inquiry(reply: &[u8]) -> String {
 /// What a reply to GET CONFIGURATION says, and lines with the features. Of one that is not whole only
 /// how long that would be.
 pub fn configuration(reply: &[u8]) -> (String, Vec<String>) {
-    let Some(read) = configuration::read(reply) else {
+    let Some(read) = ::configuration::read(reply) else {
         return (cut(reply), Vec::new());
     };
     let count = match read.features.len() {

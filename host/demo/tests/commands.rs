@@ -255,9 +255,22 @@ fn command_of(row: &str) -> cdb::Cdb {
     }
 }
 
+/// The number in a row between these words and its last ones.
+fn counted(row: &str, before: &str, last: &str) -> Option<usize> {
+    row.split_once(before)?.1.strip_suffix(last)?.replace(',', "").parse().ok()
+}
+
 /// The buffers that it is lent there.
 fn lent(row: &str) -> Buffers {
     let mut lent = Buffers::fitting(command_of(row));
+    if let Some(length) = counted(row, " with ", " bytes of data") {
+        lent.data = zeros(length);
+        return lent;
+    }
+    if let Some(length) = counted(row, " with a reply buffer of ", " bytes") {
+        lent.reply = zeros(length);
+        return lent;
+    }
     match row {
         "a command block of 10 bytes" => lent.cdb.truncate(10),
         "a command block of 10 bytes and no pending buffer" => {
@@ -270,21 +283,9 @@ fn lent(row: &str) -> Buffers {
         "a state one word short" => lent.state.truncate(STATE_WORDS - 1),
         "a state whose first record starts at block 1" => lent.state[8] = 1,
         "a state with the sense 5/21/01" => lent.state[2..5].copy_from_slice(&[0x5, 0x21, 0x01]),
-        "a WRITE of 1 with 2,047 bytes of data" => lent.data = zeros(2_047),
-        "a READ of 1 with a reply buffer of 2,047 bytes" => lent.reply = zeros(2_047),
-        "a WRITE (12) of 2,097,152, which takes 2^32 bytes, without data" => lent.data = zeros(0),
-        row if row.ends_with(" 8,796,093,020,159 bytes of data") => {
-            lent.data = zeros(8_796_093_020_159)
-        }
-        row if row.ends_with(" 8,796,093,020,159 bytes") => lent.reply = zeros(8_796_093_020_159),
-        row if row.contains(" 8,796,093,020,160 bytes") => {}
         row if row.ends_with(" with one byte of data") => lent.data = zeros(1),
-        row if row.ends_with(" with a reply buffer of 33 bytes") => lent.reply = zeros(33),
-        row if row.ends_with(" with a reply buffer of 35 bytes") => lent.reply = zeros(35),
-        row if row.ends_with(" with a reply buffer of 99 bytes") => lent.reply = zeros(99),
-        row if row.ends_with(" with a reply buffer of 100 bytes") => lent.reply = zeros(100),
+        row if row.ends_with(" without data") => lent.data = zeros(0),
         row if row.ends_with(" without a reply buffer") => lent.reply = zeros(0),
-        "opcode 4Ah without data" => {}
         _ => panic!("{row:?} is not tried"),
     }
     lent

@@ -35,11 +35,12 @@ fn request_type(word: &str) -> Result<u8, String> {
 
 /// One to four hexadecimal digits.
 fn starting_feature(word: &str) -> Result<u16, String> {
-    let is_number = word.len() <= 4 && word.chars().all(|digit| digit.is_ascii_hexdigit());
-    let number = is_number.then(|| u16::from_str_radix(word, 16).expect("four digits at the most"));
-    number.ok_or_else(|| {
-        format!("`configuration` takes a starting feature of 0000 to FFFF, not \"{word}\"")
-    })
+    match u16::from_str_radix(word, 16) {
+        Ok(number) if word.len() <= 4 && !word.starts_with('+') => Ok(number),
+        _ => {
+            Err(format!("`configuration` takes a starting feature of 0000 to FFFF, not \"{word}\""))
+        }
+    }
 }
 
 #[cfg(test)]

@@ -4,3 +4,4 @@ pub mod Reading
 pub mod First
 pub mod Theorems
 pub mod Face
+pub mod Examples

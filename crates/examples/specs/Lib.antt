@@ -8,4 +8,5 @@ pub mod Values
 pub mod Discs
 pub mod Reads
 pub mod Forms
+pub mod Identity
 pub mod Searches

@@ -13,10 +13,12 @@ pub const CDB_LENGTH: usize = 12;
 
 pub const TEST_UNIT_READY: u8 = 0x00;
 pub const REQUEST_SENSE: u8 = 0x03;
+pub const INQUIRY: u8 = 0x12;
 pub const READ_CAPACITY: u8 = 0x25;
 pub const READ: u8 = 0x28;
 pub const WRITE: u8 = 0x2A;
 pub const SYNCHRONIZE_CACHE: u8 = 0x35;
+pub const GET_CONFIGURATION: u8 = 0x46;
 pub const READ_DISC_INFORMATION: u8 = 0x51;
 pub const READ_FRAGMENT_INFORMATION: u8 = 0x52;
 pub const RESERVE: u8 = 0x53;
@@ -26,13 +28,15 @@ pub const READ_12: u8 = 0xA8;
 pub const WRITE_12: u8 = 0xAA;
 
 /// Every listed opcode.
-pub const OPCODES: [u8; 12] = [
+pub const OPCODES: [u8; 14] = [
     TEST_UNIT_READY,
     REQUEST_SENSE,
+    INQUIRY,
     READ_CAPACITY,
     READ,
     WRITE,
     SYNCHRONIZE_CACHE,
+    GET_CONFIGURATION,
     READ_DISC_INFORMATION,
     READ_FRAGMENT_INFORMATION,
     RESERVE,
@@ -43,6 +47,35 @@ pub const OPCODES: [u8; 12] = [
 
 /// The bytes of a whole reply to 52h.
 pub const FRAGMENT_INFORMATION_LENGTH: usize = 36;
+
+/// The bytes of a whole reply to 12h.
+pub const INQUIRY_LENGTH: usize = 36;
+
+/// The bit of 12h, in byte 1, that asks for a page, which the drive refuses.
+pub const PAGE_BIT: u8 = 0b1;
+
+/// Request types of 46h: every feature from the starting one on, those of them that are current, which
+/// is all of them, or the starting one alone.
+pub const ALL_FEATURES: u8 = 0b00;
+pub const CURRENT_FEATURES: u8 = 0b01;
+pub const ONE_FEATURE: u8 = 0b10;
+
+/// The bytes in front of the features in a reply to 46h.
+pub const CONFIGURATION_HEADER_LENGTH: usize = 8;
+
+/// The features of 46h: their numbers, and the bytes that each takes in a reply.
+pub const FEATURES: [(u16, usize); 10] = [
+    (0x0000, 12),
+    (0x0001, 12),
+    (0x0002, 8),
+    (0x0003, 8),
+    (0x0010, 12),
+    (0x001F, 8),
+    (0x002B, 8),
+    (0x0100, 8),
+    (0x0105, 8),
+    (0x0107, 8),
+];
 
 /// Functions of CLOSE.
 pub const FRAGMENT: u8 = 0b001;
@@ -58,6 +91,12 @@ pub fn opcode_only(opcode: u8) -> Cdb {
 pub fn request_sense(allocation: u8) -> Cdb {
     let mut cdb = opcode_only(REQUEST_SENSE);
     cdb[4] = allocation;
+    cdb
+}
+
+pub fn inquiry(allocation: u16) -> Cdb {
+    let mut cdb = opcode_only(INQUIRY);
+    set_inquiry_allocation(&mut cdb, allocation);
     cdb
 }
 
@@ -99,6 +138,15 @@ pub fn close(function: u8, number: u16) -> Cdb {
     cdb
 }
 
+/// 46h of a request type, from a starting feature on.
+pub fn get_configuration(request: u8, start: u16, allocation: u16) -> Cdb {
+    let mut cdb = opcode_only(GET_CONFIGURATION);
+    cdb[1] = request;
+    set_start(&mut cdb, start);
+    set_allocation(&mut cdb, allocation);
+    cdb
+}
+
 pub fn read_disc_information(allocation: u16) -> Cdb {
     let mut cdb = opcode_only(READ_DISC_INFORMATION);
     set_allocation(&mut cdb, allocation);
@@ -136,6 +184,16 @@ pub fn set_number(cdb: &mut Cdb, number: u16) {
     cdb[4..6].copy_from_slice(&number.to_be_bytes());
 }
 
+/// The starting feature of 46h.
+pub fn set_start(cdb: &mut Cdb, feature: u16) {
+    cdb[2..4].copy_from_slice(&feature.to_be_bytes());
+}
+
+/// The allocation length of 12h.
+pub fn set_inquiry_allocation(cdb: &mut Cdb, allocation: u16) {
+    cdb[3..5].copy_from_slice(&allocation.to_be_bytes());
+}
+
 /// An address or a number in bytes 2 to 5.
 pub fn set_value(cdb: &mut Cdb, value: u32) {
     cdb[2..6].copy_from_slice(&value.to_be_bytes());
@@ -166,6 +224,27 @@ pub fn allocation(cdb: &Cdb) -> u16 {
     u16::from_be_bytes([cdb[7], cdb[8]])
 }
 
+/// The allocation length of 12h.
+pub fn inquiry_allocation(cdb: &Cdb) -> u16 {
+    u16::from_be_bytes([cdb[3], cdb[4]])
+}
+
+/// The starting feature of 46h.
+pub fn start(cdb: &Cdb) -> u16 {
+    u16::from_be_bytes([cdb[2], cdb[3]])
+}
+
+/// The bytes of the uncut reply to 46h; none for the request type that the drive refuses.
+pub fn configuration_length(cdb: &Cdb) -> Option<usize> {
+    let is_sent: fn(u16, u16) -> bool = match cdb[1] & 0b11 {
+        ALL_FEATURES | CURRENT_FEATURES => |number, start| number >= start,
+        ONE_FEATURE => |number, start| number == start,
+        _ => return None,
+    };
+    let sent = FEATURES.into_iter().filter(|&(number, _)| is_sent(number, start(cdb)));
+    Some(CONFIGURATION_HEADER_LENGTH + sent.map(|(_, length)| length).sum::<usize>())
+}
+
 /// The length of a READ or a WRITE, in sectors: of four bytes in the forms (12), of two in the others.
 pub fn sectors(cdb: &Cdb) -> u32 {
     match cdb[0] {
@@ -190,11 +269,15 @@ pub fn data_length(cdb: &Cdb) -> usize {
     0
 }
 
-/// How many bytes the reply buffer must have.
+/// How many bytes the reply buffer must have. Of 12h and 46h, none where the drive will refuse them.
 pub fn reply_room(cdb: &Cdb) -> usize {
     let allocation = usize::from(allocation(cdb));
     match cdb[0] {
         REQUEST_SENSE => usize::from(cdb[4]).min(18),
+        INQUIRY if cdb[1] & PAGE_BIT == 0 => {
+            usize::from(inquiry_allocation(cdb)).min(INQUIRY_LENGTH)
+        }
+        GET_CONFIGURATION => configuration_length(cdb).map_or(0, |whole| allocation.min(whole)),
         READ_CAPACITY => 8,
         READ | READ_12 => sectors(cdb) as usize * SECTOR_BYTES,
         READ_DISC_INFORMATION => allocation.min(34),

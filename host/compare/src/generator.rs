@@ -63,21 +63,24 @@ impl Generator {
         request.medium_length = request.medium_length.min(allocated);
         request.data_offset = self.random.below(OFFSETS as u64) as usize;
         request.reply_length += self.extra_room();
-        let once_in = match request.wants_long_buffer() {
-            true => self.mood.spoils_once_in().min(6),
-            false => self.mood.spoils_once_in(),
+        let once_in = match cdb[0] {
+            cdb::INQUIRY | cdb::GET_CONFIGURATION => 3,
+            _ if request.wants_long_buffer() => 6,
+            _ => 25,
         };
-        if self.random.once_in(once_in) {
+        if self.random.once_in(self.mood.spoils_once_in().min(once_in)) {
             self.spoil(&mut request, allocated);
         }
         request
     }
 
-    /// What the mood says, what makes a crowd, or what the disc is at the edge of.
+    /// What makes a crowd, a question what the drive is, what the disc is at the edge of, or what the
+    /// mood says.
     fn kind(&mut self, outline: &Outline) -> Kind {
         let crowds = self.crowds && !self.random.once_in(8);
         let of_crowd = outline.next_of_crowd(self.mood).filter(|_| crowds);
-        if let Some(kind) = of_crowd.or_else(|| self.limit_try(outline)) {
+        let question = of_crowd.or_else(|| self.question(outline));
+        if let Some(kind) = question.or_else(|| self.limit_try(outline)) {
             return kind;
         }
         let edge = outline.edge().filter(|edge| match edge {
@@ -120,6 +123,8 @@ impl Generator {
             Kind::DiscInformation => self.set_disc_information(cdb),
             Kind::FragmentInformation => self.set_fragment_information(outline, cdb),
             Kind::Junk => self.set_junk(cdb),
+            Kind::Inquiry => self.set_inquiry(cdb),
+            Kind::Configuration => self.set_configuration(cdb),
         }
     }
 

@@ -3,15 +3,20 @@
 use crate::cdb::{self, Cdb};
 use crate::mood::Kind;
 use crate::outline::Outline;
-use crate::Generator;
+use crate::{Generator, Request};
 
 /// No reply to either has more bytes.
 const MOST_BYTES: u64 = 100;
 
+/// Whether it is one of them.
+pub fn is_question(cdb: &Cdb) -> bool {
+    matches!(cdb[0], cdb::INQUIRY | cdb::GET_CONFIGURATION)
+}
+
 impl Generator {
     /// Now and then one of them; often on a blank disc, which commands soon leave behind.
     pub(crate) fn question(&mut self, outline: &Outline) -> Option<Kind> {
-        let once_in = if outline.is_blank() { 3 } else { 14 };
+        let once_in = if outline.is_blank() { 6 } else { 14 };
         let asks = self.random.once_in(once_in);
         asks.then(|| self.random.pick(&[Kind::Inquiry, Kind::Configuration, Kind::Configuration]))
     }
@@ -41,6 +46,22 @@ impl Generator {
         let whole = cdb::configuration_length(cdb).unwrap_or(cdb::CONFIGURATION_HEADER_LENGTH);
         let allocation = self.allocation_about(whole);
         cdb::set_allocation(cdb, allocation);
+    }
+
+    /// Data, less room than the reply has bytes, or both.
+    pub(crate) fn spoil_question(&mut self, request: &mut Request) {
+        let room = request.twelve().map_or(0, |cdb| cdb::reply_room(&cdb));
+        let [data, less] = match self.random.below(3) {
+            0 => [true, true],
+            1 if room > 0 => [false, true],
+            _ => [true, false],
+        };
+        if data {
+            request.data_length = self.random.pick(&[1, 12, 36, 100, cdb::SECTOR_BYTES]);
+        }
+        if less {
+            request.reply_length = self.shorter(room);
+        }
     }
 
     /// At, beside or between the numbers of the drive's features, or far from them.

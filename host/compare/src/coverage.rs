@@ -1,5 +1,6 @@
 //! What a comparison has reached.
 
+use crate::asking::is_question;
 use crate::cdb::{self, Cdb};
 use crate::discs::{self, Tried};
 use crate::event::Event;
@@ -89,8 +90,7 @@ const ON_DISCS: [(&str, Tried); 9] = [
 
 /// Whether the command is one of them.
 fn is_on_discs(cdb: &Cdb) -> bool {
-    let is_run = cdb::is_read(cdb) || cdb::is_write(cdb);
-    is_run || matches!(cdb[0], cdb::INQUIRY | cdb::GET_CONFIGURATION)
+    cdb::is_read(cdb) || cdb::is_write(cdb) || is_question(cdb)
 }
 
 impl Coverage {

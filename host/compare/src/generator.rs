@@ -2,6 +2,7 @@
 //! fit or just do not, and now and then junk.
 
 use crate::aim::{READS, WRITES};
+use crate::asking::is_question;
 use crate::cdb::{self, Cdb};
 use crate::mood::{Kind, Mood, KINDS};
 use crate::outline::{Holder, Outline, Place};
@@ -63,13 +64,14 @@ impl Generator {
         request.medium_length = request.medium_length.min(allocated);
         request.data_offset = self.random.below(OFFSETS as u64) as usize;
         request.reply_length += self.extra_room();
-        let once_in = match cdb[0] {
-            cdb::INQUIRY | cdb::GET_CONFIGURATION => 3,
-            _ if request.wants_long_buffer() => 6,
-            _ => 25,
+        let once_in = match request.wants_long_buffer() {
+            true => self.mood.spoils_once_in().min(6),
+            false => self.mood.spoils_once_in(),
         };
-        if self.random.once_in(self.mood.spoils_once_in().min(once_in)) {
+        if self.random.once_in(once_in) {
             self.spoil(&mut request, allocated);
+        } else if is_question(&cdb) && self.random.once_in(4) {
+            self.spoil_question(&mut request);
         }
         request
     }

@@ -3,10 +3,14 @@
 mod near_misses;
 mod replies;
 
-use near_misses::{replies, reply_bytes, visit_all};
+use near_misses::{replies, visit_all};
 use plain::{read_configuration, Configuration};
 use replies::uncut;
 use std::collections::BTreeSet;
+
+fn reply_bytes() -> BTreeSet<Vec<u8>> {
+    replies().into_iter().map(|(reply, _)| reply).collect()
+}
 
 /// Whatever is asked for, the reply is one of these.
 #[test]

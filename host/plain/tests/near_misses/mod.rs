@@ -1,7 +1,6 @@
 //! The replies that a drive can give to GET CONFIGURATION, and bytes that are nearly one of them.
 
 use super::replies::{uncut, with_header, FEATURES, WHOLE};
-use std::collections::BTreeSet;
 
 /// The features that a reply lists.
 pub type Features = Vec<u16>;
@@ -121,9 +120,4 @@ fn scramble(visit: &mut dyn FnMut(&[u8])) {
         }
         visit(&changed);
     }
-}
-
-/// The replies' bytes alone.
-pub fn reply_bytes() -> BTreeSet<Vec<u8>> {
-    replies().into_iter().map(|(reply, _)| reply).collect()
 }

@@ -78,7 +78,8 @@ uint32_t gladhamre_blank(uint32_t capacity, uint32_t *state, size_t state_words)
  * medium   C blocks of 32,768 bytes.
  * pending  the pending buffer, 32,768 bytes: the pending sectors first, one after another. A READ takes them from here.
  * reply    the reply buffer: at least 2,048 bytes for each sector of a READ (28h, A8h), 8 for 25h, the allocation length cut to the
- *          report for 03h, 51h and 52h; any length for the other commands. Bytes past the reply are left alone.
+ *          report for 03h, 12h, 46h, 51h and 52h, whole ones having up to 18, 36, 100, 34 and 36 bytes; any length for the other commands,
+ *          and for a 12h or 46h that the drive refuses. Bytes past the reply are left alone.
  * reply_count, recorded: the reply's length, and the number of blocks that the command recorded; 0 on every refusal.
  *
  * Refusals are tested in this order: L1; L2 for a C that can be read and is out of range, a medium that is not C blocks, a pending

@@ -107,6 +107,7 @@ pub fn cases(buffers: &mut Buffers) -> Vec<Case> {
         let bytes = 64 * SECTOR_BYTES;
         add("WRITE 64, 4 pending".into(), cdb::write(disc.next(), 64), &disc.state, bytes);
     }
+    cases.extend(identity(buffers));
     cases.extend(reads_of_pending(buffers));
     cases.extend(list_changes(buffers));
     for records in [1, SOME_RECORDS, RECORD_LIMIT] {
@@ -121,6 +122,27 @@ fn list_of(records: usize) -> String {
         1 => "1 record".into(),
         _ => format!("{records} records"),
     }
+}
+
+/// What the drive says that it is: 12h, and 46h of every feature, of one, and cut to the header.
+fn identity(buffers: &mut Buffers) -> Vec<Case> {
+    let header = cdb::CONFIGURATION_HEADER_LENGTH as u16;
+    let questions = [
+        ("12h", cdb::inquiry(cdb::INQUIRY_LENGTH as u16)),
+        ("46h", cdb::get_configuration(cdb::ALL_FEATURES, 0, u16::MAX)),
+        ("46h, one feature", cdb::get_configuration(cdb::ONE_FEATURE, 0x002B, u16::MAX)),
+        ("46h, cut to its header", cdb::get_configuration(cdb::ALL_FEATURES, 0, header)),
+    ];
+    let mut cases = Vec::new();
+    for records in [1, RECORD_LIMIT] {
+        let mut disc = Maker::with_fragments(records - 1, buffers);
+        disc.write(RECORDED);
+        for (name, cdb) in questions {
+            let (list, start) = (list_of(records), disc.state.clone());
+            cases.push(Case { name: name.into(), list, cdb, start, bytes: 0, number: ACCEPTED });
+        }
+    }
+    cases
 }
 
 /// READs that end in the pending buffer: of the five sectors there, and of 64 across the border.

@@ -23,6 +23,24 @@ fn cases_are_answered_as_they_say() {
     }
 }
 
+/// The replies of 46h are as long as their lines say, on a short list and on a full one.
+#[test]
+fn configurations_are_as_long_as_they_say() {
+    let mut buffers = Buffers::new(CAPACITY);
+    let cases = cases(&mut buffers);
+    for (name, length) in
+        [("12h", 36), ("46h", 100), ("46h, one feature", 16), ("46h, cut to its header", 8)]
+    {
+        let lines: Vec<&Case> = cases.iter().filter(|case| case.name == name).collect();
+        assert_eq!(lines.len(), 2, "{name}");
+        for case in lines {
+            let mut state = case.start.clone();
+            let answer = Linked.command(state.words_mut(), buffers.lend(&case.cdb));
+            assert_eq!(answer.reply_count, length, "{name}, {}", case.list);
+        }
+    }
+}
+
 /// 52h by address finds the fragment that its line names.
 #[test]
 fn fragments_are_found_where_they_say() {

@@ -9,6 +9,7 @@
 mod disc;
 mod fragments;
 mod grid;
+mod identity;
 mod list;
 pub mod map;
 mod play;

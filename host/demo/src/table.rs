@@ -4,7 +4,7 @@
 use crate::disc::{Disc, Outcome};
 use crate::fragments::{next_writable, pending_in, tail_next};
 use crate::{list, words};
-use gladhamre::cdb::{self, Cdb};
+use gladhamre::cdb::Cdb;
 use gladhamre::{Refusal, State};
 use std::io::{self, Write};
 
@@ -56,13 +56,7 @@ pub fn row(
     for difference in differences.unwrap_or_default() {
         writeln!(out, "     NOT AS DOCUMENTED: {difference}")?;
     }
-    if let Some(text) = words::reply(cdb, outcome.reply()) {
-        writeln!(out, "     reply of {text}")?;
-        if !cdb::is_read(cdb) {
-            writeln!(out, "     {}", words::reply_bytes(outcome.reply()))?;
-        }
-    }
-    Ok(())
+    words::reply(cdb, outcome.reply()).iter().try_for_each(|text| writeln!(out, "     {text}"))
 }
 
 fn line(

@@ -1,9 +1,12 @@
 //! Commands, answers, senses, replies and fragments in words.
 
-use crate::fragments;
 use crate::track::Track;
+use crate::{fragments, identity};
 use gladhamre::cdb::{self, Cdb};
 use gladhamre::{Record, Refusal};
+
+/// Bytes of a reply to a line.
+const BYTES_TO_A_LINE: usize = 36;
 
 /// A command block in words.
 pub fn command(cdb: &Cdb) -> String {
@@ -11,12 +14,14 @@ pub fn command(cdb: &Cdb) -> String {
     match cdb[0] {
         cdb::TEST_UNIT_READY => "TEST UNIT READY".into(),
         cdb::REQUEST_SENSE => "REQUEST SENSE".into(),
+        cdb::INQUIRY => inquiry(cdb),
         cdb::READ_CAPACITY => "READ CAPACITY".into(),
         cdb::READ => run("READ", cdb),
         cdb::READ_12 => run("READ (12)", cdb),
         cdb::WRITE => run("WRITE", cdb),
         cdb::WRITE_12 => run("WRITE (12)", cdb),
         cdb::SYNCHRONIZE_CACHE => "SYNCHRONIZE CACHE".into(),
+        cdb::GET_CONFIGURATION => get_configuration(cdb[1] & 0b11, cdb::start(cdb)),
         cdb::READ_DISC_INFORMATION => "READ DISC INFORMATION".into(),
         cdb::READ_FRAGMENT_INFORMATION => track_information(cdb[1] & 0b11, value),
         cdb::RESERVE => format!("RESERVE TRACK of {}", sectors(number_at(cdb, 5))),
@@ -28,6 +33,23 @@ pub fn command(cdb: &Cdb) -> String {
 fn run(name: &str, cdb: &Cdb) -> String {
     let (address, length) = cdb::run(cdb);
     format!("{name} {} at {address}", sectors(length))
+}
+
+fn inquiry(cdb: &Cdb) -> String {
+    match cdb[1] & cdb::PAGE_BIT {
+        0 => "INQUIRY".into(),
+        _ => format!("INQUIRY of page {:02X}h", cdb[2]),
+    }
+}
+
+fn get_configuration(request: u8, start: u16) -> String {
+    let which = match request {
+        cdb::ALL_FEATURES => format!("all from {start:04X}h"),
+        cdb::CURRENT_FEATURES => format!("current from {start:04X}h"),
+        cdb::ONE_FEATURE => format!("feature {start:04X}h"),
+        other => format!("type {other}"),
+    };
+    format!("GET CONFIGURATION, {which}")
 }
 
 fn track_information(by: u8, value: u32) -> String {
@@ -143,13 +165,29 @@ pub fn next(address: Option<u32>) -> String {
     address.map_or("-".into(), |address| address.to_string())
 }
 
-/// What a reply says; nothing for commands without one.
-pub fn reply(cdb: &Cdb, reply: &[u8]) -> Option<String> {
+/// What a reply says, then its bytes unless they are sectors; nothing for commands without one.
+pub fn reply(cdb: &Cdb, reply: &[u8]) -> Vec<String> {
+    if reply.is_empty() {
+        return Vec::new();
+    }
+    let (text, details) = match cdb[0] {
+        cdb::GET_CONFIGURATION => identity::configuration(reply),
+        _ => (said(cdb, reply), Vec::new()),
+    };
+    let mut lines = vec![format!("reply of {} bytes: {text}", reply.len())];
+    lines.extend(details);
+    if !cdb::is_read(cdb) {
+        lines.extend(byte_lines(reply));
+    }
+    lines
+}
+
+/// What a reply says in a line, or its bytes.
+fn said(cdb: &Cdb, reply: &[u8]) -> String {
     let four = |at: usize| number_at(reply, at);
-    let sent = format!("{} bytes", reply.len());
-    let text = match (cdb[0], reply.len()) {
-        (_, 0) => return None,
+    match (cdb[0], reply.len()) {
         (cdb::REQUEST_SENSE, 14..) => sense([reply[2].into(), reply[12].into(), reply[13].into()]),
+        (cdb::INQUIRY, cdb::INQUIRY_LENGTH) => identity::inquiry(reply),
         (cdb::READ_CAPACITY, 8) => {
             format!("last readable address {}, sectors of {} bytes", four(0), four(4))
         }
@@ -159,8 +197,7 @@ pub fn reply(cdb: &Cdb, reply: &[u8]) -> Option<String> {
         }
         (cdb::READ | cdb::READ_12, _) => sector_contents(reply),
         _ => hex(reply),
-    };
-    Some(format!("{sent}: {text}"))
+    }
 }
 
 fn disc_information(reply: &[u8]) -> String {
@@ -193,11 +230,20 @@ fn sector_contents(reply: &[u8]) -> String {
 
 /// A reply's bytes, the zeros at its end by their number.
 pub fn reply_bytes(reply: &[u8]) -> String {
+    byte_lines(reply).join(" ")
+}
+
+/// The same, so many bytes to a line.
+fn byte_lines(reply: &[u8]) -> Vec<String> {
     let used = reply.iter().rposition(|&byte| byte != 0).map_or(0, |last| last + 1);
-    match reply.len() - used {
-        0..=3 => hex(reply),
-        zeros => format!("{} and {zeros} zeros", hex(&reply[..used])),
+    let zeros = reply.len() - used;
+    if zeros <= 3 {
+        return reply.chunks(BYTES_TO_A_LINE).map(hex).collect();
     }
+    let mut lines: Vec<String> = reply[..used].chunks(BYTES_TO_A_LINE).map(hex).collect();
+    let last = lines.pop().unwrap_or_default();
+    lines.push(format!("{last} and {zeros} zeros"));
+    lines
 }
 
 /// A number of four bytes.

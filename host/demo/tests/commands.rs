@@ -235,14 +235,42 @@ fn command_of(row: &str) -> cdb::Cdb {
         row if row.contains("WRITE (12) of 2,097,152") => cdb::write_12(0, 2_097_152),
         row if row.contains("WRITE (12) of 4,294,967,295") => cdb::write_12(0, u32::MAX),
         row if row.contains("READ (12) of 4,294,967,295") => cdb::read_12(0, u32::MAX),
-        row if row.contains("opcode 12h") => cdb::opcode_only(0x12),
+        row if row.contains("READ DISC INFORMATION of data type 1") => {
+            let mut cdb = cdb::read_disc_information(34);
+            cdb[1] = 1;
+            cdb
+        }
+        row if row.contains("the page bit") => {
+            let mut cdb = cdb::inquiry(36);
+            cdb[1] = cdb::PAGE_BIT;
+            cdb
+        }
+        row if row.contains("INQUIRY of 36") => cdb::inquiry(36),
+        row if row.contains("of type 3") => cdb::get_configuration(3, 0, u16::MAX),
+        row if row.contains("GET CONFIGURATION of 65,535") => {
+            cdb::get_configuration(cdb::ALL_FEATURES, 0, u16::MAX)
+        }
+        row if row.contains("opcode 4Ah") => cdb::opcode_only(0x4A),
         _ => cdb::opcode_only(cdb::TEST_UNIT_READY),
     }
+}
+
+/// The number in a row between these words and its last ones.
+fn counted(row: &str, before: &str, last: &str) -> Option<usize> {
+    row.split_once(before)?.1.strip_suffix(last)?.replace(',', "").parse().ok()
 }
 
 /// The buffers that it is lent there.
 fn lent(row: &str) -> Buffers {
     let mut lent = Buffers::fitting(command_of(row));
+    if let Some(length) = counted(row, " with ", " bytes of data") {
+        lent.data = zeros(length);
+        return lent;
+    }
+    if let Some(length) = counted(row, " with a reply buffer of ", " bytes") {
+        lent.reply = zeros(length);
+        return lent;
+    }
     match row {
         "a command block of 10 bytes" => lent.cdb.truncate(10),
         "a command block of 10 bytes and no pending buffer" => {
@@ -255,16 +283,9 @@ fn lent(row: &str) -> Buffers {
         "a state one word short" => lent.state.truncate(STATE_WORDS - 1),
         "a state whose first record starts at block 1" => lent.state[8] = 1,
         "a state with the sense 5/21/01" => lent.state[2..5].copy_from_slice(&[0x5, 0x21, 0x01]),
-        "a WRITE of 1 with 2,047 bytes of data" => lent.data = zeros(2_047),
-        "a READ of 1 with a reply buffer of 2,047 bytes" => lent.reply = zeros(2_047),
-        "a WRITE (12) of 2,097,152, which takes 2^32 bytes, without data" => lent.data = zeros(0),
-        row if row.ends_with(" 8,796,093,020,159 bytes of data") => {
-            lent.data = zeros(8_796_093_020_159)
-        }
-        row if row.ends_with(" 8,796,093,020,159 bytes") => lent.reply = zeros(8_796_093_020_159),
-        row if row.contains(" 8,796,093,020,160 bytes") => {}
-        "opcode 12h with one byte of data" => lent.data = zeros(1),
-        "opcode 12h without data" => {}
+        row if row.ends_with(" with one byte of data") => lent.data = zeros(1),
+        row if row.ends_with(" without data") => lent.data = zeros(0),
+        row if row.ends_with(" without a reply buffer") => lent.reply = zeros(0),
         _ => panic!("{row:?} is not tried"),
     }
     lent
@@ -274,10 +295,28 @@ fn lent(row: &str) -> Buffers {
 fn link_refusals_are_what_the_drive_answers() {
     let manual = manual();
     let rows = table(&manual, "| Lent | Answer |");
-    assert_eq!(rows.len(), 17);
+    assert_eq!(rows.len(), 24);
     for row in rows {
         assert_eq!(lent(row[0]).answer(), row[1], "{}", row[0]);
     }
+}
+
+/// The descriptors of the manual's table of features are those that the drive sends, in its order.
+#[test]
+fn features_are_what_the_drive_sends() {
+    let manual = manual();
+    let rows = table(&manual, "| Feature | Its name | Its descriptor | What it says |");
+    let byte = |digits: &str| u8::from_str_radix(digits, 16).expect("a byte");
+    let descriptors: Vec<Vec<u8>> =
+        rows.iter().map(|row| row[2].split(' ').map(byte).collect()).collect();
+    for (row, descriptor) in rows.iter().zip(&descriptors) {
+        let number = u16::from_be_bytes([descriptor[0], descriptor[1]]);
+        assert_eq!(row[0], format!("{number:04X}h"));
+        assert_eq!(descriptor.len(), 4 + usize::from(descriptor[3]), "{}", row[1]);
+    }
+    let all = cdb::get_configuration(cdb::ALL_FEATURES, 0, u16::MAX);
+    let outcome = blank(256).send(&all, &[]).expect("memory");
+    assert_eq!(outcome.reply()[cdb::CONFIGURATION_HEADER_LENGTH..], descriptors.concat());
 }
 
 /// The manual's table of numbers has those of the linked drive and its wrapper.

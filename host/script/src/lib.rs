@@ -1,11 +1,12 @@
 //! A script of commands: a line for each, the command block in hexadecimal and where its data comes
-//! from, or one for all commands of a survey. host/README.md describes the format, which tools/trace
-//! reads too.
+//! from, or a word for it, or one for all commands of a survey. host/README.md describes the format,
+//! which tools/trace reads too.
 //!
 //! Nothing here needs the linked drive, so a script is looked at before that is built.
 
 #![forbid(unsafe_code)]
 
+mod questions;
 mod survey;
 
 pub use survey::Survey;
@@ -56,6 +57,13 @@ impl Part {
 pub enum Line {
     Command(Command),
     Survey(Survey),
+}
+
+impl Line {
+    /// A command that takes no data.
+    fn without_data(cdb: Cdb) -> Line {
+        Line::Command(Command { cdb, data: Data::Stamp })
+    }
 }
 
 /// One command.
@@ -146,6 +154,8 @@ fn blank_disc(words: &[&str]) -> Result<Part, String> {
 fn asked(words: &[&str], folder: &Path, capacity: u32) -> Result<Line, String> {
     match words {
         ["survey", rest @ ..] => Survey::of(rest, capacity).map(Line::Survey),
+        ["inquiry", rest @ ..] => questions::inquiry(rest).map(Line::without_data),
+        ["configuration", rest @ ..] => questions::configuration(rest).map(Line::without_data),
         _ => command(words, folder, capacity).map(Line::Command),
     }
 }
@@ -179,8 +189,8 @@ fn hex_bytes(word: &str) -> Result<Vec<u8>, String> {
         word.chars().map(|digit| digit.to_digit(16).map(|value| value as u8)).collect();
     let digits = digits.ok_or_else(|| {
         format!(
-            "\"{word}\" is neither bytes in hexadecimal nor one of the words `disc`, `survey` and \
-             `data`"
+            "\"{word}\" is neither bytes in hexadecimal nor one of the words `disc`, `survey`, \
+             `inquiry`, `configuration` and `data`"
         )
     })?;
     if digits.len() % 2 != 0 {

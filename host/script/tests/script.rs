@@ -102,28 +102,53 @@ fn surveys_are_read() {
     assert_eq!(every_sector.cdbs().count(), 2_295_104);
 }
 
-/// What is neither a command block nor a survey, with the message; tools/trace says the same.
-const NO_CDBS: [(&str, &str); 24] = [
+/// `inquiry` and `configuration` are a command block each, with room for the whole reply.
+#[test]
+fn questions_are_read() {
+    for (text, cdb) in [
+        ("inquiry", cdb::inquiry(36)),
+        ("disc 256\ninquiry # who is there?", cdb::inquiry(36)),
+        ("configuration", cdb::get_configuration(0, 0, 100)),
+        ("configuration 1", cdb::get_configuration(1, 0, 100)),
+        ("configuration 0 0100", cdb::get_configuration(0, 0x0100, 100)),
+        ("configuration 2 2b", cdb::get_configuration(2, 0x002B, 100)),
+        ("configuration 3 FFFF", cdb::get_configuration(3, 0xFFFF, 100)),
+    ] {
+        let parts = parsed(text).expect("a good script");
+        assert_eq!(parts[0].lines.len(), 1, "{text:?}");
+        let asked = command(&parts[0], 0);
+        assert_eq!((asked.cdb, &asked.data), (cdb, &Data::Stamp), "{text:?}");
+        assert_eq!(cdb::data_length(&asked.cdb), 0);
+    }
+}
+
+/// The message about a word that is none of the format's.
+macro_rules! no_word {
+    ($line:literal, $word:literal) => {
+        concat!(
+            "line ",
+            $line,
+            ": \"",
+            $word,
+            "\" is neither bytes in hexadecimal nor one of the words `disc`, `survey`, `inquiry`, \
+             `configuration` and `data`"
+        )
+    };
+}
+
+/// What is neither a command block nor a word for one, with the message; tools/trace says the same.
+const NO_CDBS: [(&str, &str); 37] = [
     ("", "line 1: the script has no command"),
     ("# nothing\n\n", "line 2: the script has no command"),
-    (
-        "hello world",
-        "line 1: \"hello\" is neither bytes in hexadecimal nor one of the words `disc`, `survey` and `data`",
-    ),
-    (
-        "00\n0x2A",
-        "line 2: \"0x2A\" is neither bytes in hexadecimal nor one of the words `disc`, `survey` and `data`",
-    ),
+    ("hello world", no_word!(1, "hello")),
+    ("00\n0x2A", no_word!(2, "0x2A")),
     ("\n\n2A0", "line 3: \"2A0\" has an odd number of hexadecimal digits"),
     ("2 A", "line 1: \"2\" has an odd number of hexadecimal digits"),
     (
         "00 00 00 00 00 00 00 00 00 00 00 00 00",
         "line 1: a command block has 1 to 12 bytes, this one 13",
     ),
-    (
-        "2A\u{a0}00",
-        "line 1: \"2A\u{a0}00\" is neither bytes in hexadecimal nor one of the words `disc`, `survey` and `data`",
-    ),
+    ("2A\u{a0}00", no_word!(1, "2A\u{a0}00")),
     ("data fill 00", "line 1: a command block has 1 to 12 bytes, this one 0"),
     ("00 data", "line 1: data is `stamp`, `fill BYTE`, `file NAME` or `length COUNT`"),
     ("00 data fill", "line 1: data is `stamp`, `fill BYTE`, `file NAME` or `length COUNT`"),
@@ -142,9 +167,34 @@ const NO_CDBS: [(&str, &str); 24] = [
     ("survey 3E8", "line 1: `survey` takes 1 to 2295104 sectors, not \"3E8\""),
     ("\nsurvey many", "line 2: `survey` takes 1 to 2295104 sectors, not \"many\""),
     ("survey \\", "line 1: `survey` takes 1 to 2295104 sectors, not \"\\\""),
+    ("52 survey 1000", no_word!(1, "survey")),
+    ("INQUIRY", no_word!(1, "INQUIRY")),
+    ("00\ninquiry 36", "line 2: write `inquiry` by itself"),
+    ("inquiry data stamp", "line 1: write `inquiry` by itself"),
+    ("12 inquiry", no_word!(1, "inquiry")),
+    ("46 configuration", no_word!(1, "configuration")),
     (
-        "52 survey 1000",
-        "line 1: \"survey\" is neither bytes in hexadecimal nor one of the words `disc`, `survey` and `data`",
+        "configuration 2 002B 100",
+        "line 1: write `configuration`, a request type and a starting feature",
+    ),
+    (
+        "configuration 0 0 data fill A1",
+        "line 1: write `configuration`, a request type and a starting feature",
+    ),
+    ("configuration 4", "line 1: `configuration` takes a request type of 0 to 3, not \"4\""),
+    ("configuration 00", "line 1: `configuration` takes a request type of 0 to 3, not \"00\""),
+    ("configuration data", "line 1: `configuration` takes a request type of 0 to 3, not \"data\""),
+    (
+        "\nconfiguration 2 0002B",
+        "line 2: `configuration` takes a starting feature of 0000 to FFFF, not \"0002B\"",
+    ),
+    (
+        "configuration 2 2Bh",
+        "line 1: `configuration` takes a starting feature of 0000 to FFFF, not \"2Bh\"",
+    ),
+    (
+        "configuration 2 +2B",
+        "line 1: `configuration` takes a starting feature of 0000 to FFFF, not \"+2B\"",
     ),
 ];
 
@@ -269,6 +319,9 @@ fn traces_are_made_of_the_same_cdbs() {
         "survey 1000\n",
         "disc 300\n2A 00 00000000 00 0014\nsurvey 7 # 686 of them\n35\nsurvey +0999\n",
         "survey 1\nsurvey 4799\nsurvey 4800\nsurvey 2295104",
+        "inquiry\nconfiguration\n00",
+        "disc 300\nconfiguration 1\n configuration 2 002B # DVD+R\nconfiguration 0 1f\r\ninquiry",
+        "configuration 3\nconfiguration 0 0\nconfiguration 2 FFFF\nconfiguration 2 10e",
         &every_byte,
         &commands.join("\n"),
     ] {
@@ -293,11 +346,7 @@ fn traces_are_refused_by_line() {
         ("AA 00 00000000 00000001 data length 2047", format!("line 1: {other_length}")),
         ("A8\nAA 00 00000000 FFFFFFFF data length 1", format!("line 2: {other_length}")),
         ("00 data fill 0000", "line 1: `fill` takes one byte in hexadecimal, not \"0000\"".into()),
-        (
-            "2A\0",
-            "line 1: \"2A?\" is neither bytes in hexadecimal nor one of the words `disc`, `survey` and `data`"
-                .into(),
-        ),
+        ("2A\0", no_word!(1, "2A?").into()),
     ];
     let no_cdbs = NO_CDBS.map(|(text, message)| (text, message.to_owned()));
     for (text, message) in no_cdbs.into_iter().chain(no_trace) {

@@ -9,15 +9,19 @@ const ROUNDING: usize = 1_024;
 const MOST: usize = 20 * 1_024;
 
 /// Every command that can be accepted.
-const COMMANDS: [&str; 15] = [
+const COMMANDS: [&str; 19] = [
     "00h",
     "03h",
+    "12h",
     "25h",
     "28h READ",
     "2Ah WRITE",
     "A8h READ (12)",
     "AAh WRITE (12)",
     "35h",
+    "46h type 0",
+    "46h type 1",
+    "46h type 2",
     "51h",
     "52h address",
     "52h number",

@@ -1,0 +1,73 @@
+//! What the drive says that it is: the texts of INQUIRY, and of GET CONFIGURATION the profile and the
+//! features, as the linked reader gives them.
+
+use crate::words::number_at;
+
+/// Features to a line, and the width of one.
+const FEATURES_TO_A_LINE: usize = 4;
+const FEATURE_WIDTH: usize = 27;
+
+/// What a whole reply to INQUIRY says.
+pub fn inquiry(reply: &[u8]) -> String {
+    let text = |from: usize, to: usize| String::from_utf8_lossy(&reply[from..to]).into_owned();
+    let removable = if reply[1] & 0x80 != 0 { "removable" } else { "fixed" };
+    format!(
+        "device type {:02X}h, {removable} medium, vendor {:?}, product {:?}, revision {:?}",
+        reply[0],
+        text(8, 16).trim_end(),
+        text(16, 32).trim_end(),
+        text(32, 36)
+    )
+}
+
+/// What a reply to GET CONFIGURATION says, and lines with the features. Of one that is not whole only
+/// how long that would be.
+pub fn configuration(reply: &[u8]) -> (String, Vec<String>) {
+    let Some(read) = ::configuration::read(reply) else {
+        return (cut(reply), Vec::new());
+    };
+    let count = match read.features.len() {
+        0 => "no feature".into(),
+        1 => "1 feature".into(),
+        count => format!("{count} features"),
+    };
+    let text = format!("profile {:04X}h {}, {count}", read.profile, profile(read.profile));
+    let features: Vec<String> =
+        read.features.iter().map(|&number| format!("{number:04X}h {}", feature(number))).collect();
+    (text, features.chunks(FEATURES_TO_A_LINE).map(columns).collect())
+}
+
+fn cut(reply: &[u8]) -> String {
+    match reply.len() {
+        0..4 => "cut".into(),
+        _ => format!("cut, {} bytes in all", 4 + number_at(reply, 0)),
+    }
+}
+
+fn columns(features: &[String]) -> String {
+    let line: String = features.iter().map(|text| format!("{text:<FEATURE_WIDTH$}")).collect();
+    line.trim_end().into()
+}
+
+fn profile(number: u16) -> &'static str {
+    match number {
+        0x001B => "DVD+R",
+        _ => "without a name",
+    }
+}
+
+fn feature(number: u16) -> &'static str {
+    match number {
+        0x0000 => "Profile List",
+        0x0001 => "Core",
+        0x0002 => "Morphing",
+        0x0003 => "Removable Medium",
+        0x0010 => "Random Readable",
+        0x001F => "DVD Read",
+        0x002B => "DVD+R",
+        0x0100 => "Power Management",
+        0x0105 => "Time-Out",
+        0x0107 => "Real-time Streaming",
+        _ => "without a name",
+    }
+}

@@ -1,7 +1,8 @@
 //! What a comparison has reached.
 
+use crate::asking::is_question;
 use crate::cdb::{self, Cdb};
-use crate::discs;
+use crate::discs::{self, Tried};
 use crate::event::Event;
 use crate::searches::Searches;
 use crate::situations;
@@ -18,7 +19,7 @@ pub struct Coverage {
     /// How often each of the situations came, and how often by READ (12) or WRITE (12).
     situations: Met,
     of_long_forms: Met,
-    /// How often each form of READ and WRITE got each answer on each kind of disc.
+    /// How often each of the commands that are tried on every kind of disc got each answer there.
     on_discs: BTreeMap<(&'static str, &'static str, u32), u64>,
     /// Where the address of 52h, READ and WRITE lay.
     pub searches: Searches,
@@ -74,12 +75,23 @@ impl fmt::Display for Meetings {
     }
 }
 
-/// The forms of READ and WRITE, and whether it is a WRITE.
-const FORMS: [(&str, bool); 4] =
-    [("28h READ", false), ("A8h READ (12)", false), ("2Ah WRITE", true), ("AAh WRITE (12)", true)];
+/// The commands that are tried on every kind of disc.
+const ON_DISCS: [(&str, Tried); 9] = [
+    ("28h READ", Tried::Read),
+    ("A8h READ (12)", Tried::Read),
+    ("2Ah WRITE", Tried::Write),
+    ("AAh WRITE (12)", Tried::Write),
+    ("12h", Tried::Inquiry),
+    ("46h type 0", Tried::Served),
+    ("46h type 1", Tried::Served),
+    ("46h type 2", Tried::Served),
+    ("46h type 3", Tried::Refused),
+];
 
-/// Every answer of READ or WRITE on a sound state.
-const ANSWERS_OF_RUNS: [u32; 7] = [0, 4, 0x052100, 0x080000, 0x072700, 0x052102, 0x056300];
+/// Whether the command is one of them.
+fn is_on_discs(cdb: &Cdb) -> bool {
+    cdb::is_read(cdb) || cdb::is_write(cdb) || is_question(cdb)
+}
 
 impl Coverage {
     /// Counts a command whose command block does not have twelve bytes.
@@ -111,7 +123,7 @@ impl Coverage {
             self.situations.0[index] += met;
             self.of_long_forms.0[index] += if long_form { met } else { 0 };
         }
-        if cdb::is_read(event.cdb) || cdb::is_write(event.cdb) {
+        if is_on_discs(event.cdb) {
             let command = command_name(event.cdb);
             for (kind, _) in discs::KINDS.iter().filter(|(_, is_such)| is_such(event.before)) {
                 *self.on_discs.entry((command, kind, event.answer.number)).or_default() += 1;
@@ -175,19 +187,19 @@ impl Coverage {
         })
     }
 
-    /// How often each of those came in which it counts what is readable, or how long a READ or a WRITE
-    /// is.
-    pub fn situations_of_runs(&self) -> impl Iterator<Item = Meetings> + '_ {
+    /// How often each of those came in which it counts what a command asks for, and not what fragments
+    /// there are.
+    pub fn situations_of_requests(&self) -> impl Iterator<Item = Meetings> + '_ {
         self.situations().skip(situations::OF_FRAGMENTS.len())
     }
 
-    /// The answers that a form of READ or WRITE should have got on some kind of disc, and never got.
+    /// The answers that a command should have got on some kind of disc, and never got.
     pub fn missed_on_discs(&self) -> Vec<String> {
         let mut missed = Vec::new();
-        for (command, is_write) in FORMS {
+        for (command, tried) in ON_DISCS {
             for (kind, _) in discs::KINDS {
-                let wanted = ANSWERS_OF_RUNS.into_iter().filter(|&number| {
-                    discs::can_answer(is_write, number, kind)
+                let wanted = discs::ANSWERS.into_iter().filter(|&number| {
+                    discs::can_answer(tried, number, kind)
                         && !self.on_discs.contains_key(&(command, kind, number))
                 });
                 missed.extend(
@@ -230,8 +242,8 @@ impl fmt::Display for Coverage {
         for name in names {
             writeln!(out, "  {name}: {}", self.answers_of(name))?;
         }
-        writeln!(out, "answers of READ and WRITE on each kind of disc:")?;
-        for (command, _) in FORMS {
+        writeln!(out, "answers on each kind of disc:")?;
+        for (command, _) in ON_DISCS {
             for (kind, _) in discs::KINDS {
                 writeln!(out, "  {command} on {kind}: {}", self.answers_on(command, kind))?;
             }
@@ -266,12 +278,17 @@ pub fn command_name(cdb: &Cdb) -> &'static str {
     match (cdb[0], cdb[1] & 0b11, cdb[2] & 0b111) {
         (cdb::TEST_UNIT_READY, _, _) => "00h",
         (cdb::REQUEST_SENSE, _, _) => "03h",
+        (cdb::INQUIRY, _, _) => "12h",
         (cdb::READ_CAPACITY, _, _) => "25h",
         (cdb::READ, _, _) => "28h READ",
         (cdb::WRITE, _, _) => "2Ah WRITE",
         (cdb::READ_12, _, _) => "A8h READ (12)",
         (cdb::WRITE_12, _, _) => "AAh WRITE (12)",
         (cdb::SYNCHRONIZE_CACHE, _, _) => "35h",
+        (cdb::GET_CONFIGURATION, 0, _) => "46h type 0",
+        (cdb::GET_CONFIGURATION, 1, _) => "46h type 1",
+        (cdb::GET_CONFIGURATION, 2, _) => "46h type 2",
+        (cdb::GET_CONFIGURATION, _, _) => "46h type 3",
         (cdb::READ_DISC_INFORMATION, _, _) => "51h",
         (cdb::READ_FRAGMENT_INFORMATION, 0, _) => "52h address",
         (cdb::READ_FRAGMENT_INFORMATION, 1, _) => "52h number",

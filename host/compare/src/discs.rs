@@ -1,4 +1,5 @@
-//! Kinds of discs: each form of READ and WRITE is to get each of its answers on every one.
+//! Kinds of discs: each form of READ and WRITE, 12h and each type of 46h are to get each of their answers
+//! on every one.
 
 use crate::event::{is_full, Position};
 use gladhamre::{Record, State};
@@ -45,15 +46,34 @@ fn has_room(state: &State) -> bool {
     state.records().any(|record: Record| record.recorded < record.length)
 }
 
-/// Whether document 01 has this answer for a READ or a WRITE on such a disc. A length of 0 is accepted
-/// on every one.
-pub fn can_answer(is_write: bool, number: u32, kind: &str) -> bool {
+/// A command that is tried on every kind of disc, by the answers that it can get there.
+#[derive(Clone, Copy, PartialEq, Eq)]
+pub enum Tried {
+    Read,
+    Write,
+    /// 12h.
+    Inquiry,
+    /// 46h of a type that is served.
+    Served,
+    /// 46h of the type that is refused.
+    Refused,
+}
+
+/// The answers of these commands on sound states.
+pub const ANSWERS: [u32; 8] = [0, 4, 0x052100, 0x080000, 0x072700, 0x052102, 0x056300, 0x052400];
+
+/// Whether document 01 has this answer for the command on such a disc. A READ or a WRITE of length 0 is
+/// accepted on every one.
+pub fn can_answer(command: Tried, number: u32, kind: &str) -> bool {
+    let is_write = command == Tried::Write;
     match number {
-        0 | 4 => true,
-        0x052100 | 0x080000 => !is_write,
+        0 => command != Tried::Refused,
+        4 => true,
+        0x052100 | 0x080000 => command == Tried::Read,
         0x072700 => is_write && kind == FINALIZED,
         0x052102 => is_write && kind != FINALIZED,
         0x056300 => is_write && kind != FINALIZED && kind != FULL,
+        0x052400 => matches!(command, Tried::Inquiry | Tried::Refused),
         _ => false,
     }
 }

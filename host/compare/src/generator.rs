@@ -2,6 +2,7 @@
 //! fit or just do not, and now and then junk.
 
 use crate::aim::{READS, WRITES};
+use crate::asking::is_question;
 use crate::cdb::{self, Cdb};
 use crate::mood::{Kind, Mood, KINDS};
 use crate::outline::{Holder, Outline, Place};
@@ -69,15 +70,19 @@ impl Generator {
         };
         if self.random.once_in(once_in) {
             self.spoil(&mut request, allocated);
+        } else if is_question(&cdb) && self.random.once_in(4) {
+            self.spoil_question(&mut request);
         }
         request
     }
 
-    /// What the mood says, what makes a crowd, or what the disc is at the edge of.
+    /// What makes a crowd, a question what the drive is, what the disc is at the edge of, or what the
+    /// mood says.
     fn kind(&mut self, outline: &Outline) -> Kind {
         let crowds = self.crowds && !self.random.once_in(8);
         let of_crowd = outline.next_of_crowd(self.mood).filter(|_| crowds);
-        if let Some(kind) = of_crowd.or_else(|| self.limit_try(outline)) {
+        let question = of_crowd.or_else(|| self.question(outline));
+        if let Some(kind) = question.or_else(|| self.limit_try(outline)) {
             return kind;
         }
         let edge = outline.edge().filter(|edge| match edge {
@@ -120,6 +125,8 @@ impl Generator {
             Kind::DiscInformation => self.set_disc_information(cdb),
             Kind::FragmentInformation => self.set_fragment_information(outline, cdb),
             Kind::Junk => self.set_junk(cdb),
+            Kind::Inquiry => self.set_inquiry(cdb),
+            Kind::Configuration => self.set_configuration(cdb),
         }
     }
 

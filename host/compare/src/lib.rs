@@ -7,6 +7,7 @@
 #![forbid(unsafe_code)]
 
 mod aim;
+mod asking;
 mod bench;
 mod coverage;
 pub mod demand3;
@@ -18,6 +19,7 @@ mod far;
 mod forms;
 mod generator;
 mod history;
+mod identity;
 mod lists;
 mod mood;
 mod outline;

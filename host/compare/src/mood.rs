@@ -78,6 +78,10 @@ pub enum Kind {
     DiscInformation,
     FragmentInformation,
     Junk,
+    /// No mood has a weight for these two: [`Generator::question`](crate::Generator::question) draws
+    /// them.
+    Inquiry,
+    Configuration,
 }
 
 /// In the order of the weights.

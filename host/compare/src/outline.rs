@@ -87,6 +87,11 @@ impl Outline {
         }
     }
 
+    /// Whether the list is a blank disc's.
+    pub fn is_blank(&self) -> bool {
+        matches!(self.places.as_slice(), [tail] if tail.is_tail() && tail.is_blank())
+    }
+
     /// The fragment that has the pending sectors, with the ones before and after it.
     pub fn pending(&self) -> Option<Holder> {
         let index = self.places.iter().position(|place| place.pending > 0)?;
@@ -97,6 +102,8 @@ impl Outline {
 
     /// The commands that try the limit of records, where at most one is free.
     pub fn limit_tries(&self) -> &'static [Kind] {
+        let tail_is_blank =
+            self.places.last().is_some_and(|last| last.is_tail() && last.is_blank());
         match RECORD_LIMIT - self.places.len() {
             0 => &[
                 Kind::Reserve,
@@ -109,6 +116,7 @@ impl Outline {
                 Kind::DiscInformation,
                 Kind::FragmentInformation,
             ],
+            1 if tail_is_blank => &[Kind::Reserve, Kind::Reserve, Kind::Write, Kind::CloseSession],
             1 => &[
                 Kind::Reserve,
                 Kind::Write,

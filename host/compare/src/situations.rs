@@ -4,6 +4,7 @@
 use crate::cdb;
 use crate::event::{is_full, lacks_one, Event};
 use crate::forms::OF_FORMS;
+use crate::identity::OF_IDENTITY;
 use crate::readable::OF_READABLE_SECTORS;
 use gladhamre::RECORD_LIMIT;
 
@@ -11,11 +12,12 @@ use gladhamre::RECORD_LIMIT;
 pub type Situation = (&'static str, fn(&Event) -> bool);
 
 /// How many there are.
-pub const COUNT: usize = OF_FRAGMENTS.len() + OF_READABLE_SECTORS.len() + OF_FORMS.len();
+pub const COUNT: usize =
+    OF_FRAGMENTS.len() + OF_READABLE_SECTORS.len() + OF_FORMS.len() + OF_IDENTITY.len();
 
-/// Every situation, those of readable sectors and of forms last.
+/// Every situation, those in which it counts how the fragments are first.
 pub fn all() -> impl Iterator<Item = Situation> {
-    OF_FRAGMENTS.into_iter().chain(OF_READABLE_SECTORS).chain(OF_FORMS)
+    OF_FRAGMENTS.into_iter().chain(OF_READABLE_SECTORS).chain(OF_FORMS).chain(OF_IDENTITY)
 }
 
 /// Whether the situation is one of READ or WRITE, whatever the form.

@@ -47,7 +47,7 @@ impl Generator {
         }
     }
 
-    fn shorter(&mut self, length: usize) -> usize {
+    pub(crate) fn shorter(&mut self, length: usize) -> usize {
         match self.random.below(3) {
             _ if self.is_cut(length) => length as u32 as usize,
             0 => length.saturating_sub(1),

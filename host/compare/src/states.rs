@@ -21,7 +21,7 @@ enum Ending {
 }
 
 /// A blank disc comes once in so many times.
-const BLANK_ONCE_IN: u64 = 40;
+const BLANK_ONCE_IN: u64 = 30;
 
 /// A sound state of that capacity.
 pub fn sound(random: &mut Random, capacity: u32) -> State {

@@ -27,13 +27,13 @@ fn compare_with(
     pair.coverage
 }
 
-/// States injected, and that READs and WRITEs of every kind come on them.
+/// States injected, and that READs, WRITEs, 12h and 46h of every kind come on them.
 #[test]
 fn sound_states() {
     let reached = compare_with("sound states", EFFORT.injected_blocks, |pair, seed| {
         rounds::sound_states(pair, seed, EFFORT.sound)
     });
-    for meetings in reached.situations_of_runs() {
+    for meetings in reached.situations_of_requests() {
         println!("{meetings}");
         assert!(meetings.is_complete(), "never met, or in one form alone: {meetings}");
     }
@@ -41,11 +41,15 @@ fn sound_states() {
     assert_eq!(reached.searches.missed(), [""; 0]);
 }
 
+/// States that break a rule, and that every command gets L3 on them.
 #[test]
 fn unsound_states() {
-    compare_with("unsound states", EFFORT.injected_blocks, |pair, seed| {
+    let reached = compare_with("unsound states", EFFORT.injected_blocks, |pair, seed| {
         rounds::unsound_states(pair, seed, EFFORT.unsound)
     });
+    for (command, _) in ANSWERS {
+        assert!(reached.answers.contains_key(&(command, 3)), "{command} never got L3");
+    }
 }
 
 #[test]
@@ -110,15 +114,20 @@ fn every_answer_came(reached: &Coverage) {
 }
 
 /// Acceptance and the drive refusals that document 01 gives each command.
-const ANSWERS: [(&str, &[u32]); 18] = [
+const ANSWERS: [(&str, &[u32]); 23] = [
     ("00h", &[0]),
     ("03h", &[0]),
+    ("12h", &[0, 0x052400]),
     ("25h", &[0]),
     ("28h READ", &[0, 0x052100, 0x080000]),
     ("2Ah WRITE", &[0, 0x072700, 0x052102, 0x056300]),
     ("A8h READ (12)", &[0, 0x052100, 0x080000]),
     ("AAh WRITE (12)", &[0, 0x072700, 0x052102, 0x056300]),
     ("35h", &[0]),
+    ("46h type 0", &[0]),
+    ("46h type 1", &[0]),
+    ("46h type 2", &[0]),
+    ("46h type 3", &[0x052400]),
     ("51h", &[0, 0x052400]),
     ("52h address", &[0, 0x052100]),
     ("52h number", &[0, 0x052400]),

@@ -8,7 +8,7 @@ use compare::{seed, Coverage, Difference, Drive, Linked, Pair, Plain};
 use plain::Fault;
 
 const INJECTED: Effort =
-    Effort { sequences: 0, injected_blocks: CAPACITY, sound: 6_000, unsound: 20, junk: 200 };
+    Effort { sequences: 0, injected_blocks: CAPACITY, sound: 12_000, unsound: 20, junk: 200 };
 
 /// Room for a full list, and for a session after it.
 const CAPACITY: u32 = 480;

@@ -1,8 +1,8 @@
 //! Deliberate mistakes, one at a time. Each is tested at one place of the drive.
 
-use crate::command::{READ_12, WRITE_12};
+use crate::command::{GET_CONFIGURATION, INQUIRY, READ_12, WRITE_12};
 use crate::halving::{self, Search, Slip};
-use crate::Rule;
+use crate::{ConfigurationSlip, InquirySlip, Rule};
 
 /// The most fragments that a disc had before the limit was raised.
 pub(crate) const FORMER_LIMIT: usize = 64;
@@ -191,6 +191,30 @@ pub enum Fault {
     ForcedWriteFlushes,
     /// A8h with bit 7 of byte 10 set, which asks for streaming elsewhere, gets 5/24/00.
     StreamingRefused,
+    /// The opcode is not listed.
+    Unlisted,
+    /// An accepted command flushes the pending sectors.
+    FlushOnAcceptance,
+    /// A refusal leaves the sense.
+    SenseUnset,
+    /// L4 is not given for data that the command does not take.
+    DataUntested,
+    /// L4 is not given for a reply buffer that is too short: it cuts the reply.
+    RoomUntested,
+    /// L4 asks for the room of the uncut reply.
+    RoomUncut,
+    /// L4 asks for the room of a reply also where the drive refuses the command.
+    RoomOfRefused,
+    /// The reply goes on past the allocation length, as far as the reply buffer has room.
+    ReplyUncut,
+    /// 12h makes this mistake of its own.
+    Inquiry(InquirySlip),
+    /// 12h, and no other command, makes this mistake.
+    InInquiry(&'static Fault),
+    /// 46h makes this mistake of its own.
+    Configuration(ConfigurationSlip),
+    /// 46h, and no other command, makes this mistake.
+    InConfiguration(&'static Fault),
     /// This search finds its fragment by halving, with this mistake.
     Halving(Search, Slip),
 }
@@ -204,8 +228,32 @@ impl Fault {
 
     /// The mistakes that commands on sound states can show, those of halving last.
     pub fn of_commands() -> impl Iterator<Item = Fault> {
-        Self::OF_COMMANDS.into_iter().chain(halving::faults())
+        Self::OF_COMMANDS.into_iter().chain(Self::of_identity()).chain(halving::faults())
     }
+
+    /// The mistakes of the commands that say what the drive is, 12h and 46h.
+    pub fn of_identity() -> impl Iterator<Item = Fault> {
+        let of_inquiry = InquirySlip::ALL.map(Fault::Inquiry);
+        let of_configuration = ConfigurationSlip::ALL.map(Fault::Configuration);
+        let in_inquiry = Self::OF_REPORTS.iter().map(Fault::InInquiry);
+        let in_configuration = Self::OF_REPORTS.iter().map(Fault::InConfiguration);
+        of_inquiry.into_iter().chain(in_inquiry).chain(of_configuration).chain(in_configuration)
+    }
+
+    /// The mistakes that any command with a report could make.
+    const OF_REPORTS: &'static [Fault] = &[
+        Fault::Unlisted,
+        Fault::FlushOnAcceptance,
+        Fault::SenseKept,
+        Fault::SenseUnset,
+        Fault::TransferTestedLate,
+        Fault::DataUntested,
+        Fault::RoomUntested,
+        Fault::RoomUncut,
+        Fault::RoomOfRefused,
+        Fault::ReplyUncut,
+        Fault::ReplyBufferTouched,
+    ];
 
     const OF_COMMANDS: [Fault; 88] = [
         Fault::FlushOnRefusal,
@@ -298,10 +346,21 @@ impl Fault {
         Fault::StreamingRefused,
     ];
 
-    /// Whether this command block meets the mistake: some are made in one form alone of the two that
-    /// READ and WRITE have, or where a bit is set.
-    pub(crate) fn is_met_by(self, cdb: &[u8; 12]) -> bool {
+    /// The mistake that is made with this command block, if it meets one.
+    pub(crate) fn met_by(self, cdb: &[u8; 12]) -> Option<Fault> {
+        let fault = match self {
+            Fault::InInquiry(fault) | Fault::InConfiguration(fault) => *fault,
+            _ => self,
+        };
+        self.is_met_by(cdb).then_some(fault)
+    }
+
+    /// Whether this command block meets the mistake: some are made by one command alone, or in one form
+    /// alone of the two that READ and WRITE have, or where a bit is set.
+    fn is_met_by(self, cdb: &[u8; 12]) -> bool {
         match self {
+            Fault::Inquiry(_) | Fault::InInquiry(_) => cdb[0] == INQUIRY,
+            Fault::Configuration(_) | Fault::InConfiguration(_) => cdb[0] == GET_CONFIGURATION,
             Fault::ReadTwelveUnlisted
             | Fault::ReadTwelveLengthOfTen
             | Fault::ReadTwelveRefusalsSwapped

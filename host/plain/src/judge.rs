@@ -2,12 +2,14 @@
 //! either refused by its sense or becomes a step.
 
 use crate::command::Command;
+use crate::configuration::{self, Request};
 use crate::disc::Disc;
 use crate::fault::FORMER_LIMIT;
 use crate::halving::Search;
+use crate::inquiry::Inquiry;
 use crate::read::Run;
 use crate::reply::{self, Report};
-use crate::{Address, Block, Fault, Kind, Sense, BLOCK_SECTORS, FRAGMENT_LIMIT};
+use crate::{Address, Block, ConfigurationSlip, Fault, Kind, Sense, BLOCK_SECTORS, FRAGMENT_LIMIT};
 
 /// Closure and Intro between two sessions, 64 blocks each.
 pub(crate) const SESSION_GAP: u64 = 128;
@@ -26,23 +28,19 @@ pub(crate) enum Step {
     Finalize,
 }
 
-impl Step {
-    fn send(reply: &[u8], allocation: usize) -> Step {
-        Step::Send(Report::cut(reply, allocation))
-    }
-}
-
 impl Disc {
     pub(crate) fn judge(&self, command: Command) -> Result<Step, Sense> {
         match command {
             Command::TestUnitReady => Ok(Step::Nothing),
             Command::RequestSense { allocation } => {
-                Ok(Step::send(&reply::sense(self.sense), allocation))
+                Ok(self.send(&reply::sense(self.sense), allocation))
             }
-            Command::ReadCapacity => Ok(Step::send(&reply::capacity(self), reply::CAPACITY_BYTES)),
+            Command::Inquiry(inquiry) => self.judge_inquiry(inquiry),
+            Command::ReadCapacity => Ok(self.send(&reply::capacity(self), reply::CAPACITY_BYTES)),
             Command::Read { from, sectors } => self.judge_read(from, sectors),
             Command::Write { to, sectors } => self.judge_write(to, sectors),
             Command::SynchronizeCache => Ok(Step::Flush),
+            Command::GetConfiguration(request) => self.judge_configuration(request),
             Command::Reserve { sectors } => self.judge_reserve(sectors),
             Command::Close { function, number } => self.judge_close(function, number),
             Command::ReadDiscInformation { kind, allocation } => {
@@ -53,6 +51,29 @@ impl Disc {
             }
             Command::Unlisted => Err(Sense::INVALID_OPCODE),
         }
+    }
+
+    /// A reply without sectors, cut to the allocation length.
+    fn send(&self, reply: &[u8], allocation: usize) -> Step {
+        let allocation = if self.slips(Fault::ReplyUncut) { reply.len() } else { allocation };
+        Step::Send(Report::cut(reply, allocation))
+    }
+
+    /// 12h: 5/24/00 where a page is asked for.
+    fn judge_inquiry(&self, inquiry: Inquiry) -> Result<Step, Sense> {
+        let reply = inquiry.reply(self.fault).ok_or(Sense::INVALID_FIELD)?;
+        Ok(self.send(&reply, inquiry.allocation))
+    }
+
+    /// 46h: 5/24/00 for request type 3.
+    fn judge_configuration(&self, request: Request) -> Result<Step, Sense> {
+        let slip = Fault::Configuration(ConfigurationSlip::RomWhenFinalized);
+        let profile = match self.finalized && self.slips(slip) {
+            true => configuration::DVD_ROM,
+            false => configuration::DVD_PLUS_R,
+        };
+        let reply = request.reply(profile, self.fault).ok_or(Sense::INVALID_FIELD)?;
+        Ok(self.send(&reply, request.allocation))
     }
 
     /// 28h and A8h: length 0 is accepted wherever it points; 5/21/00 past the disc, then 8/00/00 where a
@@ -255,7 +276,7 @@ impl Disc {
         if kind != 0 {
             return Err(Sense::INVALID_FIELD);
         }
-        Ok(Step::send(&reply::disc_information(self), allocation))
+        Ok(self.send(&reply::disc_information(self), allocation))
     }
 
     /// 52h: 5/24/00 for types 2 and 3, an unlisted number, or FFh without a tail; 5/21/00 for an
@@ -271,7 +292,7 @@ impl Disc {
             1 => self.fragment_named(value).ok_or(Sense::INVALID_FIELD),
             _ => Err(Sense::INVALID_FIELD),
         };
-        found.map(|index| Step::send(&reply::fragment_information(self, index), allocation))
+        found.map(|index| self.send(&reply::fragment_information(self, index), allocation))
     }
 
     /// The fragment over whose blocks, recorded or not, the address lies.

@@ -4,6 +4,7 @@ use crate::answer::Accepted;
 use crate::command::Command;
 use crate::disc::{Disc, Pending};
 use crate::judge::{Step, SESSION_GAP};
+use crate::reply::Report;
 use crate::units::{block_stretch, sector_bytes};
 use crate::{
     Answer, Block, Fault, Fragment, Kind, Lent, Refusal, Sense, BLOCK_SECTORS, FRAGMENT_LIMIT,
@@ -25,7 +26,7 @@ impl Disc {
     /// mistake that this command block does not meet is switched off meanwhile.
     pub(crate) fn obey(&mut self, cdb: &[u8; 12], lent: &mut Lent) -> Result<Accepted, Refusal> {
         let fault = self.fault;
-        self.fault = fault.filter(|fault| fault.is_met_by(cdb));
+        self.fault = fault.and_then(|fault| fault.met_by(cdb));
         let result = self.serve(Command::decode(cdb, self.fault), lent);
         self.fault = fault;
         result
@@ -43,13 +44,19 @@ impl Disc {
                 if !self.slips(Fault::SenseKept) {
                     self.sense = Sense::NONE;
                 }
-                Ok(self.perform(step, lent))
+                let mut accepted = self.perform(step, lent);
+                if self.slips(Fault::FlushOnAcceptance) {
+                    accepted.recorded += self.flush(lent);
+                }
+                Ok(accepted)
             }
             Err(sense) => {
                 if self.slips(Fault::FlushOnRefusal) {
                     self.flush(lent);
                 }
-                self.sense = sense;
+                if !self.slips(Fault::SenseUnset) {
+                    self.sense = sense;
+                }
                 Err(Refusal::Drive(sense))
             }
         }
@@ -58,14 +65,7 @@ impl Disc {
     fn perform(&mut self, step: Step, lent: &mut Lent) -> Accepted {
         match step {
             Step::Nothing => Accepted::default(),
-            Step::Send(report) => {
-                let sent = report.bytes();
-                lent.reply[..sent.len()].copy_from_slice(sent);
-                if self.slips(Fault::ReplyBufferTouched) {
-                    lent.reply[sent.len()..].fill(0);
-                }
-                Accepted::with_reply(sent.len())
-            }
+            Step::Send(report) => Accepted::with_reply(self.send_report(report, lent)),
             Step::Read(run) => Accepted::with_reply(self.read(run, lent)),
             Step::Write { index, sectors } => {
                 Accepted::with_recorded(self.write(index, sectors, lent))
@@ -81,6 +81,20 @@ impl Disc {
             Step::CloseSession => Accepted::with_recorded(self.close_session(lent)),
             Step::Finalize => Accepted::with_recorded(self.finalize(lent)),
         }
+    }
+
+    /// A reply without sectors. L4 has left room for all of it, but for a mistake. Gives the bytes sent.
+    fn send_report(&self, report: Report, lent: &mut Lent) -> usize {
+        let room = match self.fault {
+            Some(Fault::RoomUntested | Fault::ReplyUncut) => lent.reply.len(),
+            _ => report.bytes().len(),
+        };
+        let sent = &report.bytes()[..report.bytes().len().min(room)];
+        lent.reply[..sent.len()].copy_from_slice(sent);
+        if self.slips(Fault::ReplyBufferTouched) {
+            lent.reply[sent.len()..].fill(0);
+        }
+        sent.len()
     }
 
     /// WRITE: sectors of another fragment are flushed first. Gives the blocks recorded.

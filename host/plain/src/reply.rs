@@ -1,5 +1,7 @@
-//! The bytes of the replies, each built in one place. An allocation length cuts them.
+//! The bytes of the replies about the disc, each built in one place. An allocation length cuts a reply
+//! of any command.
 
+use crate::configuration;
 use crate::disc::Disc;
 use crate::{Address, Fault, Fragment, Kind, Sense, BLOCK_SECTORS, SECTOR_BYTES};
 
@@ -8,17 +10,20 @@ pub const CAPACITY_BYTES: usize = 8;
 pub const DISC_INFORMATION_BYTES: usize = 34;
 pub const FRAGMENT_INFORMATION_BYTES: usize = 36;
 
+/// The most bytes that a reply without sectors has.
+const MOST_BYTES: usize = configuration::MOST_BYTES;
+
 /// The bytes of a reply, cut to the allocation length.
 #[derive(Clone, Copy, Debug)]
 pub struct Report {
-    bytes: [u8; FRAGMENT_INFORMATION_BYTES],
+    bytes: [u8; MOST_BYTES],
     count: usize,
 }
 
 impl Report {
     pub fn cut(reply: &[u8], allocation: usize) -> Report {
         let count = reply.len().min(allocation);
-        let mut bytes = [0; FRAGMENT_INFORMATION_BYTES];
+        let mut bytes = [0; MOST_BYTES];
         bytes[..count].copy_from_slice(&reply[..count]);
         Report { bytes, count }
     }

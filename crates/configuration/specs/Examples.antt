@@ -1,12 +1,12 @@
 -- What the reader makes of single replies, computed, and what its two theorems give: a weaker one would not.
 use Prim.Native.Nat.{ℕ, _+_}
-use mathlib.Core.Path.{_≡_, refl, ap, _∙_}
+use mathlib.Core.Path.{_≡_, refl, ap}
 use mathlib.Core.Bool.{Bool, true, false, cond, _||_}
 use mathlib.Core.List.{List, [], _∷_, _++_, map}
 use lib.ListN.{length, take, getD, replicate}
 use Rattle.features.specs.Feature.{features, descriptors, asked, numbers}
 use Rattle.features.specs.Configuration.{configurationOf, configurationBytes}
-use Rattle.configuration.specs.Types.{Feature, Reading}
+use Rattle.configuration.specs.Types.{Reading}
 use Rattle.configuration.specs.Reading.{ends, ones, possible, sameBytes, readAmong, readReply}
 use Rattle.configuration.specs.Theorems.{ReadBack, OnlySent}
 

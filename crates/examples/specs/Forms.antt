@@ -1,7 +1,6 @@
 -- READ (12) and WRITE (12), A8h and AAh, as a table of runs in the manner of Tour: lengths and addresses up to 2^32 - 1, sums that pass 32 bits,
 -- data and reply buffers of the right and of wrong lengths, both forms in turn. What each line must show was worked out by hand; `forms` says
 -- that the definitions give it.
-use Prim.Native.Nat.{ℕ}
 use mathlib.Core.Path.{_≡_, refl}
 use mathlib.Core.Bool.{true, false}
 use mathlib.Core.List.{List, [], _∷_, map}

@@ -4,7 +4,7 @@ use Prim.Native.Nat.{ℕ}
 use mathlib.Core.Path.{_≡_, refl}
 use mathlib.Core.Bool.{cond}
 use mathlib.Core.List.{List, [], _∷_, map}
-use lib.ListN.{take, replicate}
+use lib.ListN.{replicate}
 use Rattle.examples.specs.Types.{Sense, Reserved, Appended, Fragment, Disc, Verdict}
 use Rattle.protocol.specs.Reply.{said, replyBytes}
 use Rattle.protocol.specs.Answer.{sense, number, isRefusalSense, allowedSense}

@@ -6,15 +6,17 @@ use mathlib.Core.List.{List, [], _∷_, _++_}
 use mathlib.Core.Logic.{_⊎_, inl, inr, ⊎-elim}
 use native.Mathlib.Omega.{arith}
 use native.Mathlib.Numerals.{add-one}
-use lib.ListN.{length, take, drop, getD, replicate, length-append, drop-of-length-le}
-use lib.Seq.{drop-cons, take-append-seam}
+use lib.ListN.{length, take, drop, getD, drop-of-length-le}
+use lib.Seq.{drop-cons, take-length}
+use native.Mathlib.Nat.{le-refl}
 use lib.Dec.{eqb, leb}
 use borrow.Author.Tests.{eq-eqb, ne-eqb, eqb-true, leb-true}
 use Rattle.features.specs.Feature.{features, descriptors, asked, selected, numbers, Above, Rising}
 use Rattle.features.specs.declared.listing.Listing.{Listing}
 use Rattle.features.specs.Configuration.{configurationOf, configurationBytes, listing}
 use Rattle.features.proofs.Laws.Feature.{features-rise, above-from, above-one}
-use Rattle.configuration.specs.Types.{Feature, Reading}
+use Rattle.features.proofs.Laws.Configuration.{listing-first}
+use Rattle.configuration.specs.Types.{Feature}
 use Rattle.configuration.specs.Reading.{reading, refused, ends, ones, possible, sameBytes, readAmong, readReply}
 use Rattle.configuration.specs.First.{firstFeature}
 use Rattle.configuration.specs.Theorems.{Sent}
@@ -180,13 +182,10 @@ module _ (x y : List ℕ) (i : ℕ) (size : length x ≡ length y) where
   same-end h = rw (drop-of-length-le x {i = i} h, drop-of-length-le y {i = i} (omega (arith, size)))
 
 -- a listing's bytes up to its length are the reply
-pub listing-room : (x : List ℕ) (l : Listing) → l ≡ listing x → l .length ≤ length (l .bytes)
-listing-room x l e = rw e (omega (arith, length-append x (replicate (128 - length x) 0)))
-
 pub listing-bytes : (x : List ℕ) (l : Listing) → l ≡ listing x → take (l .length - 0) (l .bytes) ≡ x
 listing-bytes x l e =
-    let none : length x - 0 ≡ length x = omega arith in
-    rw (e, none) (take-append-seam x (replicate (128 - length x) 0))
+    let size : l .length - 0 ≡ length x = omega (arith, ap (λ (r : Listing). r .length) e) in
+    ap (λ (n : ℕ). take n (l .bytes)) size ∙ (listing-first (length x) x l e (le-refl (length x)) ∙ take-length x)
 
 -- there are ten features at the most
 few : All (λ fs. length fs ≤ 10) possible

@@ -3,10 +3,11 @@ use mathlib.Core.Path.{_≡_, refl, sym, ap, _∙_}
 use Prim.Native.Nat.{ℕ, _+_, _-_, _≤_}
 use native.Mathlib.Omega.{arith}
 use mathlib.Core.List.{List, [], _∷_, _++_}
-use lib.ListN.{length, take, replicate, length-append, length-replicate}
+use lib.ListN.{length, take, length-append}
 use Rattle.features.specs.declared.listing.Listing.{Listing}
 use Rattle.features.specs.Configuration.{listing}
-use lib.Seq.{length-take-le, take-append-le}
+use Rattle.features.proofs.Laws.Configuration.{listing-first}
+use lib.Seq.{length-take-le}
 use Rattle.protocol.specs.Reply.{said, replyBytes}
 use types.Run.{OneOf, miss}
 use denote.Enum.Declared.{tagOf}
@@ -18,21 +19,14 @@ use Rattle.drive.specs.Bytes.{splice}
 use Rattle.drive.specs.Reply.{sentBytes, Sendable}
 use Rattle.drive.proofs.Laws.Bytes.{length-splice, splice-splice}
 
--- the first bytes, from the part that is lent; what comes after them does not matter
+-- the first bytes of a list, from the part of it that is lent, and those of a listing
 pub first-put : (n : ℕ) (x buffer after : List ℕ) → after ≡ splice buffer 0 (take (n - 0) x) → after ≡ splice buffer 0 (take n x)
 first-put n x buffer after e = let k : n - 0 ≡ n = omega arith in e ∙ ap (λ (m : ℕ). splice buffer 0 (take m x)) k
-
-pub listing-room : (x : List ℕ) (l : Listing) → length x ≤ 128 → l ≡ listing x → length (l .bytes) ≡ 128
-listing-room x l h e =
-    ap (λ (r : Listing). length (r .bytes)) e
-    ∙ omega (arith, length-append x (replicate (128 - length x) 0), length-replicate {A = ℕ} (128 - length x) 0)
 
 pub listing-put :
     (n : ℕ) (x : List ℕ) (l : Listing) (buffer after : List ℕ) → n ≤ length x → l ≡ listing x → after ≡ splice buffer 0 (take (n - 0) (l .bytes))
     → after ≡ splice buffer 0 (take n x)
-listing-put n x l buffer after h e put =
-    first-put n (l .bytes) buffer after put
-    ∙ ap (splice buffer 0) (ap (λ (r : Listing). take n (r .bytes)) e ∙ take-append-le n x (replicate (128 - length x) 0) h)
+listing-put n x l buffer after h e put = first-put n (l .bytes) buffer after put ∙ ap (splice buffer 0) (listing-first n x l e h)
 
 -- a report, by what it says
 pub report-put :

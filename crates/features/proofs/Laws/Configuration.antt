@@ -5,13 +5,13 @@ use mathlib.Core.Bool.{true, false}
 use mathlib.Core.List.{List, [], _∷_, _++_, append-assoc, append-nil}
 use native.Mathlib.Omega.{arith}
 use lib.ListN.{length, take, set, replicate, length-append, length-replicate, replicate-append-replicate}
-use lib.Seq.{set-append-seam, append-snoc, take-all}
-use Rattle.features.specs.Types.{Feature, Listing, Asked}
+use lib.Seq.{set-append-seam, append-snoc, take-all, take-append-le}
+use Rattle.features.specs.Types.{Feature, Listing}
 use Rattle.features.specs.Bytes.{bytes16, bytes32, stored}
 use Rattle.features.specs.Feature.{profile, features, featureAt, wholeDescriptor, descriptor, descriptors, isAsked, asked, selected, numbers}
 use Rattle.features.specs.Configuration.{configurationBytes, listing, askedOf}
 use Rattle.features.proofs.Laws.Bytes.{stored-over}
-use Rattle.features.proofs.Laws.Feature.{Row, row-at, descriptors-append, numbers-append, length-numbers, asked-on, asked-off, asked-most}
+use Rattle.features.proofs.Laws.Feature.{row-at, descriptors-append, numbers-append, length-numbers, asked-on, asked-off, asked-most}
 
 -- the descriptors of those that are asked for of the first i features
 abbrev pub listed : ℕ → ℕ → ℕ → List ℕ
@@ -206,3 +206,10 @@ all-features = refl
 pub configuration-most : (r s : ℕ) → length (configurationBytes r s) ≤ 100
 unfolding configurationBytes
 configuration-most r s = omega (arith, asked-most r s features, all-features)
+
+-- a listing holds its reply, and its first bytes are the reply's
+pub listing-holds : (x : List ℕ) (l : Listing) → l ≡ listing x → length x ≤ length (l .bytes)
+listing-holds x l e = rw e (omega (arith, length-append x (replicate (128 - length x) 0)))
+
+pub listing-first : (n : ℕ) (x : List ℕ) (l : Listing) → l ≡ listing x → n ≤ length x → take n (l .bytes) ≡ take n x
+listing-first n x l e h = rw e (take-append-le n x (replicate (128 - length x) 0) h)

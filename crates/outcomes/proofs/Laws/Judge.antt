@@ -20,7 +20,6 @@ use Rattle.disc.specs.Ready.{Ready}
 use Rattle.protocol.specs.Lengths.{lengthsFit, replyRoom, inquiryRoom, configurationRoom, capacityLength, dataLength}
 use Rattle.decisions.specs.Plan.{noPlan}
 use Rattle.disc.specs.Verdict.{refuseLink, refuse, accepted, accept, rise}
-use Rattle.features.specs.Configuration.{configurationBytes}
 use Rattle.protocol.specs.Inquiry.{inquiryBytes}
 use Rattle.protocol.specs.Reply.{report, configurationReply, said}
 use Rattle.commands.specs.Read.{read}

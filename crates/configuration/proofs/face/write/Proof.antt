@@ -6,7 +6,7 @@ use Rattle.features.specs.Bytes.{stored}
 use Rattle.features.proofs.Laws.Bytes.{stored-next}
 use Rattle.configuration.proofs.Laws.Face.{words-written}
 use native.Mathlib.Omega.{arith}
-use Prim.Native.Nat.{ℕ, _+_, _-_, _*_, _≤_, _<_}
+use Prim.Native.Nat.{_+_, _-_, _≤_}
 use Rattle.configuration.proofs.face.write.Statement.{statement}
 use Rattle.configuration.proofs.face.write.Tie as tie
 

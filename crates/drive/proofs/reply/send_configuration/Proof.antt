@@ -1,7 +1,7 @@
 use native.Mathlib.Omega.{arith}
 use Rattle.features.specs.Configuration.{configurationBytes}
-use Rattle.features.proofs.Laws.Configuration.{configuration-most}
-use Rattle.drive.proofs.Laws.Reply.{listing-room, listing-put}
+use Rattle.features.proofs.Laws.Configuration.{listing-holds}
+use Rattle.drive.proofs.Laws.Reply.{listing-put}
 use borrow.Author.Needs.{needs}
 use Rattle.drive.proofs.reply.send_configuration.Statement.{statement}
 use Rattle.drive.proofs.reply.send_configuration.Tie as tie
@@ -18,9 +18,7 @@ part-put-start c = search needs
 part-put-end : tie.Need-part-put-end
 part-put-end c =
     let start = c .before .before .before .before .before in
-    let most = configuration-most (start .args .request) (start .args .start) in
-    let room = listing-room (configurationBytes (start .args .request) (start .args .start)) _ (omega (arith, most)) (c .before .before .before .configuration .ensures) in
-    omega (arith, start .pre .0, most, room)
+    omega (arith, start .pre .0, listing-holds (configurationBytes (start .args .request) (start .args .start)) _ (c .before .before .before .configuration .ensures))
 
 put-requires : tie.Need-put-requires
 put-requires c κs = search needs

@@ -1,19 +1,13 @@
 use borrow.Author.Needs.{needs}
 use Rattle.features.proofs.Laws.Feature.{row-at}
 use Rattle.features.proofs.Laws.Configuration.{Listed, listed-start, listed-on, listed-off, listed-all}
-use mathlib.Core.Path.{_≡_, refl, sym, _∙_, ap}
+use mathlib.Core.Path.{sym, _∙_}
 use mathlib.Core.Logic.{⊎-elim}
 use native.Mathlib.Omega.{arith}
-use Prim.Native.Nat.{ℕ, _+_, _-_, _*_, _≤_, _<_}
+use Prim.Native.Nat.{_-_}
 use lib.ListN.{length}
 use Rattle.features.proofs.listing.configuration.Statement.{statement}
 use Rattle.features.proofs.listing.configuration.Tie as tie
-use Rattle.features.proofs.listing.configuration.Reads as reads
-use Rattle.features.proofs.listing.configuration.Lts as lts
-use Rattle.features.proofs.feature.Feature.at.Reads as at-reads
-use Rattle.features.proofs.feature.Feature.is_asked.Reads as is-asked-reads
-use Rattle.features.proofs.listing.put_descriptor.Reads as put-descriptor-reads
-use Rattle.features.proofs.listing.put_word.Reads as put-word-reads
 
 abbrev Inv-loop : tie.InvT-loop
 Inv-loop request start bytes₀ length₀ i₀ bytes length i = Listed request start i bytes length

@@ -1,16 +1,11 @@
 use mathlib.Core.Logic.{⊎-elim}
 use borrow.Author.Needs.{needs}
 use Rattle.features.proofs.Laws.Configuration.{Counted, counted-start, counted-on, counted-off, counted-all}
-use mathlib.Core.Path.{_≡_, refl, sym, _∙_, ap}
-use native.Mathlib.Omega.{arith}
-use Prim.Native.Nat.{ℕ, _+_, _-_, _*_, _≤_, _<_}
+use mathlib.Core.Path.{sym, _∙_}
+use Prim.Native.Nat.{_-_}
 use lib.ListN.{length}
 use Rattle.features.proofs.listing.configuration_length.Statement.{statement}
 use Rattle.features.proofs.listing.configuration_length.Tie as tie
-use Rattle.features.proofs.listing.configuration_length.Reads as reads
-use Rattle.features.proofs.listing.configuration_length.Lts as lts
-use Rattle.features.proofs.feature.Feature.at.Reads as at-reads
-use Rattle.features.proofs.feature.Feature.is_asked.Reads as is-asked-reads
 
 abbrev Inv-loop : tie.InvT-loop
 Inv-loop request start length₀ i₀ length i = Counted request start i length

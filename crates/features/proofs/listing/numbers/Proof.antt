@@ -1,16 +1,10 @@
 use mathlib.Core.Logic.{⊎-elim}
 use borrow.Author.Needs.{needs}
 use Rattle.features.proofs.Laws.Configuration.{Named, named-start, named-on, named-off, named-all}
-use mathlib.Core.Path.{_≡_, refl, sym, _∙_, ap}
-use native.Mathlib.Omega.{arith}
-use Prim.Native.Nat.{ℕ, _+_, _-_, _*_, _≤_, _<_}
-use lib.ListN.{length}
+use mathlib.Core.Path.{sym, _∙_}
+use Prim.Native.Nat.{_-_}
 use Rattle.features.proofs.listing.numbers.Statement.{statement}
 use Rattle.features.proofs.listing.numbers.Tie as tie
-use Rattle.features.proofs.listing.numbers.Reads as reads
-use Rattle.features.proofs.listing.numbers.Lts as lts
-use Rattle.features.proofs.feature.Feature.at.Reads as at-reads
-use Rattle.features.proofs.feature.Feature.is_asked.Reads as is-asked-reads
 
 abbrev Inv-loop : tie.InvT-loop
 Inv-loop request start numbers₀ count₀ i₀ numbers count i = Named request start i numbers count

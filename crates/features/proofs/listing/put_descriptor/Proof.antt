@@ -1,14 +1,10 @@
-use mathlib.Core.Path.{_≡_, refl, sym, _∙_, ap}
-use native.Mathlib.Omega.{arith}
+use mathlib.Core.Path.{refl}
 use mathlib.Core.List.{[], _∷_}
 use Rattle.features.specs.Bytes.{bytes32}
 use Rattle.features.proofs.Laws.Bytes.{stored-four, stored-twelve}
 use borrow.Author.Needs.{needs}
 use Rattle.features.proofs.listing.put_descriptor.Statement.{statement}
 use Rattle.features.proofs.listing.put_descriptor.Tie as tie
-use Rattle.features.proofs.listing.put_descriptor.Reads as reads
-use Rattle.features.proofs.listing.put_descriptor.Lts as lts
-use Rattle.features.proofs.listing.put_word.Reads as put-word-reads
 
 cast-bytes : tie.Need-cast-bytes
 cast-bytes c = search needs

@@ -1,11 +1,7 @@
-use mathlib.Core.Path.{_≡_, refl, sym, _∙_, ap}
-use native.Mathlib.Omega.{arith}
 use Rattle.features.proofs.Laws.Bytes.{stored-four}
 use borrow.Author.Needs.{needs}
 use Rattle.features.proofs.listing.put_word.Statement.{statement}
 use Rattle.features.proofs.listing.put_word.Tie as tie
-use Rattle.features.proofs.listing.put_word.Reads as reads
-use Rattle.features.proofs.listing.put_word.Lts as lts
 
 cast-bytes : tie.Need-cast-bytes
 cast-bytes c = search needs

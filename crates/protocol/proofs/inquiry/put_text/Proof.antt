@@ -1,15 +1,13 @@
 use borrow.Author.Needs.{needs}
-use mathlib.Core.Path.{_≡_, refl, sym, _∙_, ap}
+use mathlib.Core.Path.{_≡_, refl, _∙_, ap}
 use native.Mathlib.Omega.{arith}
-use Prim.Native.Nat.{ℕ, _+_, _-_, _*_, _≤_, _<_}
+use Prim.Native.Nat.{_-_, _≤_}
 use lib.ListN.{length, take}
 use lib.Seq.{take-all}
 use Rattle.features.specs.Bytes.{stored}
 use Rattle.features.proofs.Laws.Bytes.{stored-next}
 use Rattle.protocol.proofs.inquiry.put_text.Statement.{statement}
 use Rattle.protocol.proofs.inquiry.put_text.Tie as tie
-use Rattle.protocol.proofs.inquiry.put_text.Reads as reads
-use Rattle.protocol.proofs.inquiry.put_text.Lts as lts
 
 abbrev Inv-loop : tie.InvT-loop
 Inv-loop at text bytes₀ i₀ bytes i = (i ≤ length text) × (bytes ≡ stored bytes₀ at (take i text))

@@ -1,7 +1,5 @@
 use Rattle.protocol.specs.Lengths.{configurationRoom}
 use borrow.Author.Tests.{eq-eqb, ne-eqb}
-use mathlib.Core.Path.{_≡_, refl, sym, _∙_, ap}
-use native.Mathlib.Omega.{arith}
 use borrow.Author.Needs.{needs}
 use Rattle.protocol.proofs.lengths.configuration_room.Statement.{statement}
 use Rattle.protocol.proofs.lengths.configuration_room.Tie as tie

@@ -1,13 +1,8 @@
 use Rattle.protocol.specs.Lengths.{inquiryRoom}
 use borrow.Author.Tests.{eq-eqb, ne-eqb}
-use mathlib.Core.Path.{_≡_, refl, sym, _∙_, ap}
-use native.Mathlib.Omega.{arith}
 use borrow.Author.Needs.{needs}
 use Rattle.protocol.proofs.lengths.inquiry_room.Statement.{statement}
 use Rattle.protocol.proofs.lengths.inquiry_room.Tie as tie
-use Rattle.protocol.proofs.lengths.inquiry_room.Reads as reads
-use Rattle.protocol.proofs.lengths.inquiry_room.Lts as lts
-use Rattle.protocol.proofs.lengths.cut.Reads as cut-reads
 
 cut-requires : tie.Need-cut-requires
 cut-requires c κs = search needs

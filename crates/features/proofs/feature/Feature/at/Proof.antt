@@ -1,15 +1,10 @@
-use borrow.Author.Tests.{ne-eqb}
 use Rattle.features.specs.Feature.{features}
-use mathlib.Core.Path.{_≡_, refl, sym, _∙_, ap}
+use mathlib.Core.Path.{_≡_}
 use native.Mathlib.Omega.{arith}
 use Prim.Native.Nat.{_≤_}
 use borrow.Author.Needs.{needs}
 use Rattle.features.proofs.feature.Feature.at.Statement.{statement}
 use Rattle.features.proofs.feature.Feature.at.Tie as tie
-use Rattle.features.proofs.feature.Feature.at.Reads as reads
-use Rattle.features.proofs.feature.Feature.at.Lts as lts
-use Rattle.features.proofs.feature.Feature.new.Reads as new-reads
-use Rattle.features.proofs.feature.Feature.plain.Reads as plain-reads
 
 new-requires : tie.Need-new-requires
 new-requires c κs = search needs

@@ -1,11 +1,7 @@
 use Rattle.features.specs.Feature.{features}
 use borrow.Author.Tests.{eq-eqb, ne-eqb}
-use mathlib.Core.Path.{_≡_, refl, sym, _∙_, ap}
-use native.Mathlib.Omega.{arith}
 use Rattle.features.proofs.feature.Feature.is_asked.Statement.{statement}
 use Rattle.features.proofs.feature.Feature.is_asked.Tie as tie
-use Rattle.features.proofs.feature.Feature.is_asked.Reads as reads
-use Rattle.features.proofs.feature.Feature.is_asked.Lts as lts
 
 -- src/feature.rt:72:13
 returns : tie.Need-returns

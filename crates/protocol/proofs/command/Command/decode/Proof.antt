@@ -1,15 +1,8 @@
 use borrow.Author.Tests.{ne-eqb}
 use Rattle.protocol.specs.Command.{decode}
-use mathlib.Core.Path.{_≡_, refl, sym, _∙_, ap}
-use native.Mathlib.Omega.{arith}
 use borrow.Author.Needs.{needs}
 use Rattle.protocol.proofs.command.Command.decode.Statement.{statement}
 use Rattle.protocol.proofs.command.Command.decode.Tie as tie
-use Rattle.protocol.proofs.command.Command.decode.Reads as reads
-use Rattle.protocol.proofs.command.Command.decode.Lts as lts
-use Rattle.protocol.proofs.command.byte_at.Reads as byte-at-reads
-use Rattle.protocol.proofs.command.word16.Reads as word16-reads
-use Rattle.protocol.proofs.command.word32.Reads as word32-reads
 
 byte-at-requires : tie.Need-byte-at-requires
 byte-at-requires c κs = search needs

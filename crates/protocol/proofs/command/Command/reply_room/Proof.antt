@@ -1,15 +1,9 @@
 use Rattle.protocol.specs.Lengths.{replyRoom}
-use mathlib.Core.Path.{_≡_, refl, sym, _∙_, ap}
-use native.Mathlib.Omega.{arith}
+use mathlib.Core.Path.{sym}
 use Rattle.protocol.proofs.Laws.Lengths.{no-reply}
 use borrow.Author.Needs.{needs}
 use Rattle.protocol.proofs.command.Command.reply_room.Statement.{statement}
 use Rattle.protocol.proofs.command.Command.reply_room.Tie as tie
-use Rattle.protocol.proofs.command.Command.reply_room.Reads as reads
-use Rattle.protocol.proofs.command.Command.reply_room.Lts as lts
-use Rattle.protocol.proofs.lengths.configuration_room.Reads as configuration-room-reads
-use Rattle.protocol.proofs.lengths.cut.Reads as cut-reads
-use Rattle.protocol.proofs.lengths.inquiry_room.Reads as inquiry-room-reads
 
 enum-known-self : tie.Need-enum-known-self
 enum-known-self c = search needs

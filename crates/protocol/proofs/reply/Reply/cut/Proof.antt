@@ -1,11 +1,6 @@
-use mathlib.Core.Path.{_≡_, refl, sym, _∙_, ap}
-use native.Mathlib.Omega.{arith}
 use borrow.Author.Needs.{needs}
 use Rattle.protocol.proofs.reply.Reply.cut.Statement.{statement}
 use Rattle.protocol.proofs.reply.Reply.cut.Tie as tie
-use Rattle.protocol.proofs.reply.Reply.cut.Reads as reads
-use Rattle.protocol.proofs.reply.Reply.cut.Lts as lts
-use Rattle.protocol.proofs.lengths.cut.Reads as cut-reads
 
 cut-requires : tie.Need-cut-requires
 cut-requires c κs = search needs

@@ -1,5 +1,3 @@
-use mathlib.Core.Path.{_≡_, refl, sym, _∙_, ap}
-use native.Mathlib.Omega.{arith}
 use borrow.Author.Needs.{needs}
 use Rattle.protocol.proofs.reply.Reply.of_configuration.Statement.{statement}
 use Rattle.protocol.proofs.reply.Reply.of_configuration.Tie as tie

@@ -1,14 +1,8 @@
-use mathlib.Core.Path.{_≡_, refl, sym, _∙_, ap}
-use native.Mathlib.Omega.{arith}
 use Rattle.features.specs.Bytes.{stored}
 use Rattle.protocol.specs.Inquiry.{inquiryBytes}
 use borrow.Author.Needs.{needs}
 use Rattle.protocol.proofs.reply.Reply.of_inquiry.Statement.{statement}
 use Rattle.protocol.proofs.reply.Reply.of_inquiry.Tie as tie
-use Rattle.protocol.proofs.reply.Reply.of_inquiry.Reads as reads
-use Rattle.protocol.proofs.reply.Reply.of_inquiry.Lts as lts
-use Rattle.protocol.proofs.inquiry.put_text.Reads as put-text-reads
-use Rattle.protocol.proofs.reply.Reply.report.Reads as report-reads
 
 array-write-bytes : tie.Need-array-write-bytes
 array-write-bytes c = search needs

@@ -60,7 +60,8 @@ pub const ALL_FEATURES: u8 = 0b00;
 pub const CURRENT_FEATURES: u8 = 0b01;
 pub const ONE_FEATURE: u8 = 0b10;
 
-/// The bytes in front of the features in a reply to 46h.
+/// The bytes of the longest reply to 46h, and those in front of the features.
+pub const CONFIGURATION_LENGTH: usize = 100;
 pub const CONFIGURATION_HEADER_LENGTH: usize = 8;
 
 /// The features of 46h: their numbers, and the bytes that each takes in a reply.

@@ -6,7 +6,7 @@ use crate::outline::Outline;
 use crate::{Generator, Request};
 
 /// No reply to either has more bytes.
-const MOST_BYTES: u64 = 100;
+const MOST_BYTES: u64 = cdb::CONFIGURATION_LENGTH as u64;
 
 /// Whether it is one of them.
 pub fn is_question(cdb: &Cdb) -> bool {

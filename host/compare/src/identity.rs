@@ -199,7 +199,7 @@ pub const OF_IDENTITY: [Situation; 71] = [
 
 /// The bytes in front of the features, and those of the reply with all of them.
 const HEADER: usize = cdb::CONFIGURATION_HEADER_LENGTH;
-const ALL: usize = 100;
+const ALL: usize = cdb::CONFIGURATION_LENGTH;
 
 const LAST_FEATURE: u16 = cdb::FEATURES[cdb::FEATURES.len() - 1].0;
 

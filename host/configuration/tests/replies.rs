@@ -116,8 +116,8 @@ fn every_byte_counts() {
             }
         }
     }
-    // the descriptors of 0002h, 0003h and 001Fh differ in their last byte alone, and so do those of
-    // 0100h, 0105h and 0107h
+    // the descriptors of 0002h, 0003h and 001Fh differ in the low byte of their numbers alone, and so do
+    // those of 0100h, 0105h and 0107h
     assert_eq!(others, 12);
 }
 

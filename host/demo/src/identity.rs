@@ -20,11 +20,11 @@ pub fn inquiry(reply: &[u8]) -> String {
     )
 }
 
-/// What a reply to GET CONFIGURATION says, and lines with the features. Of one that is not whole only
-/// how long that would be.
+/// What a reply to GET CONFIGURATION says, and lines with the features. Of one that was cut only how
+/// long the whole one is.
 pub fn configuration(reply: &[u8]) -> (String, Vec<String>) {
     let Some(read) = ::configuration::read(reply) else {
-        return (cut(reply), Vec::new());
+        return (unread(reply), Vec::new());
     };
     let count = match read.features.len() {
         0 => "no feature".into(),
@@ -37,10 +37,14 @@ pub fn configuration(reply: &[u8]) -> (String, Vec<String>) {
     (text, features.chunks(FEATURES_TO_A_LINE).map(columns).collect())
 }
 
-fn cut(reply: &[u8]) -> String {
-    match reply.len() {
-        0..4 => "cut".into(),
-        _ => format!("cut, {} bytes in all", 4 + number_at(reply, 0)),
+/// Why the reader refuses it: by its length a part is missing, or it is none of the drive's.
+fn unread(reply: &[u8]) -> String {
+    if reply.len() < 4 {
+        return "cut".into();
+    }
+    match 4 + u64::from(number_at(reply, 0)) {
+        whole if whole > reply.len() as u64 => format!("cut, {whole} bytes in all"),
+        _ => "not as this drive sends it".into(),
     }
 }
 
@@ -69,5 +73,19 @@ fn feature(number: u16) -> &'static str {
         0x0105 => "Time-Out",
         0x0107 => "Real-time Streaming",
         _ => "without a name",
+    }
+}
+
+#[cfg(test)]
+mod tests {
+    use super::configuration;
+
+    /// The drive never sends it, so that no script shows it.
+    #[test]
+    fn a_wrong_byte_is_no_cut() {
+        let text = |reply: &[u8]| configuration(reply).0;
+        assert_eq!(text(&[0, 0, 0, 4, 0, 0, 0, 0x10]), "not as this drive sends it");
+        assert_eq!(text(&[0, 0, 0, 5, 0, 0, 0, 0x1B]), "cut, 9 bytes in all");
+        assert_eq!(text(&[0xFF; 8]), "cut, 4294967299 bytes in all");
     }
 }

@@ -27,11 +27,17 @@ impl Feature {
         Feature { number, version, persistent: false, data }
     }
 
-    fn descriptor(&self) -> Vec<u8> {
+    /// The bytes of its descriptor.
+    fn length(&self) -> usize {
+        4 + self.data.len()
+    }
+
+    fn put_descriptor(&self, reply: &mut Vec<u8>) {
         let [high, low] = self.number.to_be_bytes();
         let current = 0b1;
         let state = self.version << 2 | u8::from(self.persistent) << 1 | current;
-        [&[high, low, state, self.data.len() as u8], self.data].concat()
+        reply.extend([high, low, state, self.data.len() as u8]);
+        reply.extend(self.data);
     }
 }
 
@@ -87,15 +93,14 @@ impl Request {
 
     /// The bytes of the uncut reply; none where the request type is refused.
     pub fn reply_length(self, fault: Option<Fault>) -> Option<usize> {
-        self.reply(DVD_PLUS_R, fault).map(|reply| reply.len())
+        let descriptors = self.wanted(fault)?.iter().map(Feature::length).sum::<usize>();
+        Some(HEADER_BYTES + descriptors)
     }
 
     /// The uncut reply; none where the request type is refused.
     pub fn reply(self, profile: u16, fault: Option<Fault>) -> Option<Vec<u8>> {
-        let descriptors: Vec<Vec<u8>> =
-            self.wanted(fault)?.iter().map(Feature::descriptor).collect();
-        let descriptors = descriptors.concat();
-        let after_length = HEADER_BYTES - 4 + descriptors.len();
+        let wanted = self.wanted(fault)?;
+        let after_length = HEADER_BYTES - 4 + wanted.iter().map(Feature::length).sum::<usize>();
         let length = match fault {
             Some(Fault::Configuration(Slip::LengthCountsItself)) => after_length + 4,
             Some(Fault::Configuration(Slip::LengthCut)) => {
@@ -106,7 +111,10 @@ impl Request {
         };
         let [a, b, c, d] = (length as u32).to_be_bytes();
         let [high, low] = profile.to_be_bytes();
-        Some([&[a, b, c, d, 0, 0, high, low], descriptors.as_slice()].concat())
+        let mut reply = Vec::with_capacity(MOST_BYTES);
+        reply.extend([a, b, c, d, 0, 0, high, low]);
+        wanted.iter().for_each(|feature| feature.put_descriptor(&mut reply));
+        Some(reply)
     }
 
     /// The features that it asks for.

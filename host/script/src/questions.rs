@@ -1,10 +1,7 @@
 //! `inquiry` and `configuration TYPE START`: what a burning program asks before anything else, INQUIRY
 //! and GET CONFIGURATION with room for the whole reply.
 
-use cdb::{Cdb, ALL_FEATURES, INQUIRY_LENGTH};
-
-/// The bytes of the longest reply to 46h.
-const CONFIGURATION_LENGTH: u16 = 100;
+use cdb::{Cdb, ALL_FEATURES, CONFIGURATION_LENGTH, INQUIRY_LENGTH};
 
 /// What stands after the word `inquiry`: nothing.
 pub(crate) fn inquiry(words: &[&str]) -> Result<Cdb, String> {
@@ -23,7 +20,7 @@ pub(crate) fn configuration(words: &[&str]) -> Result<Cdb, String> {
         [request, start] => (request_type(request)?, starting_feature(start)?),
         _ => return Err("write `configuration`, a request type and a starting feature".into()),
     };
-    Ok(cdb::get_configuration(request, start, CONFIGURATION_LENGTH))
+    Ok(cdb::get_configuration(request, start, CONFIGURATION_LENGTH as u16))
 }
 
 fn request_type(word: &str) -> Result<u8, String> {
@@ -50,6 +47,6 @@ mod tests {
     #[test]
     fn no_reply_is_longer() {
         let all = configuration(&[]).expect("no words are needed");
-        assert_eq!(cdb::configuration_length(&all), Some(CONFIGURATION_LENGTH.into()));
+        assert_eq!(cdb::configuration_length(&all), Some(CONFIGURATION_LENGTH));
     }
 }

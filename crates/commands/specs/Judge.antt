@@ -30,14 +30,14 @@ testUnitReady d = accept d d noReply noPlan
 unfoldable pub perform : Disc → Command → Verdict
 perform d TestUnitReady = testUnitReady d
 perform d (RequestSense allocation) = requestSense d allocation
-perform d (Inquiry page allocation) = inquiry d page allocation
+perform d (Inquiry pageBit allocation) = inquiry d pageBit allocation
 perform d ReadCapacity = readCapacity d
 perform d (Read a n) = read d a n
 perform d (Write a n) = write d a n
 perform d SynchronizeCache = synchronizeCache d
 perform d (ReserveTrack size) = reserve d size
 perform d (CloseTrackSession function n) = close d function n
-perform d (GetConfiguration request start allocation) = getConfiguration d request start allocation
+perform d (GetConfiguration requestType start allocation) = getConfiguration d requestType start allocation
 perform d (ReadDiscInformation dataType allocation) = readDiscInformation d dataType allocation
 perform d (ReadTrackInformation addressType n allocation) = readTrackInformation d addressType n allocation
 perform d Unlisted = refuse d InvalidOperationCode

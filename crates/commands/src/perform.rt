@@ -23,7 +23,10 @@ pub(crate) fn perform(disc: Disc, command: Command) -> Decision
     match command {
         Command::TestUnitReady => Decision::unchanged(Reply::none()),
         Command::RequestSense { allocation } => reporting::request_sense(disc, allocation),
-        Command::Inquiry { page, allocation } => reporting::inquiry(disc, page, allocation),
+        Command::Inquiry {
+            page_bit,
+            allocation,
+        } => reporting::inquiry(disc, page_bit, allocation),
         Command::ReadCapacity => reporting::read_capacity(disc),
         Command::Read { address, length } => read::read(disc, address, length),
         Command::Write { address, length } => write::write(disc, address, length),
@@ -35,10 +38,10 @@ pub(crate) fn perform(disc: Disc, command: Command) -> Decision
             number as usize,
         ),
         Command::GetConfiguration {
-            request,
+            request_type,
             start,
             allocation,
-        } => reporting::get_configuration(disc, request, start, allocation),
+        } => reporting::get_configuration(disc, request_type, start, allocation),
         Command::ReadDiscInformation {
             data_type,
             allocation,

@@ -23,7 +23,7 @@ three =
     ∷ 0x01 ∷ 0x07 ∷ 1 ∷ 4 ∷ 0 ∷ 0 ∷ 0 ∷ 0 ∷ []
 
 pub read-three : readReply three ≡ told 0x001B (0x0100 ∷ 0x0105 ∷ 0x0107 ∷ [])
-unfolding readReply readAmong sameBytes possible ends ones features descriptors numbers
+unfolding readReply readAmong sameBytes possible ends features descriptors numbers
 read-three = refl
 
 -- refused: cut by a byte, and a byte longer; a length that does not fit; another profile; two features in the wrong order; one that is missing
@@ -41,7 +41,7 @@ refusals =
     ∷ [] ∷ []
 
 pub refused-all : map (λ (x : List ℕ). readReply x .accepted) refusals ≡ replicate 9 false
-unfolding readReply readAmong sameBytes possible ends ones features descriptors numbers
+unfolding readReply readAmong sameBytes possible ends ones features descriptors
 refused-all = refl
 
 -- there are twenty replies: 21 ways to make one, and 0107h by itself is also an end

@@ -10,16 +10,16 @@ use Rattle.configuration.specs.Reading.{reading, readReply}
 
 -- each uncut reply, for each request type and starting feature, is read back as its profile and its features
 abbrev pub ReadBack : Type 0
-ReadBack = (request start : ℕ) → readReply (configurationBytes request start) ≡ reading (selected request start)
+ReadBack = (requestType start : ℕ) → readReply (configurationBytes requestType start) ≡ reading (selected requestType start)
 
 -- a reply that the drive can send, and what is read of it
 pub record Sent (x : List ℕ) (r : Reading) : Type 0 where
-  pub request : ℕ
+  pub requestType : ℕ
   pub start : ℕ
-  pub served : request ≤ 2
+  pub served : requestType ≤ 2
   pub fits : start ≤ 0xFFFF
-  pub reply : x ≡ configurationBytes request start
-  pub told : r ≡ reading (selected request start)
+  pub reply : x ≡ configurationBytes requestType start
+  pub told : r ≡ reading (selected requestType start)
 
 -- and whatever is accepted is such a reply
 abbrev pub OnlySent : Type 0

@@ -18,13 +18,14 @@ fn write(words: &mut [u32], reading: Reading)
     words[1] = reading.count as u32;
     let features = reading.features;
     let mut i = 0;
-    while i < 10 {
+    while i < features::COUNT {
         words[2 + i] = features[i];
         i += 1;
     }
 }
 
-// Reads a reply into twelve words: 0. 1 where it is no uncut reply of the drive, and 2 where there are not twelve words; then the words stay.
+// Reads a reply into twelve words: 0. It is 1 where the reply is no uncut one of the drive, and 2 where there are not twelve words; then
+// the words stay.
 #[no_mangle]
 pub extern "C" fn gladhamre_configuration(reply: &[u8], words: &mut [u32]) -> u32
     ensures { λ r. ⌜ Faced (now (reply .entry)) (now (words .entry)) r (now (words .exit)) ⌝ }

@@ -6,17 +6,12 @@ ghost use Rattle.features.specs.Configuration.{configurationBytes};
 ghost use Rattle.configuration.specs.Reading.{refused, reading, sameBytes, readReply};
 ghost use Rattle.configuration.specs.First.{firstFeature};
 
-// The request types that ask for every feature from one on, and for that one alone.
-const ALL: u8 = 0;
-
-const ONE: u8 = 2;
-
 // What is read of a reply: the current profile, and the numbers of its features in order, zeros after them. All zero where it is refused.
 pub struct Reading {
     pub accepted: bool,
     pub profile: u32,
     pub count: usize,
-    pub features: [u32; 10],
+    pub features: [u32; features::COUNT],
 }
 
 impl Reading {
@@ -24,7 +19,7 @@ impl Reading {
     fn refused() -> Reading
         ensures { λ r. ⌜ r ≡ refused ⌝ }
     {
-        let features = [0u32; 10];
+        let features = [0u32; features::COUNT];
         Reading {
             accepted: false,
             profile: 0,
@@ -34,10 +29,10 @@ impl Reading {
     }
 
     // Of the reply to a request.
-    fn of(request: u8, start: u16) -> Reading
-        ensures { λ r. ⌜ r ≡ reading (selected request start) ⌝ }
+    fn of(request_type: u8, start: u16) -> Reading
+        ensures { λ r. ⌜ r ≡ reading (selected «request_type» start) ⌝ }
     {
-        let asked = features::numbers(request, start);
+        let asked = features::numbers(request_type, start);
         let features = asked.numbers;
         Reading {
             accepted: true,
@@ -78,10 +73,10 @@ fn is_same(one: &[u8], other: &[u8]) -> bool
 }
 
 // Whether a reply is the whole one to a request.
-fn answers(reply: &[u8], request: u8, start: u16) -> bool
-    ensures { λ r. ⌜ r ≡ sameBytes (now (reply .entry)) (configurationBytes request start) ⌝ }
+fn answers(reply: &[u8], request_type: u8, start: u16) -> bool
+    ensures { λ r. ⌜ r ≡ sameBytes (now (reply .entry)) (configurationBytes «request_type» start) ⌝ }
 {
-    let whole = features::configuration(request, start);
+    let whole = features::configuration(request_type, start);
     let length = whole.length;
     let bytes = whole.bytes;
     is_same(reply, &bytes[0..length])
@@ -92,11 +87,11 @@ pub fn read(reply: &[u8]) -> Reading
     ensures { λ r. ⌜ r ≡ readReply (now (reply .entry)) ⌝ }
 {
     let first = first_feature(reply);
-    if answers(reply, ONE, first) {
-        return Reading::of(ONE, first);
+    if answers(reply, features::ONE_FEATURE, first) {
+        return Reading::of(features::ONE_FEATURE, first);
     }
-    if answers(reply, ALL, first) {
-        return Reading::of(ALL, first);
+    if answers(reply, features::ALL_FEATURES, first) {
+        return Reading::of(features::ALL_FEATURES, first);
     }
     Reading::refused()
 }

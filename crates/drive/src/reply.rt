@@ -22,11 +22,11 @@ fn send_own(bytes: [u8; Reply::LIMIT], sent: usize, reply: &mut [u8])
 }
 
 // The first bytes of what GET CONFIGURATION says, which are made only here.
-fn send_configuration(request: u8, start: u16, sent: usize, reply: &mut [u8])
-    requires { ⌜ (sent ≤ length (configurationBytes request start)) × (sent ≤ length (now reply)) ⌝ }
-    ensures { λ _. ⌜ now (reply .exit) ≡ splice (now (reply .entry)) 0 (take sent (configurationBytes request start)) ⌝ }
+fn send_configuration(request_type: u8, start: u16, sent: usize, reply: &mut [u8])
+    requires { ⌜ (sent ≤ length (configurationBytes «request_type» start)) × (sent ≤ length (now reply)) ⌝ }
+    ensures { λ _. ⌜ now (reply .exit) ≡ splice (now (reply .entry)) 0 (take sent (configurationBytes «request_type» start)) ⌝ }
 {
-    let listing = features::configuration(request, start);
+    let listing = features::configuration(request_type, start);
     let bytes = listing.bytes;
     bytes::put(reply, 0, &bytes[0..sent]);
 }
@@ -42,8 +42,8 @@ fn send_report(report: Reply, reply: &mut [u8]) -> usize
     let content = report.content;
     match content {
         Content::Own => send_own(bytes, sent, reply),
-        Content::Configuration { request, start } => send_configuration(
-            request,
+        Content::Configuration { request_type, start } => send_configuration(
+            request_type,
             start,
             sent,
             reply,

@@ -1,14 +1,18 @@
 -- INQUIRY (12h) and GET CONFIGURATION (46h) as a table of runs in the manner of Tour: every byte of the whole replies, cuts, starting features,
 -- request types, lengths lent, refusals. What each line must show was worked out by hand from the documents; `identities` says that the
 -- definitions give it.
-use Prim.Native.Nat.{ℕ}
+use Prim.Native.Nat.{ℕ, _≤_}
 use mathlib.Core.Path.{_≡_, refl}
 use mathlib.Core.Bool.{true, false}
 use mathlib.Core.List.{List, [], _∷_, _++_, map}
-use lib.ListN.{take, drop}
-use Rattle.features.specs.Feature.{features, descriptors, asked}
+use lib.ListN.{length, take, drop}
+use lib.Dec.{eqb}
+use Rattle.features.specs.Feature.{features, descriptors, asked, selected}
 use Rattle.features.specs.Configuration.{configurationBytes}
+use Rattle.configuration.specs.Reading.{reading, readReply}
+use Rattle.configuration.proofs.Laws.Theorems.{replies-read-back}
 use Rattle.protocol.specs.Reply.{said, replyBytes}
+use Rattle.protocol.proofs.Laws.Reply.{configuration-uncut}
 use Rattle.protocol.specs.Answer.{sense, isRefusalSense, allowedSense}
 use Rattle.protocol.specs.Command.{decode}
 use Rattle.protocol.specs.Inquiry.{inquiryBytes}
@@ -19,6 +23,7 @@ use Rattle.disc.specs.Sound.{usedFirst, firstAtZero, followsFrom, inOrder, ends
 use Rattle.disc.specs.Verdict.{accepted, accept, refuse, refuseLink}
 use Rattle.reporting.specs.Identity.{inquiry, getConfiguration}
 use Rattle.commands.specs.Judge.{perform, judgeCommand, judge}
+use Rattle.examples.specs.Types.{Disc}
 use Rattle.examples.specs.Shift.{shown}
 use Rattle.examples.specs.Tour.{Line, line, Run, from, played, cdb, state, threePending, upTo}
 
@@ -136,3 +141,11 @@ unfolding
     usedFirst firstAtZero followsFrom inOrder endsWithin recordedWithin zeroedWithin incompleteLast tailLast tailOrFull pendingNamed
     finalizedComplete sound allowedState
 identities = refl
+
+-- whatever the disc, the uncut reply to each request type that is served, from each starting feature, is read back by the reader of
+-- `configuration`: drawn from its theorem
+pub served-read-back :
+    (d : Disc) (t s n : ℕ) → eqb t 3 ≡ false → length (configurationBytes t s) ≤ n
+    → readReply (replyBytes (getConfiguration d t s n .reply)) ≡ reading (selected t s)
+unfolding getConfiguration accept accepted
+served-read-back d t s n e h = rw (e, configuration-uncut t s n h) (replies-read-back t s)

@@ -13,7 +13,7 @@ configurationOf fs = bytes32 (4 + length (descriptors fs)) ++ bytes16 0 ++ bytes
 
 -- the reply to a request type and a starting feature
 unfoldable pub configurationBytes : ℕ → ℕ → List ℕ
-configurationBytes request start = configurationOf (selected request start)
+configurationBytes requestType start = configurationOf (selected requestType start)
 
 -- it as the code holds it, zeros after it
 abbrev pub listing : List ℕ → Listing

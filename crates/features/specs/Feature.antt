@@ -1,5 +1,6 @@
--- The drive's features, as a table: those of source document 000's Table 5 and, of its Table 3, the feature DVD+R. Fields that are left
--- open there are zero.
+-- The drive's features, as a table: those of source document 000's Table 5 and, of its Table 3, the feature DVD+R, whose version is the
+-- table's and not that of the sentence under it. Fields that are left open there are zero, but for the lengths of the data, which are
+-- source document 001's.
 use Prim.Native.Nat.{ℕ, _+_, _*_, _<_}
 use mathlib.Core.Bool.{Bool, cond}
 use mathlib.Core.List.{List, [], _∷_, _++_}
@@ -16,8 +17,9 @@ feature n v size x y = record { number = n; version = v; length = size; first = 
 abbrev pub profile : ℕ
 profile = 0x001B
 
--- every feature, in rising order of number: Profile List (DVD+R, which is current, then DVD-ROM), Core, Morphing, Removable Medium, Random
--- Readable (with its page bit), DVD Read, DVD+R (with its write bit), Power Management, Time-Out, Real-time Streaming
+-- every feature, in rising order of number: Profile List (DVD+R, which is current, then DVD-ROM, which 000 has
+-- such a drive claim too), Core, Morphing, Removable Medium, Random Readable (PP, page present, is set), DVD Read, DVD+R (the write bit is
+-- set), Power Management, Time-Out, Real-time Streaming
 unfoldable pub features : List Feature
 features =
     feature 0x0000 0 8 0x001B0100 0x00100000
@@ -32,7 +34,7 @@ features =
     ∷ feature 0x0107 0 4 0x00000000 0x00000000
     ∷ []
 
--- the feature at a place of the table; past its end, none
+-- the feature at a place of the table; past its end, one of zeros
 abbrev pub featureAt : ℕ → Feature
 featureAt i = getD features i (feature 0 0 0 0 0)
 
@@ -50,15 +52,15 @@ descriptors (f ∷ fs) = descriptor f ++ descriptors fs
 -- whether a request asks for a feature: type 2 for the one with the starting number, types 0 (all) and 1 (the current ones, as all are) for
 -- every one from that number on
 abbrev pub isAsked : ℕ → ℕ → Feature → Bool
-isAsked request start f = cond (eqb request 2) (eqb (f .number) start) (leb start (f .number))
+isAsked requestType start f = cond (eqb requestType 2) (eqb (f .number) start) (leb start (f .number))
 
 -- those of some features that a request asks for
 unfoldable pub asked : ℕ → ℕ → List Feature → List Feature
-asked request start [] = []
-asked request start (f ∷ fs) = cond (isAsked request start f) (f ∷ asked request start fs) (asked request start fs)
+asked requestType start [] = []
+asked requestType start (f ∷ fs) = cond (isAsked requestType start f) (f ∷ asked requestType start fs) (asked requestType start fs)
 
 abbrev pub selected : ℕ → ℕ → List Feature
-selected request start = asked request start features
+selected requestType start = asked requestType start features
 
 -- the numbers of features
 unfoldable pub numbers : List Feature → List ℕ

@@ -6,8 +6,13 @@ ghost use Rattle.features.specs.Feature.{feature, featureAt, isAsked};
 // The current profile: DVD+R.
 pub const PROFILE: u32 = 0x001B;
 
-// The request type that asks for one feature alone.
-const ONE: u8 = 2;
+// The request types that ask for every feature from one on, and for that one alone.
+pub const ALL_FEATURES: u8 = 0;
+
+pub const ONE_FEATURE: u8 = 2;
+
+// How many features there are.
+pub const COUNT: usize = 10;
 
 // A feature: its number, its version, and the length of its feature dependent data with those, as two numbers of four bytes.
 pub struct Feature {
@@ -19,12 +24,6 @@ pub struct Feature {
 }
 
 impl Feature {
-    // How many there are.
-    pub const COUNT: usize = 10;
-
-    // The longest descriptor's bytes.
-    pub const LONGEST: usize = 12;
-
     fn new(number: u16, version: u8, length: u8, first: u32, second: u32) -> Feature
         ensures { λ r. ⌜ r ≡ feature number version «length» «first» «second» ⌝ }
     {
@@ -44,8 +43,8 @@ impl Feature {
         Feature::new(number, 0, length, 0, 0)
     }
 
-    // The feature at a place of the table: the profiles are DVD+R, the current one, and DVD-ROM; Random Readable has its page bit, DVD+R its
-    // write bit.
+    // The feature at a place of the table: the profiles are DVD+R, the current one, and DVD-ROM; Random Readable has PP (page present), DVD+R
+    // its write bit.
     pub(crate) fn at(index: usize) -> Feature
         requires { ⌜ index < 10 ⌝ }
         ensures { λ r. ⌜ r ≡ featureAt index ⌝ }
@@ -65,10 +64,10 @@ impl Feature {
     }
 
     // Whether a request asks for it: type 2 for the feature with the starting number alone, types 0 and 1 for every one from there on.
-    pub(crate) fn is_asked(self, request: u8, start: u16) -> bool
-        ensures { λ r. ⌜ r ≡ isAsked request start self ⌝ }
+    pub(crate) fn is_asked(self, request_type: u8, start: u16) -> bool
+        ensures { λ r. ⌜ r ≡ isAsked «request_type» start self ⌝ }
     {
-        if request == ONE {
+        if request_type == ONE_FEATURE {
             return self.number == start;
         }
         start <= self.number

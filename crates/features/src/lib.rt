@@ -3,6 +3,9 @@
 mod feature;
 mod listing;
 
+pub use feature::ALL_FEATURES;
+pub use feature::COUNT;
+pub use feature::ONE_FEATURE;
 pub use feature::PROFILE;
 pub use listing::Asked;
 pub use listing::Listing;

@@ -16,7 +16,7 @@ pub struct Listing {
 
 // The numbers of features in order, zeros after them, and how many there are.
 pub struct Asked {
-    pub numbers: [u32; Feature::COUNT],
+    pub numbers: [u32; feature::COUNT],
     pub count: usize,
 }
 
@@ -55,16 +55,16 @@ fn put_descriptor(bytes: [u8; Listing::LIMIT], at: usize, f: Feature) -> [u8; Li
     put_word(bytes, at + 8, f.second)
 }
 
-// The bytes of the whole reply to a request type and a starting feature. It has a loop of its own, since every command's lengths are tested
-// and none of them may pay for the bytes.
-pub fn configuration_length(request: u8, start: u16) -> usize
-    ensures { λ r. ⌜ r ≡ length (configurationBytes request start) ⌝ }
+// The length of the whole reply to a request type and a starting feature. It has a loop of its own: L4 asks for it, and a call that makes
+// bytes there would cost every command a copy of the records.
+pub fn configuration_length(request_type: u8, start: u16) -> usize
+    ensures { λ r. ⌜ r ≡ length (configurationBytes «request_type» start) ⌝ }
 {
     let mut length = Listing::HEADER;
     let mut i = 0;
-    while i < Feature::COUNT {
+    while i < feature::COUNT {
         let f = Feature::at(i);
-        if f.is_asked(request, start) {
+        if f.is_asked(request_type, start) {
             length += 4 + f.length as usize;
         }
         i += 1;
@@ -73,16 +73,16 @@ pub fn configuration_length(request: u8, start: u16) -> usize
 }
 
 // The whole reply to them.
-pub fn configuration(request: u8, start: u16) -> Listing
-    ensures { λ r. ⌜ r ≡ listing (configurationBytes request start) ⌝ }
+pub fn configuration(request_type: u8, start: u16) -> Listing
+    ensures { λ r. ⌜ r ≡ listing (configurationBytes «request_type» start) ⌝ }
 {
     let mut bytes = [0u8; Listing::LIMIT];
     bytes[7] = feature::PROFILE as u8;
     let mut length = Listing::HEADER;
     let mut i = 0;
-    while i < Feature::COUNT {
+    while i < feature::COUNT {
         let f = Feature::at(i);
-        if f.is_asked(request, start) {
+        if f.is_asked(request_type, start) {
             bytes = put_descriptor(bytes, length, f);
             length += 4 + f.length as usize;
         }
@@ -93,15 +93,15 @@ pub fn configuration(request: u8, start: u16) -> Listing
 }
 
 // The numbers of the features that a request asks for.
-pub fn numbers(request: u8, start: u16) -> Asked
-    ensures { λ r. ⌜ r ≡ askedOf (selected request start) ⌝ }
+pub fn numbers(request_type: u8, start: u16) -> Asked
+    ensures { λ r. ⌜ r ≡ askedOf (selected «request_type» start) ⌝ }
 {
-    let mut numbers = [0u32; Feature::COUNT];
+    let mut numbers = [0u32; feature::COUNT];
     let mut count = 0;
     let mut i = 0;
-    while i < Feature::COUNT {
+    while i < feature::COUNT {
         let f = Feature::at(i);
-        if f.is_asked(request, start) {
+        if f.is_asked(request_type, start) {
             numbers[count] = f.number as u32;
             count += 1;
         }

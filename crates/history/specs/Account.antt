@@ -87,7 +87,7 @@ credited n x (CloseTrackSession function number) payload k =
     cond (eqb function 0b001 && eqb number n && x .reserved) (filled x (flushed x k)) (flushed x k)
 credited n x TestUnitReady payload k = k
 credited n x (RequestSense allocation) payload k = k
-credited n x (Inquiry page allocation) payload k = k
+credited n x (Inquiry pageBit allocation) payload k = k
 credited n x ReadCapacity payload k = k
 credited n x (Read a count) payload k = k
 credited n x (ReserveTrack size) payload k = k

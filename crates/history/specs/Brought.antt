@@ -27,7 +27,7 @@ unfoldable pub writeOf : Command → List ℕ → List Written
 writeOf (Write a n) x = record { address = a .0; count = n; payload = x } ∷ []
 writeOf TestUnitReady x = []
 writeOf (RequestSense allocation) x = []
-writeOf (Inquiry page allocation) x = []
+writeOf (Inquiry pageBit allocation) x = []
 writeOf ReadCapacity x = []
 writeOf (Read a n) x = []
 writeOf SynchronizeCache x = []

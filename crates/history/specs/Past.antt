@@ -57,7 +57,7 @@ pastAfter d (CloseTrackSession function n) h =
     cond (eqb function 0b001 && extentOf d n .reserved) (pastFilled (extentOf d n) (pastFlushed h)) (pastFlushed h)
 pastAfter d TestUnitReady h = h
 pastAfter d (RequestSense allocation) h = h
-pastAfter d (Inquiry page allocation) h = h
+pastAfter d (Inquiry pageBit allocation) h = h
 pastAfter d ReadCapacity h = h
 pastAfter d (Read a n) h = h
 pastAfter d (ReserveTrack size) h = h

@@ -61,7 +61,7 @@ unfoldable pub recutCommand : List Portion → Request → Command → List Requ
 recutCommand ks q (Write a n) = cond (isCut q (a .0) n ks) (partsOf (a .0) ks (q .payload)) (q ∷ [])
 recutCommand ks q TestUnitReady = q ∷ []
 recutCommand ks q (RequestSense allocation) = q ∷ []
-recutCommand ks q (Inquiry page allocation) = q ∷ []
+recutCommand ks q (Inquiry pageBit allocation) = q ∷ []
 recutCommand ks q ReadCapacity = q ∷ []
 recutCommand ks q (Read a n) = q ∷ []
 recutCommand ks q SynchronizeCache = q ∷ []

@@ -41,10 +41,10 @@ dataLength Unlisted = 0
 -- the room for the standard data of INQUIRY and for the reply of GET CONFIGURATION, cut to the allocation length; none where the drive refuses
 -- them, with the page bit and for the fourth request type
 unfoldable pub inquiryRoom : ℕ → ℕ → ℕ
-inquiryRoom page n = cond (eqb page 0) (min inquiryLength n) 0
+inquiryRoom pageBit n = cond (eqb pageBit 0) (min inquiryLength n) 0
 
 unfoldable pub configurationRoom : ℕ → ℕ → ℕ → ℕ
-configurationRoom request start n = cond (eqb request 3) 0 (min (length (configurationBytes request start)) n)
+configurationRoom requestType start n = cond (eqb requestType 3) 0 (min (length (configurationBytes requestType start)) n)
 
 -- the least room for the reply: a READ's sectors, a report cut to its allocation length; any room does for the others
 unfoldable pub replyRoom : Command → ℕ

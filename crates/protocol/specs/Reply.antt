@@ -15,8 +15,8 @@ report bytes allocation = cutReply (bytes ++ replicate (36 - length bytes) 0) Ow
 
 -- what GET CONFIGURATION says, which the reply only names
 abbrev pub configurationReply : ℕ → ℕ → ℕ → Reply
-configurationReply request start allocation =
-    cutReply (replicate 36 0) (Configuration request start) (length (configurationBytes request start)) allocation
+configurationReply requestType start allocation =
+    cutReply (replicate 36 0) (Configuration requestType start) (length (configurationBytes requestType start)) allocation
 
 -- a reply of no bytes
 abbrev pub noReply : Reply
@@ -25,7 +25,7 @@ noReply = report [] 0
 -- what a reply with these bytes says, uncut
 unfoldable pub said : Content → List ℕ → List ℕ
 said Own bytes = bytes
-said (Configuration request start) bytes = configurationBytes request start
+said (Configuration requestType start) bytes = configurationBytes requestType start
 
 -- the bytes that are sent of a reply
 unfoldable pub replyBytes : Reply → List ℕ

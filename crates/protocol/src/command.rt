@@ -10,7 +10,7 @@ pub enum Command {
         allocation: u8,
     },
     Inquiry {
-        page: u8,
+        page_bit: u8,
         allocation: u16,
     },
     ReadCapacity,
@@ -31,7 +31,7 @@ pub enum Command {
         number: u16,
     },
     GetConfiguration {
-        request: u8,
+        request_type: u8,
         start: u16,
         allocation: u16,
     },
@@ -87,7 +87,7 @@ impl Command {
                 allocation: byte_at(cdb, 4),
             },
             0x12 => Command::Inquiry {
-                page: byte_at(cdb, 1) % 2,
+                page_bit: byte_at(cdb, 1) % 2,
                 allocation: word16(cdb, 3),
             },
             0x25 => Command::ReadCapacity,
@@ -101,7 +101,7 @@ impl Command {
             },
             0x35 => Command::SynchronizeCache,
             0x46 => Command::GetConfiguration {
-                request: byte_at(cdb, 1) % 4,
+                request_type: byte_at(cdb, 1) % 4,
                 start: word16(cdb, 2),
                 allocation: word16(cdb, 7),
             },

@@ -34,23 +34,23 @@ pub(crate) fn cut(whole: usize, allocation: usize) -> usize
 }
 
 // The room for INQUIRY's report: none where the page bit has it refused.
-fn inquiry_room(page: u8, allocation: usize) -> usize
-    ensures { λ r. ⌜ r ≡ inquiryRoom page allocation ⌝ }
+fn inquiry_room(page_bit: u8, allocation: usize) -> usize
+    ensures { λ r. ⌜ r ≡ inquiryRoom «page_bit» allocation ⌝ }
 {
-    if page == 0 {
+    if page_bit == 0 {
         return cut(INQUIRY_LENGTH, allocation);
     }
     0
 }
 
 // The room for GET CONFIGURATION's reply: none where the request type has it refused.
-fn configuration_room(request: u8, start: u16, allocation: usize) -> usize
-    ensures { λ r. ⌜ r ≡ configurationRoom request start allocation ⌝ }
+fn configuration_room(request_type: u8, start: u16, allocation: usize) -> usize
+    ensures { λ r. ⌜ r ≡ configurationRoom «request_type» start allocation ⌝ }
 {
-    if request == 3 {
+    if request_type == 3 {
         return 0;
     }
-    cut(features::configuration_length(request, start), allocation)
+    cut(features::configuration_length(request_type, start), allocation)
 }
 
 impl Command {
@@ -70,14 +70,17 @@ impl Command {
     {
         match self {
             Command::RequestSense { allocation } => cut(SENSE_LENGTH, allocation as usize),
-            Command::Inquiry { page, allocation } => inquiry_room(page, allocation as usize),
+            Command::Inquiry {
+                page_bit,
+                allocation,
+            } => inquiry_room(page_bit, allocation as usize),
             Command::ReadCapacity => CAPACITY_LENGTH,
             Command::Read { address: _, length } => SECTOR_LENGTH * (length as usize),
             Command::GetConfiguration {
-                request,
+                request_type,
                 start,
                 allocation,
-            } => configuration_room(request, start, allocation as usize),
+            } => configuration_room(request_type, start, allocation as usize),
             Command::ReadDiscInformation {
                 data_type: _,
                 allocation,

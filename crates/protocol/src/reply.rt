@@ -8,7 +8,7 @@ ghost use Rattle.protocol.specs.Reply.{cutReply, configurationReply, noR
 // only where it is sent.
 pub enum Content {
     Own,
-    Configuration { request: u8, start: u16 },
+    Configuration { request_type: u8, start: u16 },
 }
 
 // A reply by value: its own bytes, zeros after them, what it says, and how many bytes of that are sent.
@@ -54,12 +54,12 @@ impl Reply {
     }
 
     // GET CONFIGURATION's reply.
-    pub fn of_configuration(request: u8, start: u16, allocation: usize) -> Reply
-        ensures { λ r. ⌜ r ≡ configurationReply request start allocation ⌝ }
+    pub fn of_configuration(request_type: u8, start: u16, allocation: usize) -> Reply
+        ensures { λ r. ⌜ r ≡ configurationReply «request_type» start allocation ⌝ }
     {
         let bytes = [0u8; Reply::LIMIT];
-        let whole = features::configuration_length(request, start);
-        let content = Content::Configuration { request, start };
+        let whole = features::configuration_length(request_type, start);
+        let content = Content::Configuration { request_type, start };
         Reply::cut(bytes, content, whole, allocation)
     }
 }

@@ -10,9 +10,9 @@ use Rattle.reporting.specs.Types.{Disc, Verdict, InvalidFieldInCommand}
 
 -- INQUIRY: the standard data; with the page bit set it is refused
 unfoldable pub inquiry : Disc → ℕ → ℕ → Verdict
-inquiry d page allocation = cond (eqb page 0) (accept d d (report inquiryBytes allocation) noPlan) (refuse d InvalidFieldInCommand)
+inquiry d pageBit allocation = cond (eqb pageBit 0) (accept d d (report inquiryBytes allocation) noPlan) (refuse d InvalidFieldInCommand)
 
 -- GET CONFIGURATION: the fourth request type is refused
 unfoldable pub getConfiguration : Disc → ℕ → ℕ → ℕ → Verdict
-getConfiguration d request start allocation =
-    cond (eqb request 3) (refuse d InvalidFieldInCommand) (accept d d (configurationReply request start allocation) noPlan)
+getConfiguration d requestType start allocation =
+    cond (eqb requestType 3) (refuse d InvalidFieldInCommand) (accept d d (configurationReply requestType start allocation) noPlan)

@@ -20,8 +20,8 @@ pub fn inquiry(reply: &[u8]) -> String {
     )
 }
 
-/// What a reply to GET CONFIGURATION says, and lines with the features. Of one that was cut only how
-/// long the whole one is.
+/// What a reply to GET CONFIGURATION says, and lines with the features. Of one that was cut the profile,
+/// where the header is there, and how long the whole one is.
 pub fn configuration(reply: &[u8]) -> (String, Vec<String>) {
     let Some(read) = ::configuration::read(reply) else {
         return (unread(reply), Vec::new());
@@ -43,7 +43,13 @@ fn unread(reply: &[u8]) -> String {
         return "cut".into();
     }
     match 4 + u64::from(number_at(reply, 0)) {
-        whole if whole > reply.len() as u64 => format!("cut, {whole} bytes in all"),
+        whole if whole > reply.len() as u64 => {
+            let profile = match reply.get(6..8) {
+                Some(bytes) => format!(", profile {:02X}{:02X}h", bytes[0], bytes[1]),
+                None => String::new(),
+            };
+            format!("cut, {whole} bytes in all{profile}")
+        }
         _ => "not as this drive sends it".into(),
     }
 }
@@ -85,7 +91,8 @@ mod tests {
     fn a_wrong_byte_is_no_cut() {
         let text = |reply: &[u8]| configuration(reply).0;
         assert_eq!(text(&[0, 0, 0, 4, 0, 0, 0, 0x10]), "not as this drive sends it");
-        assert_eq!(text(&[0, 0, 0, 5, 0, 0, 0, 0x1B]), "cut, 9 bytes in all");
-        assert_eq!(text(&[0xFF; 8]), "cut, 4294967299 bytes in all");
+        assert_eq!(text(&[0, 0, 0, 5, 0, 0, 0, 0x1B]), "cut, 9 bytes in all, profile 001Bh");
+        assert_eq!(text(&[0, 0, 0, 5, 0, 0, 0]), "cut, 9 bytes in all");
+        assert_eq!(text(&[0xFF; 8]), "cut, 4294967299 bytes in all, profile FFFFh");
     }
 }

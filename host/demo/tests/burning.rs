@@ -61,7 +61,7 @@ const ROWS: [&str; 45] = [
 /// What the replies say, by the number of the command.
 const REPLIES: [(usize, &str); 23] = [
     (1, "reply of 36 bytes: device type 05h, removable medium, vendor \"GLADHAMR\", product \"DVD+R LOGGER\", revision \"1.00\""),
-    (2, "reply of 8 bytes: cut, 100 bytes in all"),
+    (2, "reply of 8 bytes: cut, 100 bytes in all, profile 001Bh"),
     (3, "reply of 100 bytes: profile 001Bh DVD+R, 10 features"),
     (4, "reply of 16 bytes: profile 001Bh DVD+R, 1 feature"),
     (6, "reply of 34 bytes: disc blank, last session empty, sessions 1, its fragments 1 to 1"),

@@ -91,13 +91,13 @@ fn headers() {
         (
             "46 00 0021 000000 0010",
             "GET CONFIGURATION, all from 0021h",
-            "reply of 16 bytes: cut, 40 bytes in all",
+            "reply of 16 bytes: cut, 40 bytes in all, profile 001Bh",
             "00 00 00 24 00 00 00 1B 00 2B 05 04 01 00 00 00",
         ),
         (
             "46 02 002B 000000 0008",
             "GET CONFIGURATION, feature 002Bh",
-            "reply of 8 bytes: cut, 16 bytes in all",
+            "reply of 8 bytes: cut, 16 bytes in all, profile 001Bh",
             "00 00 00 0C 00 00 00 1B",
         ),
         (

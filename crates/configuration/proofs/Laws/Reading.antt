@@ -11,7 +11,7 @@ use lib.Seq.{drop-cons, take-length}
 use native.Mathlib.Nat.{le-refl}
 use lib.Dec.{eqb, leb}
 use borrow.Author.Tests.{eq-eqb, ne-eqb, eqb-true, leb-true}
-use Rattle.features.specs.Feature.{features, descriptors, asked, selected, numbers, Above, Rising}
+use Rattle.features.specs.Feature.{features, descriptors, asked, selected, Above, Rising}
 use Rattle.features.specs.declared.listing.Listing.{Listing}
 use Rattle.features.specs.Configuration.{configurationOf, configurationBytes, listing}
 use Rattle.features.proofs.Laws.Feature.{features-rise, above-from, above-one}
@@ -93,7 +93,7 @@ all-selected P a r s =
 
 -- each of them is read as its features
 read-possible : All (λ fs. readReply (configurationOf fs) ≡ reading fs) possible
-unfolding All possible ends ones features descriptors numbers readReply readAmong sameBytes
+unfolding All possible ends ones features descriptors readReply readAmong sameBytes
 read-possible = (refl, (refl, (refl, (refl, (refl, (refl, (refl, (refl, (refl, (refl, (refl, (refl, (refl, (refl, (refl, (refl, (refl, (refl, (refl, (refl, (refl, tt)))))))))))))))))))))
 
 pub read-back : (r s : ℕ) → readReply (configurationBytes r s) ≡ reading (selected r s)
@@ -108,10 +108,10 @@ first-says = (inr refl, (inr refl, (inr refl, (inr refl, (inr refl, (inr refl, (
 
 -- each is a reply that the drive sends
 sent : (r s : ℕ) → r ≤ 2 → s ≤ 0xFFFF → Sent (configurationBytes r s) (reading (selected r s))
-sent r s h k = record { request = r; start = s; served = h; fits = k; reply = refl; told = refl }
+sent r s h k = record { requestType = r; start = s; served = h; fits = k; reply = refl; told = refl }
 
 sent-possible : All (λ fs. Sent (configurationOf fs) (reading fs)) possible
-unfolding All possible ends ones features descriptors asked numbers configurationBytes
+unfolding All possible ends ones features asked configurationBytes
 sent-possible = (sent 0 0x0000 (omega arith) (omega arith), (sent 0 0x0001 (omega arith) (omega arith), (sent 0 0x0002 (omega arith) (omega arith), (sent 0 0x0003 (omega arith) (omega arith), (sent 0 0x0010 (omega arith) (omega arith), (sent 0 0x001F (omega arith) (omega arith), (sent 0 0x002B (omega arith) (omega arith), (sent 0 0x0100 (omega arith) (omega arith), (sent 0 0x0105 (omega arith) (omega arith), (sent 0 0x0107 (omega arith) (omega arith), (sent 0 0xFFFF (omega arith) (omega arith), (sent 2 0x0000 (omega arith) (omega arith), (sent 2 0x0001 (omega arith) (omega arith), (sent 2 0x0002 (omega arith) (omega arith), (sent 2 0x0003 (omega arith) (omega arith), (sent 2 0x0010 (omega arith) (omega arith), (sent 2 0x001F (omega arith) (omega arith), (sent 2 0x002B (omega arith) (omega arith), (sent 2 0x0100 (omega arith) (omega arith), (sent 2 0x0105 (omega arith) (omega arith), (sent 2 0x0107 (omega arith) (omega arith), tt)))))))))))))))))))))
 
 -- bytes that are none of some replies are refused

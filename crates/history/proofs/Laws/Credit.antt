@@ -415,8 +415,8 @@ module _
     unfolding perform credited testUnitReady requestSense inquiry getConfiguration readCapacity readDiscInformation
     noted-performed TestUnitReady = noted-same k noReply refl
     noted-performed (RequestSense allocation) = noted-same k _ refl
-    noted-performed (Inquiry page allocation) =
-        cond-cases (Noted k) (eqb page 0) _ _ (λ t. noted-same k _ refl) (λ t. noted-refused k InvalidFieldInCommand)
+    noted-performed (Inquiry pageBit allocation) =
+        cond-cases (Noted k) (eqb pageBit 0) _ _ (λ t. noted-same k _ refl) (λ t. noted-refused k InvalidFieldInCommand)
     noted-performed ReadCapacity = noted-same k _ refl
     noted-performed (Read a count) = noted-read a count
     noted-performed (Write a count) = noted-write a count

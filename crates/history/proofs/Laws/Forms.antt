@@ -21,7 +21,7 @@ unfoldable HasForm : List ℕ → Command → Type 0
 HasForm b (Write a n) = OfForm ten b a n ⊎ OfForm twelve b a n
 HasForm b TestUnitReady = Unit {0}
 HasForm b (RequestSense allocation) = Unit {0}
-HasForm b (Inquiry page allocation) = Unit {0}
+HasForm b (Inquiry pageBit allocation) = Unit {0}
 HasForm b ReadCapacity = Unit {0}
 HasForm b (Read a n) = Unit {0}
 HasForm b SynchronizeCache = Unit {0}

@@ -562,8 +562,8 @@ module _ (d : Disc) (h : Past) (r : Ready d) (w : Recalls d h) where
   unfolding perform pastAfter testUnitReady requestSense inquiry getConfiguration readCapacity readDiscInformation synchronizeCache
   recalled-performed TestUnitReady = recalled-same noReply
   recalled-performed (RequestSense allocation) = recalled-same _
-  recalled-performed (Inquiry page allocation) =
-      cond-cases (Recalled h) (eqb page 0) _ _ (λ t. recalled-same _) (λ t. recalled-refused h InvalidFieldInCommand)
+  recalled-performed (Inquiry pageBit allocation) =
+      cond-cases (Recalled h) (eqb pageBit 0) _ _ (λ t. recalled-same _) (λ t. recalled-refused h InvalidFieldInCommand)
   recalled-performed ReadCapacity = recalled-same _
   recalled-performed (Read a n) = recalled-read a n
   recalled-performed (Write a n) = recalled-write a n

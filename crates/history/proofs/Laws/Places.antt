@@ -259,8 +259,8 @@ module _ (d : Disc) (n : ℕ) (r : Ready d) (one : 1 ≤ n) where
   unfolding perform testUnitReady requestSense inquiry getConfiguration readCapacity readDiscInformation synchronizeCache
   moved-performed TestUnitReady = moved-same noReply noPlan
   moved-performed (RequestSense allocation) = moved-same _ noPlan
-  moved-performed (Inquiry page allocation) =
-      cond-cases Moved (eqb page 0) _ _ (λ t. moved-same _ noPlan) (λ t. moved-refused InvalidFieldInCommand)
+  moved-performed (Inquiry pageBit allocation) =
+      cond-cases Moved (eqb pageBit 0) _ _ (λ t. moved-same _ noPlan) (λ t. moved-refused InvalidFieldInCommand)
   moved-performed ReadCapacity = moved-same _ noPlan
   moved-performed (Read a count) = moved-read a count
   moved-performed (Write a count) = moved-write a count

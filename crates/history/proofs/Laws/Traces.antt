@@ -179,7 +179,7 @@ credited-pads n x (CloseTrackSession function number) sectors k b first none =
     (λ t. subst (λ (l : Account). Pads b k l) (sym (cond-no test (filled x (flushed x k)) (flushed x k) t)) (pads-flushed b x k first))
 credited-pads n x TestUnitReady sectors k b first none = pads-same b k
 credited-pads n x (RequestSense allocation) sectors k b first none = pads-same b k
-credited-pads n x (Inquiry page allocation) sectors k b first none = pads-same b k
+credited-pads n x (Inquiry pageBit allocation) sectors k b first none = pads-same b k
 credited-pads n x ReadCapacity sectors k b first none = pads-same b k
 credited-pads n x (Read a count) sectors k b first none = pads-same b k
 credited-pads n x (ReserveTrack size) sectors k b first none = pads-same b k
@@ -296,7 +296,7 @@ isWrite : Command → Bool
 isWrite (Write a count) = true
 isWrite TestUnitReady = false
 isWrite (RequestSense allocation) = false
-isWrite (Inquiry page allocation) = false
+isWrite (Inquiry pageBit allocation) = false
 isWrite ReadCapacity = false
 isWrite (Read a count) = false
 isWrite SynchronizeCache = false
@@ -404,7 +404,7 @@ module _
     accepted-traced e (Write a count) is = equal-cases count 0 (write-empty e a count is) (write-some e a count is)
     accepted-traced e TestUnitReady is = command-plain e TestUnitReady is refl
     accepted-traced e (RequestSense allocation) is = command-plain e (RequestSense allocation) is refl
-    accepted-traced e (Inquiry page allocation) is = command-plain e (Inquiry page allocation) is refl
+    accepted-traced e (Inquiry pageBit allocation) is = command-plain e (Inquiry pageBit allocation) is refl
     accepted-traced e ReadCapacity is = command-plain e ReadCapacity is refl
     accepted-traced e (Read a count) is = command-plain e (Read a count) is refl
     accepted-traced e SynchronizeCache is = command-plain e SynchronizeCache is refl

@@ -141,7 +141,7 @@ recut-command ks q (Write a n) is =
     (λ t. inl (cond-no (isCut q (a .0) n ks) (partsOf (a .0) ks (q .payload)) (q ∷ []) t))
 recut-command ks q TestUnitReady is = inl refl
 recut-command ks q (RequestSense allocation) is = inl refl
-recut-command ks q (Inquiry page allocation) is = inl refl
+recut-command ks q (Inquiry pageBit allocation) is = inl refl
 recut-command ks q ReadCapacity is = inl refl
 recut-command ks q (Read a n) is = inl refl
 recut-command ks q SynchronizeCache is = inl refl

@@ -18,7 +18,7 @@ part-put-start c = search needs
 part-put-end : tie.Need-part-put-end
 part-put-end c =
     let start = c .before .before .before .before .before in
-    omega (arith, start .pre .0, listing-holds (configurationBytes (start .args .request) (start .args .start)) _ (c .before .before .before .configuration .ensures))
+    omega (arith, start .pre .0, listing-holds (configurationBytes (start .args .request-type) (start .args .start)) _ (c .before .before .before .configuration .ensures))
 
 put-requires : tie.Need-put-requires
 put-requires c κs = search needs
@@ -29,7 +29,7 @@ same-length c = search needs
 returns : tie.Need-returns
 returns c =
     let start = c .before .before .before .before .before .before .before .before .before in
-    listing-put (start .args .sent) (configurationBytes (start .args .request) (start .args .start)) _ (start .args .reply .now) _ (start .pre .0) (c .before .before .before .before .before .before .before .configuration .ensures) (c .before .before .put .ensures)
+    listing-put (start .args .sent) (configurationBytes (start .args .request-type) (start .args .start)) _ (start .args .reply .now) _ (start .pre .0) (c .before .before .before .before .before .before .before .configuration .ensures) (c .before .before .put .ensures)
 
 pub send-configuration-spec : {M : Type 1} → statement M
 send-configuration-spec =

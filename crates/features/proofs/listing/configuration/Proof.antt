@@ -10,10 +10,10 @@ use Rattle.features.proofs.listing.configuration.Statement.{statement}
 use Rattle.features.proofs.listing.configuration.Tie as tie
 
 abbrev Inv-loop : tie.InvT-loop
-Inv-loop request start bytes₀ length₀ i₀ bytes length i = Listed request start i bytes length
+Inv-loop requestType start bytes₀ length₀ i₀ bytes length i = Listed requestType start i bytes length
 
 abbrev μ-loop : tie.MeasureT-loop
-μ-loop request start bytes₀ length₀ i₀ bytes length i = 10 - i
+μ-loop requestType start bytes₀ length₀ i₀ bytes length i = 10 - i
 
 cast-bytes : tie.Need-cast-bytes Inv-loop μ-loop
 cast-bytes c = search needs

@@ -8,10 +8,10 @@ use Rattle.features.proofs.listing.configuration_length.Statement.{stat
 use Rattle.features.proofs.listing.configuration_length.Tie as tie
 
 abbrev Inv-loop : tie.InvT-loop
-Inv-loop request start length₀ i₀ length i = Counted request start i length
+Inv-loop requestType start length₀ i₀ length i = Counted requestType start i length
 
 abbrev μ-loop : tie.MeasureT-loop
-μ-loop request start length₀ i₀ length i = 10 - i
+μ-loop requestType start length₀ i₀ length i = 10 - i
 
 loop-holds : tie.Need-loop-holds Inv-loop μ-loop
 loop-holds c = counted-start _ _

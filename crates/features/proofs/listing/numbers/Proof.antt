@@ -7,10 +7,10 @@ use Rattle.features.proofs.listing.numbers.Statement.{statement}
 use Rattle.features.proofs.listing.numbers.Tie as tie
 
 abbrev Inv-loop : tie.InvT-loop
-Inv-loop request start numbers₀ count₀ i₀ numbers count i = Named request start i numbers count
+Inv-loop requestType start numbers₀ count₀ i₀ numbers count i = Named requestType start i numbers count
 
 abbrev μ-loop : tie.MeasureT-loop
-μ-loop request start numbers₀ count₀ i₀ numbers count i = 10 - i
+μ-loop requestType start numbers₀ count₀ i₀ numbers count i = 10 - i
 
 loop-holds : tie.Need-loop-holds Inv-loop μ-loop
 loop-holds c = named-start _ _

@@ -42,12 +42,10 @@ fn send_report(report: Reply, reply: &mut [u8]) -> usize
     let content = report.content;
     match content {
         Content::Own => send_own(bytes, sent, reply),
-        Content::Configuration { request_type, start } => send_configuration(
+        Content::Configuration {
             request_type,
             start,
-            sent,
-            reply,
-        ),
+        } => send_configuration(request_type, start, sent, reply),
     }
     sent
 }

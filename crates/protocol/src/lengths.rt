@@ -50,7 +50,10 @@ fn configuration_room(request_type: u8, start: u16, allocation: usize) -> usize
     if request_type == 3 {
         return 0;
     }
-    cut(features::configuration_length(request_type, start), allocation)
+    cut(
+        features::configuration_length(request_type, start),
+        allocation,
+    )
 }
 
 impl Command {

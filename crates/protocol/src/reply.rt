@@ -59,7 +59,10 @@ impl Reply {
     {
         let bytes = [0u8; Reply::LIMIT];
         let whole = features::configuration_length(request_type, start);
-        let content = Content::Configuration { request_type, start };
+        let content = Content::Configuration {
+            request_type,
+            start,
+        };
         Reply::cut(bytes, content, whole, allocation)
     }
 }

@@ -1,6 +1,5 @@
 // A reply taken apart. Its length and its first feature leave one reply that the drive can send; every byte is compared with that.
 ghost use mathlib.Core.Path.{_≡_};
-ghost use lib.ListN.{length, take};
 ghost use Rattle.features.specs.Feature.{selected};
 ghost use Rattle.features.specs.Configuration.{configurationBytes};
 ghost use Rattle.configuration.specs.Reading.{refused, reading, sameBytes, readReply};

@@ -89,7 +89,12 @@ impl Outline {
 
     /// Whether the list is a blank disc's.
     pub fn is_blank(&self) -> bool {
-        matches!(self.places.as_slice(), [tail] if tail.is_tail() && tail.is_blank())
+        self.places.len() == 1 && self.tail_is_blank()
+    }
+
+    /// Whether the last fragment is a tail, and blank.
+    fn tail_is_blank(&self) -> bool {
+        self.places.last().is_some_and(|last| last.is_tail() && last.is_blank())
     }
 
     /// The fragment that has the pending sectors, with the ones before and after it.
@@ -102,8 +107,7 @@ impl Outline {
 
     /// The commands that try the limit of records, where at most one is free.
     pub fn limit_tries(&self) -> &'static [Kind] {
-        let tail_is_blank =
-            self.places.last().is_some_and(|last| last.is_tail() && last.is_blank());
+        let tail_is_blank = self.tail_is_blank();
         match RECORD_LIMIT - self.places.len() {
             0 => &[
                 Kind::Reserve,

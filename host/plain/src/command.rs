@@ -123,8 +123,8 @@ impl Command {
     }
 }
 
-/// The bytes of the whole reply that an allocation length leaves; none where there is no reply. No reply
-/// to the command has more than so many.
+/// The bytes of the whole reply that an allocation length leaves; none where there is no reply. `most` is
+/// the length of the longest reply to the command, which a mistake asks for where it is refused.
 fn cut_size(whole: Option<usize>, most: usize, allocation: usize, fault: Option<Fault>) -> usize {
     match (whole, fault) {
         (Some(whole), Some(Fault::RoomUncut)) => whole,

@@ -1,5 +1,5 @@
 -- What the reader makes of single replies, computed, and what its two theorems give: a weaker one would not.
-use Prim.Native.Nat.{ℕ, _+_}
+use Prim.Native.Nat.{ℕ, _+_, _≤_}
 use mathlib.Core.Path.{_≡_, refl, ap}
 use mathlib.Core.Bool.{Bool, true, false, cond, _||_}
 use mathlib.Core.List.{List, [], _∷_, _++_, map}
@@ -57,7 +57,8 @@ pub twenty : (different (map configurationOf possible) ≡ 20) × (length possib
 unfolding different among sameBytes possible ends ones features descriptors
 twenty = (refl, refl)
 
--- drawn from the theorems: a reply of type 1 read back, and a byte of whatever is accepted
+-- drawn from the theorems: a reply of type 1 read back; of whatever is accepted a byte, the profile that is told, and a request that the drive
+-- serves
 pub drawn-back : ReadBack → readReply (configurationBytes 1 0x0100) ≡ told 0x001B (0x0100 ∷ 0x0105 ∷ 0x0107 ∷ [])
 unfolding features asked numbers
 drawn-back back = back 1 0x0100
@@ -65,3 +66,10 @@ drawn-back back = back 1 0x0100
 pub drawn-only : OnlySent → (x : List ℕ) → readReply x .accepted ≡ true → getD x 7 0 ≡ 0x1B
 unfolding configurationBytes
 drawn-only only x e = ap (λ (y : List ℕ). getD y 7 0) (only x e .reply)
+
+pub drawn-told : OnlySent → (x : List ℕ) → readReply x .accepted ≡ true → readReply x .profile ≡ 0x001B
+drawn-told only x e = ap (λ (r : Reading). r .profile) (only x e .told)
+
+pub drawn-served :
+    (only : OnlySent) (x : List ℕ) (e : readReply x .accepted ≡ true) → (only x e .requestType ≤ 2) × (only x e .start ≤ 0xFFFF)
+drawn-served only x e = (only x e .served, only x e .fits)

@@ -20,7 +20,6 @@ extern "C" {
 #define GLADHAMRE_SMALLEST_CAPACITY 256u   /* in blocks */
 #define GLADHAMRE_LARGEST_CAPACITY 143444u /* in blocks */
 #define GLADHAMRE_RECORDS 160u             /* fragments at the most, the tail included */
-#define GLADHAMRE_LONGEST_REPORT 1292u     /* the longest reply but a READ's: a 43h of 160 sessions and the lead-out */
 
 /* Bytes of stack that a call takes at the most, as measured over every command and every refusal; no proof bounds it. */
 #define GLADHAMRE_STACK_LENGTH 14336u
@@ -79,8 +78,8 @@ uint32_t gladhamre_blank(uint32_t capacity, uint32_t *state, size_t state_words)
  * medium   C blocks of 32,768 bytes.
  * pending  the pending buffer, 32,768 bytes: the pending sectors first, one after another. A READ takes them from here.
  * reply    the reply buffer: at least 2,048 bytes for each sector of a READ (28h, A8h), 8 for 25h, the allocation length cut to the
- *          report for 03h, 12h, 43h, 46h, 51h and 52h, whole ones having up to 18, 36, 1,292, 100, 34 and 36 bytes; any length for the
- *          other commands, and for a 12h, 43h or 46h that the drive refuses. Bytes past the reply are left alone.
+ *          report for 03h, 12h, 46h, 51h and 52h, whole ones having up to 18, 36, 100, 34 and 36 bytes; any length for the other commands,
+ *          and for a 12h or 46h that the drive refuses. Bytes past the reply are left alone.
  * reply_count, recorded: the reply's length, and the number of blocks that the command recorded; 0 on every refusal.
  *
  * Refusals are tested in this order: L1; L2 for a C that can be read and is out of range, a medium that is not C blocks, a pending
@@ -104,8 +103,6 @@ uint32_t gladhamre_command(
  * Lengths. READ (12) and WRITE (12), A8h and AAh, have a length of four bytes, so 2,048 times it is up to 8,796,093,020,160: compute it in
  * 64 bits, which size_t has here. L4 asks for that many bytes also where the drive would refuse the command, and more than the disc's
  * 32,768 C are never accepted. Where a host asks for more than there is room for, lend what there is: that is L4, and changes nothing.
- * How long the report of 43h is depends on the disc, 4 bytes and 8 for each closed session that is told of and for the lead-out: the
- * allocation length, or GLADHAMRE_LONGEST_REPORT bytes where that is less, always suffice.
  *
  * Linking. The archive calls memcpy and memset. Have GLADHAMRE_STACK_LENGTH bytes of stack free for a call, and what interrupts take.
  *

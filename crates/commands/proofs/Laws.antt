@@ -7,5 +7,4 @@ pub mod Close
 pub mod Session
 pub mod Effect
 pub mod Holder
-pub mod Toc
 pub mod Judge

@@ -1,7 +1,7 @@
 -- What the drive decides about a command: from the disc, the command block and the lengths of data and reply buffer alone.
-use Rattle.std.specs.Prelude.{ℕ, cond, not, ◌≡◌, List, length, eqb, leb}
+use Rattle.std.specs.Prelude.{ℕ, cond, not, ◌≡◌, List, length, eqb}
 use Rattle.protocol.specs.Answer.{number}
-use Rattle.commands.specs.Types.{Disc, Verdict, Admission, Passed, Refused, Command, TestUnitReady, RequestSense, Inquiry, ReadCapacity, Read, Write, SynchronizeCache, ReserveTrack, CloseTrackSession, ReadToc, GetConfiguration, ReadDiscInformation, ReadTrackInformation, Unlisted, InvalidOperationCode, CommandBlockLength, MediumSize, UnsoundState, TransferLength}
+use Rattle.commands.specs.Types.{Disc, Verdict, Command, TestUnitReady, RequestSense, Inquiry, ReadCapacity, Read, Write, SynchronizeCache, ReserveTrack, CloseTrackSession, GetConfiguration, ReadDiscInformation, ReadTrackInformation, Unlisted, InvalidOperationCode, CommandBlockLength, MediumSize, UnsoundState, TransferLength}
 use Rattle.protocol.specs.Command.{decode}
 use Rattle.disc.specs.Sound.{allowed_state}
 use Rattle.disc.specs.Blank.{in_range}
@@ -14,8 +14,6 @@ use Rattle.commands.specs.Read.{read}
 use Rattle.commands.specs.Write.{write}
 use Rattle.commands.specs.Reserve.{reserve}
 use Rattle.commands.specs.Close.{close}
-use Rattle.commands.specs.Toc.{contents_asked, longest_contents, written}
-use Rattle.reporting.specs.Contents.{read_toc}
 use Rattle.reporting.specs.Identity.{inquiry, get_configuration}
 use Rattle.reporting.specs.Reports.{request_sense, read_capacity, read_disc_information, read_track_information}
 
@@ -34,7 +32,6 @@ perform d (Write a n) = write d a n
 perform d SynchronizeCache = synchronize_cache d
 perform d (ReserveTrack size) = reserve d size
 perform d (CloseTrackSession function n) = close d function n
-perform d (ReadToc form time start allocation) = read_toc d form time start allocation
 perform d (GetConfiguration request_type start allocation) = get_configuration d request_type start allocation
 perform d (ReadDiscInformation dataType allocation) = read_disc_information d dataType allocation
 perform d (ReadTrackInformation addressType n allocation) = read_track_information d addressType n allocation
@@ -45,7 +42,7 @@ unfoldable pub judge_command : Disc → Command → ℕ → ℕ → Verdict
 judge_command d c dataLent replyLent =
     cond (not (in_range d.capacity)) (refuse_link d MediumSize)
     (cond (not (allowed_state d)) (refuse_link d UnsoundState)
-    (cond (not (lengths_fit (contents_asked d c) c dataLent replyLent)) (refuse_link d TransferLength)
+    (cond (not (lengths_fit c dataLent replyLent)) (refuse_link d TransferLength)
     (perform d c)))
 
 -- a command block's bytes matter by the fields that are decoded from them and no other way; one of another length is L1
@@ -54,35 +51,14 @@ judge d b dataLent replyLent =
     cond (not (eqb (length b) 12)) (refuse_link d CommandBlockLength)
     (judge_command d (decode b) dataLent replyLent)
 
--- a command with room for so many bytes of a reply: L4 where they are too few, which this says of READ TOC alone
-unfoldable pub perform_within : Disc → Command → ℕ → Verdict
-perform_within d c room = cond (leb (reply_room (contents_asked d c) c) room) (perform d c) (refuse_link d TransferLength)
-
--- what the link says of a command block before the drive decides; L4 as far as the command block says the lengths
-unfoldable pub admission : Disc → List ℕ → ℕ → ℕ → Admission
-admission d b dataLent replyLent =
-    cond (not (eqb (length b) 12)) (Refused CommandBlockLength)
-    (cond (not (in_range d.capacity)) (Refused MediumSize)
-    (cond (not (allowed_state d)) (Refused UnsoundState)
-    (cond (not (lengths_fit 0 (decode b) dataLent replyLent)) (Refused TransferLength)
-    (Passed (decode b)))))
-
--- the reply buffer once the lower layer has decided
-unfoldable pub written_after : Disc → Admission → List ℕ → List ℕ
-written_after d (Passed c) buffer = written d c buffer
-written_after d (Refused x) buffer = buffer
-
-abbrev pub responded : Disc → List ℕ → ℕ → List ℕ → List ℕ
-responded d b dataLent buffer = written_after d (admission d b dataLent (length buffer)) buffer
-
 -- the promise of the code that decides
 pub record Judged (d : Disc) (b : List ℕ) (dataLent replyLent : ℕ) (r : Verdict) : Type 0 where
   pub verdict : r ≡ judge d b dataLent replyLent
   pub numbered : number r.answer ≡ number (judge d b dataLent replyLent).answer
 
--- the decision where data and reply buffer have the lengths that the command block asks for, whatever the disc says of a table of contents
+-- the decision where data and reply buffer have the lengths that the command block asks for
 abbrev pub judge_as_asked : Disc → List ℕ → Verdict
-judge_as_asked d b = judge d b (data_length (decode b)) (reply_room longest_contents (decode b))
+judge_as_asked d b = judge d b (data_length (decode b)) (reply_room (decode b))
 
 abbrev pub JudgedAsAsked : Disc → List ℕ → Verdict → Type 0
-JudgedAsAsked d b r = Judged d b (data_length (decode b)) (reply_room longest_contents (decode b)) r
+JudgedAsAsked d b r = Judged d b (data_length (decode b)) (reply_room (decode b)) r

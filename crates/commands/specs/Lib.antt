@@ -6,5 +6,4 @@ pub mod Read
 pub mod Write
 pub mod Reserve
 pub mod Close
-pub mod Toc
 pub mod Judge

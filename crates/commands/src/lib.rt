@@ -10,8 +10,7 @@ mod perform;
 mod read;
 mod reserve;
 mod session;
-mod toc;
 mod track_information;
 mod write;
 
-pub use entry::{decide, judge, judge_as_asked, respond};
+pub use entry::{decide, judge, judge_as_asked};

@@ -1,11 +1,10 @@
 // What each command is decided to, past the link.
-ghost use Rattle.std.specs.Prelude.{◌≡◌, ◌≤◌};
+ghost use Rattle.std.specs.Prelude.{◌≡◌};
 ghost use Rattle.disc.specs.Ready.{Ready};
 ghost use Rattle.disc.specs.Apply.{decided};
-ghost use Rattle.protocol.specs.Lengths.{reply_room};
-ghost use Rattle.commands.specs.Judge.{perform, perform_within};
+ghost use Rattle.commands.specs.Judge.{perform};
 
-use crate::{close, flush, read, reserve, toc, track_information, write};
+use crate::{close, flush, read, reserve, track_information, write};
 use decisions::Decision;
 use disc::Disc;
 use protocol::{Command, DriveRefusal, Reply};
@@ -32,12 +31,6 @@ pub(crate) fn perform(disc: Disc, command: Command) -> Decision
             function,
             number as usize,
         ),
-        Command::ReadToc {
-            form,
-            time,
-            start,
-            allocation,
-        } => toc::read_toc(disc, form, time, start, allocation),
         Command::GetConfiguration {
             request_type,
             start,
@@ -54,21 +47,4 @@ pub(crate) fn perform(disc: Disc, command: Command) -> Decision
         } => { track_information::read_track_information(disc, address_type, number, allocation) }
         Command::Unlisted => Decision::refused(DriveRefusal::InvalidOperationCode),
     }
-}
-
-// The same with room for so many bytes of a reply, which is enough but perhaps for READ TOC's.
-pub(crate) fn within(disc: Disc, command: Command, room: usize) -> Decision
-    requires { (Ready disc) × (reply_room 0 command ≤ room) }
-    ensures { decided disc result ≡ perform_within disc command room }
-{
-    if let Command::ReadToc {
-        form,
-        time,
-        start,
-        allocation,
-    } = command
-    {
-        return toc::decide_toc(disc, form, time, start, allocation, room);
-    }
-    perform(disc, command)
 }

@@ -5,11 +5,10 @@ use Rattle.protocol.specs.Answer.{number}
 use Rattle.protocol.specs.Command.{decode}
 use Rattle.disc.specs.Verdict.{refuse_link, rise}
 use Rattle.disc.specs.Apply.{changed}
-use Rattle.reporting.specs.Reply.{reply_bytes}
 use Rattle.commands.specs.Judge.{judge}
 use Rattle.outcomes.specs.Lent.{FlushFits, TransferFits}
 use Rattle.drive.specs.Bytes.{splice}
-use Rattle.drive.specs.Reply.{sent_bytes, told_bytes, sent_length, Sendable}
+use Rattle.drive.specs.Reply.{sent_bytes, Sendable}
 use Rattle.drive.specs.Moves.{moved_medium, moved_pending}
 
 -- what the box holds from one command to the next
@@ -52,7 +51,7 @@ verdict_on s q =
 -- a verdict carried out
 unfoldable pub carried_out : Verdict → Drive → Request → Result
 carried_out v s q =
-    let reply = sent_bytes v.plan.transfer (reply_bytes s.disc v.reply) s.medium s.pending in
+    let reply = sent_bytes v.plan.transfer v.reply s.medium s.pending in
     record {
       answer = v.answer;
       reply = reply;
@@ -86,10 +85,10 @@ declined s r = record { answer = Link r; change = record { sense = s; effect = K
 
 -- the promise of that code: the outcome, and medium, pending buffer and reply buffer afterwards
 pub record CarriedOut (d : Decision) (payload medium pending buffer : List ℕ) (r : Outcome) (medium₁ pending₁ buffer₁ : List ℕ) : Type 0 where
-  pub responds : r ≡ outcome d (sent_length d.plan.transfer d.reply medium pending)
+  pub responds : r ≡ outcome d (length (sent_bytes d.plan.transfer d.reply medium pending))
   pub recorded_medium : medium₁ ≡ moved_medium d.plan medium pending payload
   pub kept_pending : pending₁ ≡ moved_pending d.plan pending payload
-  pub filled_buffer : buffer₁ ≡ splice buffer 0 (sent_bytes d.plan.transfer (told_bytes d.reply) medium pending)
+  pub filled_buffer : buffer₁ ≡ splice buffer 0 (sent_bytes d.plan.transfer d.reply medium pending)
 
 -- the promise of the code that answers a command: all of it is the step's
 pub record Answered (s : Drive) (q : Request) (r : Response) (medium pending buffer : List ℕ) : Type 0 where

@@ -9,11 +9,9 @@ pub use Rattle.protocol.specs.declared.answer.DriveRefusal.TheVariants.{InvalidO
 pub use Rattle.protocol.specs.declared.answer.Answer.{Answer}
 pub use Rattle.protocol.specs.declared.answer.Answer.TheVariants.{Accepted, Link, Drive}
 pub use Rattle.protocol.specs.declared.command.Command.{Command}
-pub use Rattle.protocol.specs.declared.command.Command.TheVariants.{TestUnitReady, RequestSense, Inquiry, ReadCapacity, Read, Write, SynchronizeCache, ReserveTrack, CloseTrackSession, ReadToc, GetConfiguration, ReadDiscInformation, ReadTrackInformation, Unlisted}
+pub use Rattle.protocol.specs.declared.command.Command.TheVariants.{TestUnitReady, RequestSense, Inquiry, ReadCapacity, Read, Write, SynchronizeCache, ReserveTrack, CloseTrackSession, GetConfiguration, ReadDiscInformation, ReadTrackInformation, Unlisted}
 pub use Rattle.disc.specs.declared.state.Disc.{Disc}
 pub use Rattle.disc.specs.declared.blank.Blank.{Blank}
-pub use Rattle.protocol.specs.declared.reply.Content.{Content}
-pub use Rattle.protocol.specs.declared.reply.Content.TheVariants.{Own, Configuration, TableOfContents}
 pub use Rattle.protocol.specs.declared.reply.Reply.{Reply}
 pub use Rattle.decisions.specs.declared.plan.Flush.{Flush}
 pub use Rattle.decisions.specs.declared.plan.Flush.TheVariants.{Skip, Record}

@@ -48,7 +48,7 @@ fn is_lent(capacity: u32, medium: usize, pending: usize) -> bool
     (medium == BLOCK_LENGTH * (capacity as usize)) & (pending == BLOCK_LENGTH)
 }
 
-// Sends the reply, but for a table of contents, which is in the buffer already; then moves the bytes that the plan names.
+// Sends the reply, then moves the bytes that the plan names.
 fn carry_out(
     decision: Decision,
     data: &[u8],
@@ -96,7 +96,7 @@ pub fn serve(
     if !is_lent(disc.capacity, medium.len(), pending.len()) {
         return refused(sense, LinkRefusal::MediumSize);
     }
-    let decision = commands::respond(disc, cdb, data.len(), reply);
+    let decision = commands::decide(disc, cdb, data.len(), reply.len());
     carry_out(decision, data, medium, pending, reply)
 }
 

@@ -1,9 +1,10 @@
 // The reply's bytes, copied to the beginning of the lent reply buffer; the bytes past them stay.
 ghost use Rattle.std.specs.Prelude.{◌≡◌, ◌++◌, ◌≤◌, length, take};
 ghost use Rattle.features.specs.Configuration.{configuration_bytes};
+ghost use Rattle.protocol.specs.Reply.{said, reply_bytes};
 ghost use Rattle.decisions.specs.Run.{sent_within, pending_within};
 ghost use Rattle.drive.specs.Bytes.{splice};
-ghost use Rattle.drive.specs.Reply.{sent_bytes, told_bytes, sent_length, Whole, Sendable};
+ghost use Rattle.drive.specs.Reply.{sent_bytes, Sendable};
 
 use crate::bytes;
 use decisions::Transfer;
@@ -27,11 +28,11 @@ fn send_configuration(request_type: u8, start: u16, sent: usize, reply: &mut [u8
     bytes::put(reply, 0, &bytes[0..sent]);
 }
 
-// A report, cut to its length. A table of contents is in the buffer already.
+// A report, cut to its length.
 fn send_report(report: Reply, reply: &mut [u8]) -> usize
-    requires { (Whole report.content report.bytes report.length) × (report.length ≤ length reply.old) }
-    ensures value { result ≡ report.length }
-    ensures reply { reply.new ≡ splice reply.old 0 (told_bytes report) }
+    requires { (report.length ≤ length (said report.content report.bytes)) × (report.length ≤ length reply.old) }
+    ensures value { result ≡ length (reply_bytes report) }
+    ensures reply { reply.new ≡ splice reply.old 0 (reply_bytes report) }
 {
     let sent = report.length;
     let bytes = report.bytes;
@@ -42,11 +43,6 @@ fn send_report(report: Reply, reply: &mut [u8]) -> usize
             request_type,
             start,
         } => send_configuration(request_type, start, sent, reply),
-        Content::TableOfContents {
-            form: _,
-            time: _,
-            start: _,
-        } => {}
     }
     sent
 }
@@ -74,8 +70,8 @@ pub(crate) fn send(
     reply: &mut [u8],
 ) -> usize
     requires { Sendable medium.now pending.now transfer report (length reply.old) }
-    ensures value { result ≡ sent_length transfer report medium.now pending.now }
-    ensures reply { reply.new ≡ splice reply.old 0 (sent_bytes transfer (told_bytes report) medium.now pending.now) }
+    ensures value { result ≡ length (sent_bytes transfer report medium.now pending.now) }
+    ensures reply { reply.new ≡ splice reply.old 0 (sent_bytes transfer report medium.now pending.now) }
 {
     match transfer {
         Transfer::Send {

@@ -19,7 +19,6 @@ use Rattle.disc.specs.Blank.{in_range, blank, made}
 use Rattle.disc.specs.Sound.{used_first, first_at_zero, follows_from, in_order, ends_within, recorded_within, zeroed_within, incomplete_last, tail_last, tail_or_full, pending_named, finalized_complete, sound, allowed_state}
 use Rattle.protocol.specs.Command.{decode}
 use Rattle.protocol.specs.Lengths.{data_length, reply_room, lengths_fit}
-use Rattle.commands.specs.Toc.{contents_asked}
 use Rattle.disc.specs.Verdict.{accepted, accept, refuse, refuse_link}
 use Rattle.commands.specs.Flush.{flush, flush_plan}
 use Rattle.commands.specs.Read.{all_readable, read}
@@ -152,7 +151,7 @@ pub asked :
     (judge_as_asked (blank 300) write_twenty ∷ judge_as_asked (blank 300) read_one ∷ judge (blank 300) write_twenty 0 0 ∷ judge (blank 300) read_one 0 0 ∷ [])
     ≡ ((0 ∷ 1 ∷ []) ∷ (0x080000 ∷ 0 ∷ []) ∷ (4 ∷ 0 ∷ []) ∷ (4 ∷ 0 ∷ []) ∷ [])
 unfolding
-    judge judge_command perform decode data_length reply_room contents_asked lengths_fit accepted accept refuse refuse_link blank listed some every find
+    judge judge_command perform decode data_length reply_room lengths_fit accepted accept refuse refuse_link blank listed some every find
     sum_recorded used_first first_at_zero follows_from in_order ends_within recorded_within zeroed_within incomplete_last tail_last tail_or_full
     pending_named finalized_complete sound allowed_state allowed_sense is_refusal_sense flush flush_plan all_readable read flush_others
     flush_others_plan gather write_to write_found write

@@ -2,14 +2,13 @@
 -- data and reply buffers of the right and of wrong lengths, both forms in turn. What each line must show was worked out by hand; `forms` says
 -- that the definitions give it.
 use Rattle.std.specs.Prelude.{◌≡◌, refl, true, false, List, [], ◌∷◌, map}
-use Rattle.reporting.specs.Reply.{said, reply_bytes}
+use Rattle.protocol.specs.Reply.{said, reply_bytes}
 use Rattle.protocol.specs.Answer.{sense, is_refusal_sense, allowed_sense}
 use Rattle.disc.specs.Blank.{blank}
 use Rattle.protocol.specs.Command.{decode}
 use Rattle.fragments.specs.List.{listed, some, every, find, sum_recorded}
 use Rattle.disc.specs.Sound.{used_first, first_at_zero, follows_from, in_order, ends_within, recorded_within, zeroed_within, incomplete_last, tail_last, tail_or_full, pending_named, finalized_complete, sound, allowed_state}
 use Rattle.protocol.specs.Lengths.{data_length, reply_room, lengths_fit}
-use Rattle.commands.specs.Toc.{contents_asked}
 use Rattle.disc.specs.Verdict.{accepted, accept, refuse, refuse_link}
 use Rattle.commands.specs.Flush.{flush, flush_plan}
 use Rattle.commands.specs.Read.{all_readable, medium_share, sending, read}
@@ -105,7 +104,7 @@ runs =
 
 pub forms : map (λ (r : Run). played r.disc r.lines) runs ≡ map (λ (r : Run). map (λ (l : Line). l.expected) r.lines) runs
 unfolding
-    shown reply_bytes said played blank judge judge_command perform decode data_length reply_room contents_asked lengths_fit accepted accept refuse refuse_link
+    shown reply_bytes said played blank judge judge_command perform decode data_length reply_room lengths_fit accepted accept refuse refuse_link
     is_refusal_sense allowed_sense listed some every find sum_recorded
     used_first first_at_zero follows_from in_order ends_within recorded_within zeroed_within incomplete_last tail_last tail_or_full pending_named
     finalized_complete sound allowed_state

@@ -3,7 +3,7 @@
 -- the link, since its check of a full list is most of what there is to compute: `sound_starts` has it for each list that a run starts on, and
 -- what a command makes of a sound list is sound by a law of `outcomes`.
 use Rattle.std.specs.Prelude.{ℕ, ◌+◌, ◌-◌, ◌*◌, ◌/◌, ◌%◌, ◌≡◌, refl, true, false, List, [], ◌∷◌, ◌++◌, map, replicate}
-use Rattle.reporting.specs.Reply.{said, reply_bytes}
+use Rattle.protocol.specs.Reply.{said, reply_bytes}
 use Rattle.protocol.specs.Answer.{sense, is_refusal_sense, allowed_sense}
 use Rattle.protocol.specs.Command.{decode}
 use Rattle.protocol.specs.Reports.{disc_bytes, track_bytes}

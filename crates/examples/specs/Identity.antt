@@ -6,13 +6,12 @@ use Rattle.features.specs.Feature.{features, descriptors, asked, selected}
 use Rattle.features.specs.Configuration.{configuration_bytes}
 use Rattle.configuration.specs.Reading.{reading, read_reply}
 use Rattle.configuration.proofs.Laws.Theorems.{replies-read_back}
-use Rattle.reporting.specs.Reply.{said, reply_bytes}
-use Rattle.reporting.proofs.Laws.Reply.{configuration_uncut}
+use Rattle.protocol.specs.Reply.{said, reply_bytes}
+use Rattle.protocol.proofs.Laws.Reply.{configuration_uncut}
 use Rattle.protocol.specs.Answer.{sense, is_refusal_sense, allowed_sense}
 use Rattle.protocol.specs.Command.{decode}
 use Rattle.protocol.specs.Inquiry.{inquiry_bytes}
 use Rattle.protocol.specs.Lengths.{data_length, inquiry_room, configuration_room, reply_room, lengths_fit}
-use Rattle.commands.specs.Toc.{contents_asked}
 use Rattle.fragments.specs.List.{listed, some, every, find, sum_recorded}
 use Rattle.disc.specs.Blank.{blank}
 use Rattle.disc.specs.Sound.{used_first, first_at_zero, follows_from, in_order, ends_within, recorded_within, zeroed_within, incomplete_last, tail_last, tail_or_full, pending_named, finalized_complete, sound, allowed_state}
@@ -131,7 +130,7 @@ runs =
 
 pub identities : map (λ (r : Run). played r.disc r.lines) runs ≡ map (λ (r : Run). map (λ (l : Line). l.expected) r.lines) runs
 unfolding
-    shown reply_bytes said played blank judge judge_command perform decode data_length reply_room inquiry_room configuration_room contents_asked lengths_fit accepted
+    shown reply_bytes said played blank judge judge_command perform decode data_length reply_room inquiry_room configuration_room lengths_fit accepted
     accept refuse refuse_link is_refusal_sense allowed_sense listed some every find sum_recorded inquiry get_configuration inquiry_bytes
     features descriptors asked configuration_bytes
     used_first first_at_zero follows_from in_order ends_within recorded_within zeroed_within incomplete_last tail_last tail_or_full pending_named
@@ -142,6 +141,6 @@ identities = refl
 -- `configuration`: drawn from its theorem
 pub served-read_back :
     (d : Disc) (t s n : ℕ) → eqb t 3 ≡ false → length (configuration_bytes t s) ≤ n
-    → read_reply (reply_bytes d (get_configuration d t s n).reply) ≡ reading (selected t s)
+    → read_reply (reply_bytes (get_configuration d t s n).reply) ≡ reading (selected t s)
 unfolding get_configuration accept accepted
-served-read_back d t s n e h = rw (e, configuration_uncut d t s n h) (replies-read_back t s)
+served-read_back d t s n e h = rw (e, configuration_uncut t s n h) (replies-read_back t s)

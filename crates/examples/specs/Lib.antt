@@ -10,5 +10,3 @@ pub mod Reads
 pub mod Forms
 pub mod Identity
 pub mod Searches
-pub mod Toc
-pub mod Shown

@@ -2,7 +2,7 @@
 -- A line is read as its reply, its sense and the fragment list after it; `shift` says that the definitions give the table.
 use Rattle.std.specs.Prelude.{ℕ, ◌≡◌, refl, cond, List, [], ◌∷◌, map, replicate}
 use Rattle.examples.specs.Types.{Sense, Reserved, Appended, Fragment, Disc, Verdict}
-use Rattle.reporting.specs.Reply.{said, reply_bytes}
+use Rattle.protocol.specs.Reply.{said, reply_bytes}
 use Rattle.protocol.specs.Answer.{sense, number, is_refusal_sense, allowed_sense}
 use Rattle.protocol.specs.Command.{decode}
 use Rattle.fragments.specs.Fragment.{fragment}
@@ -11,7 +11,6 @@ use Rattle.fragments.specs.List.{listed, some, every, find, sum_recorded, highes
 use Rattle.disc.specs.Sound.{used_first, first_at_zero, follows_from, in_order, ends_within, recorded_within, zeroed_within, incomplete_last, tail_last, tail_or_full, pending_named, finalized_complete, sound, allowed_state}
 use Rattle.disc.specs.Blank.{blank}
 use Rattle.protocol.specs.Lengths.{data_length, reply_room, lengths_fit}
-use Rattle.commands.specs.Toc.{contents_asked}
 use Rattle.disc.specs.Verdict.{accepted, accept, refuse, refuse_link}
 use Rattle.commands.specs.Flush.{flush, flush_plan, synchronize_cache}
 use Rattle.commands.specs.Read.{all_readable, medium_share, sending, read}
@@ -39,7 +38,7 @@ shown v =
     record {
       answer = number v.answer;
       recorded = v.recorded;
-      reply = reply_bytes d v.reply;
+      reply = reply_bytes v.reply;
       sense = d.sense;
       next = cond (has_tail d) (next_writable d (used d) (last_record d)).0 0;
       pending = d.pending;
@@ -119,7 +118,7 @@ table =
 
 pub shift : run (blank 300) (map (λ l. l.command) table) ≡ map (λ l. l.expected) table
 unfolding
-    shown reply_bytes said run blank judge judge_command perform decode data_length reply_room contents_asked lengths_fit accepted accept refuse refuse_link
+    shown reply_bytes said run blank judge judge_command perform decode data_length reply_room lengths_fit accepted accept refuse refuse_link
     is_refusal_sense allowed_sense listed some every find sum_recorded highest_readable first_of_session
     used_first first_at_zero follows_from in_order ends_within recorded_within zeroed_within incomplete_last tail_last tail_or_full pending_named
     finalized_complete sound allowed_state

@@ -2,7 +2,7 @@
 -- disc, the largest C, and the link refusals in order; full lists are in Full. Each line has its own lengths of data and reply buffer, and what
 -- it must show was worked out by hand from document 01 as document 02 amends it; `tour` says that the definitions give it.
 use Rattle.std.specs.Prelude.{ℕ, ◌-◌, ◌≡◌, refl, Bool, true, false, List, [], ◌∷◌, ◌++◌, map, length, replicate}
-use Rattle.reporting.specs.Reply.{said, reply_bytes}
+use Rattle.protocol.specs.Reply.{said, reply_bytes}
 use Rattle.protocol.specs.Answer.{sense, is_refusal_sense, allowed_sense}
 use Rattle.disc.specs.Blank.{blank}
 use Rattle.protocol.specs.Command.{decode}
@@ -10,7 +10,6 @@ use Rattle.fragments.specs.Fragment.{fragment, unused_record}
 use Rattle.fragments.specs.List.{limit, listed, some, every, find, sum_recorded, highest_readable, first_of_session}
 use Rattle.disc.specs.Sound.{used_first, first_at_zero, follows_from, in_order, ends_within, recorded_within, zeroed_within, incomplete_last, tail_last, tail_or_full, pending_named, finalized_complete, sound, allowed_state}
 use Rattle.protocol.specs.Lengths.{data_length, reply_room, lengths_fit}
-use Rattle.commands.specs.Toc.{contents_asked}
 use Rattle.disc.specs.Verdict.{accepted, accept, refuse, refuse_link}
 use Rattle.commands.specs.Flush.{flush, flush_plan, synchronize_cache}
 use Rattle.commands.specs.Read.{all_readable, medium_share, sending, read}
@@ -469,7 +468,7 @@ runs =
 
 pub tour : map (λ (r : Run). played r.disc r.lines) runs ≡ map (λ (r : Run). map (λ (l : Line). l.expected) r.lines) runs
 unfolding
-    shown reply_bytes said played blank judge judge_command perform decode data_length reply_room contents_asked lengths_fit accepted accept refuse refuse_link
+    shown reply_bytes said played blank judge judge_command perform decode data_length reply_room lengths_fit accepted accept refuse refuse_link
     is_refusal_sense allowed_sense listed some every find sum_recorded highest_readable first_of_session
     used_first first_at_zero follows_from in_order ends_within recorded_within zeroed_within incomplete_last tail_last tail_or_full pending_named
     finalized_complete sound allowed_state

@@ -3,7 +3,7 @@ pub use Rattle.protocol.specs.declared.answer.Sense.{Sense}
 pub use Rattle.protocol.specs.declared.answer.LinkRefusal.TheVariants.{CommandBlockLength, MediumSize, UnsoundState, TransferLength}
 pub use Rattle.protocol.specs.declared.answer.DriveRefusal.TheVariants.{BlankCheck}
 pub use Rattle.protocol.specs.declared.answer.Answer.TheVariants.{Accepted, Link, Drive}
-pub use Rattle.protocol.specs.declared.command.Command.TheVariants.{RequestSense, ReadCapacity, Read, Write, SynchronizeCache, ReadToc, ReadDiscInformation, ReadTrackInformation}
+pub use Rattle.protocol.specs.declared.command.Command.TheVariants.{RequestSense, ReadCapacity, Read, Write, SynchronizeCache, ReadDiscInformation, ReadTrackInformation}
 pub use Rattle.fragments.specs.declared.address.Lba.{Lba}
 pub use Rattle.fragments.specs.declared.list.Found.{Found}
 pub use Rattle.fragments.specs.declared.list.Found.TheVariants.{Number, Nowhere}

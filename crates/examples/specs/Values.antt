@@ -1,7 +1,7 @@
 -- What the simple promises of the lower crates say on chosen inputs. Each value rules out the wrong answers beside it: an off by one,
 -- the other direction, the neighbour's field.
 use Rattle.std.specs.Prelude.{ℕ, ◌+◌, ◌-◌, ◌≡◌, refl, Bool, true, false, List, [], ◌∷◌, ◌++◌, map, length, take, replicate}
-use Rattle.examples.specs.Types.{Sense, Fragment, Reserved, Appended, Disc, Found, Number, Nowhere, Accepted, Link, Drive, CommandBlockLength, MediumSize, UnsoundState, TransferLength, BlankCheck, Read, Write, RequestSense, ReadCapacity, SynchronizeCache, ReadToc, ReadDiscInformation, ReadTrackInformation, Keep, Settle, Reserve, Close, Grow, Effect, Skip, Record, Nothing, Send, Gather, Fill, Entry, Decision}
+use Rattle.examples.specs.Types.{Sense, Fragment, Reserved, Appended, Disc, Found, Number, Nowhere, Accepted, Link, Drive, CommandBlockLength, MediumSize, UnsoundState, TransferLength, BlankCheck, Read, Write, RequestSense, ReadCapacity, SynchronizeCache, ReadDiscInformation, ReadTrackInformation, Keep, Settle, Reserve, Close, Grow, Effect, Skip, Record, Nothing, Send, Gather, Fill, Entry, Decision}
 use Rattle.fragments.specs.Address.{sectors_in, whole_blocks, left_over, missing, block, lba, first_sector, passes, sectors_before}
 use Rattle.fragments.specs.Fragment.{fragment, unused_record, is_reserved, complete, is_tail, is_incomplete_reserved, end, next_fragment_start, next_session_start, next_after, first_unrecorded, last_recorded, last_readable_of, reserved_at, shortened_record}
 use Rattle.fragments.specs.List.{limit, listed, record_numbered, last_of, holder_of, taker_of, pending_of, first_of_session, reach_at, highest_readable, some, find}
@@ -114,22 +114,20 @@ pub allowed : map allowed_sense (no_sense ∷ sense 0x5 0x21 0x02 ∷ sense 0x5 
 unfolding allowed_sense is_refusal_sense
 allowed = refl
 
--- of a command: only a WRITE brings data; a READ needs room for its sectors, a report for what its allocation length lets through, here of a
--- table of contents of 20 bytes
+-- of a command: only a WRITE brings data; a READ needs room for its sectors, a report for what its allocation length lets through
 pub lengths :
     (map data_length (Write (lba 0) 3 ∷ Read (lba 0) 3 ∷ SynchronizeCache ∷ []) ≡ (6144 ∷ 0 ∷ 0 ∷ []))
-    × (map (reply_room 20)
+    × (map reply_room
     (Read (lba 0) 3 ∷ Write (lba 0) 3 ∷ ReadCapacity ∷ RequestSense 17 ∷ RequestSense 19 ∷ ReadDiscInformation 0 40
-    ∷ ReadTrackInformation 1 1 35 ∷ ReadTrackInformation 1 1 40 ∷ ReadToc 0 0 0 19 ∷ ReadToc 0 1 0 21 ∷ [])
-    ≡ (6144 ∷ 0 ∷ 8 ∷ 17 ∷ 18 ∷ 34 ∷ 35 ∷ 36 ∷ 19 ∷ 20 ∷ []))
+    ∷ ReadTrackInformation 1 1 35 ∷ ReadTrackInformation 1 1 40 ∷ [])
+    ≡ (6144 ∷ 0 ∷ 8 ∷ 17 ∷ 18 ∷ 34 ∷ 35 ∷ 36 ∷ []))
 unfolding data_length reply_room
 lengths = (refl, refl)
 
 pub fits :
-    (lengths_fit 20 (Write (lba 0) 3) 6144 0 ∷ lengths_fit 20 (Write (lba 0) 3) 6145 0 ∷ lengths_fit 20 (Write (lba 0) 3) 6143 0
-    ∷ lengths_fit 20 (Read (lba 0) 3) 0 6144 ∷ lengths_fit 20 (Read (lba 0) 3) 0 6143 ∷ lengths_fit 20 SynchronizeCache 1 0
-    ∷ lengths_fit 20 (ReadToc 0 0 0 19) 0 19 ∷ lengths_fit 20 (ReadToc 0 0 0 19) 0 18 ∷ [])
-    ≡ (true ∷ false ∷ false ∷ true ∷ false ∷ false ∷ true ∷ false ∷ [])
+    (lengths_fit (Write (lba 0) 3) 6144 0 ∷ lengths_fit (Write (lba 0) 3) 6145 0 ∷ lengths_fit (Write (lba 0) 3) 6143 0
+    ∷ lengths_fit (Read (lba 0) 3) 0 6144 ∷ lengths_fit (Read (lba 0) 3) 0 6143 ∷ lengths_fit SynchronizeCache 1 0 ∷ [])
+    ≡ (true ∷ false ∷ false ∷ true ∷ false ∷ false ∷ [])
 unfolding lengths_fit data_length reply_room
 fits = refl
 

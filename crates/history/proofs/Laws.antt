@@ -4,7 +4,6 @@ pub mod Forms
 pub mod Parts
 pub mod Demand
 pub mod Served
-pub mod Shown
 pub mod Regions
 pub mod Account
 pub mod Recording

@@ -8,7 +8,7 @@ use Rattle.outcomes.specs.Recorded.{among}
 use Rattle.disc.specs.Records.{numbered, at_address}
 use Rattle.drive.specs.Bytes.{zeros}
 use Rattle.drive.specs.Step.{Drive, Request}
-use Rattle.history.specs.Types.{Fragment, Disc, Found, Number, Nowhere, Answer, Accepted, Link, Drive as by_drive, Command, TestUnitReady, RequestSense, Inquiry, ReadCapacity, Read, Write, SynchronizeCache, ReserveTrack, CloseTrackSession, ReadToc, GetConfiguration, ReadDiscInformation, ReadTrackInformation, Unlisted}
+use Rattle.history.specs.Types.{Fragment, Disc, Found, Number, Nowhere, Answer, Accepted, Link, Drive as by_drive, Command, TestUnitReady, RequestSense, Inquiry, ReadCapacity, Read, Write, SynchronizeCache, ReserveTrack, CloseTrackSession, GetConfiguration, ReadDiscInformation, ReadTrackInformation, Unlisted}
 use Rattle.history.specs.Sequence.{Turn, result, final}
 
 -- where a fragment lies: its first sector, how many it has, and whether they were reserved
@@ -87,7 +87,6 @@ credited n x (Inquiry pageBit allocation) payload k = k
 credited n x ReadCapacity payload k = k
 credited n x (Read a count) payload k = k
 credited n x (ReserveTrack size) payload k = k
-credited n x (ReadToc form time start allocation) payload k = k
 credited n x (GetConfiguration request_type start allocation) payload k = k
 credited n x (ReadDiscInformation dataType allocation) payload k = k
 credited n x (ReadTrackInformation addressType number allocation) payload k = k

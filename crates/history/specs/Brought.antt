@@ -8,7 +8,7 @@ use Rattle.outcomes.specs.Recorded.{among}
 use Rattle.drive.specs.Bytes.{zeros}
 use Rattle.drive.specs.Step.{Drive, Request}
 use Rattle.drive.specs.Alike.{Alike}
-use Rattle.history.specs.Types.{Lba, Disc, Answer, Accepted, Link, Drive as by_drive, Command, TestUnitReady, RequestSense, Inquiry, ReadCapacity, Read, Write, SynchronizeCache, ReserveTrack, CloseTrackSession, ReadToc, GetConfiguration, ReadDiscInformation, ReadTrackInformation, Unlisted}
+use Rattle.history.specs.Types.{Lba, Disc, Answer, Accepted, Link, Drive as by_drive, Command, TestUnitReady, RequestSense, Inquiry, ReadCapacity, Read, Write, SynchronizeCache, ReserveTrack, CloseTrackSession, GetConfiguration, ReadDiscInformation, ReadTrackInformation, Unlisted}
 use Rattle.history.specs.Sequence.{Start, Turn, found, result, final, Admissible}
 use Rattle.history.specs.Account.{Extent, extent_of, sector_at, account}
 
@@ -29,7 +29,6 @@ write_of (Read a n) x = []
 write_of SynchronizeCache x = []
 write_of (ReserveTrack size) x = []
 write_of (CloseTrackSession function n) x = []
-write_of (ReadToc form time start allocation) x = []
 write_of (GetConfiguration request_type start allocation) x = []
 write_of (ReadDiscInformation dataType allocation) x = []
 write_of (ReadTrackInformation addressType n allocation) x = []

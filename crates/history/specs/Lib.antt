@@ -8,7 +8,6 @@ pub mod Account
 pub mod Kept
 pub mod Brought
 pub mod Past
-pub mod Shown
 pub mod Stale
 pub mod Wide
 pub mod Examples

@@ -7,7 +7,7 @@ use Rattle.outcomes.specs.Recorded.{among}
 use Rattle.disc.specs.Records.{is_recorded, is_pending}
 use Rattle.drive.specs.Step.{Drive, Request}
 use Rattle.drive.specs.Alike.{Alike}
-use Rattle.history.specs.Types.{Disc, Answer, Accepted, Link, Drive as by_drive, Command, TestUnitReady, RequestSense, Inquiry, ReadCapacity, Read, Write, SynchronizeCache, ReserveTrack, CloseTrackSession, ReadToc, GetConfiguration, ReadDiscInformation, ReadTrackInformation, Unlisted}
+use Rattle.history.specs.Types.{Disc, Answer, Accepted, Link, Drive as by_drive, Command, TestUnitReady, RequestSense, Inquiry, ReadCapacity, Read, Write, SynchronizeCache, ReserveTrack, CloseTrackSession, GetConfiguration, ReadDiscInformation, ReadTrackInformation, Unlisted}
 use Rattle.history.specs.Sequence.{Start, Turn, found, result, final, Admissible}
 use Rattle.history.specs.Account.{Extent, extent_of}
 
@@ -56,7 +56,6 @@ past_after d (Inquiry pageBit allocation) h = h
 past_after d ReadCapacity h = h
 past_after d (Read a n) h = h
 past_after d (ReserveTrack size) h = h
-past_after d (ReadToc form time start allocation) h = h
 past_after d (GetConfiguration request_type start allocation) h = h
 past_after d (ReadDiscInformation dataType allocation) h = h
 past_after d (ReadTrackInformation addressType n allocation) h = h

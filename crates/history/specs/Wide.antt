@@ -8,7 +8,7 @@ use Rattle.drive.specs.Bytes.{zeros}
 use Rattle.drive.specs.Step.{Drive, drive, Request, request, step}
 use Rattle.drive.specs.Alike.{recorded_byte}
 use Rattle.drive.specs.Requests.{WriteOf}
-use Rattle.history.specs.Types.{Lba, Answer, Accepted, Link, Drive as by_drive, Command, TestUnitReady, RequestSense, Inquiry, ReadCapacity, Read, Write, SynchronizeCache, ReserveTrack, CloseTrackSession, ReadToc, GetConfiguration, ReadDiscInformation, ReadTrackInformation, Unlisted}
+use Rattle.history.specs.Types.{Lba, Answer, Accepted, Link, Drive as by_drive, Command, TestUnitReady, RequestSense, Inquiry, ReadCapacity, Read, Write, SynchronizeCache, ReserveTrack, CloseTrackSession, GetConfiguration, ReadDiscInformation, ReadTrackInformation, Unlisted}
 use Rattle.history.specs.Sequence.{Start, result, Admissible}
 use Rattle.history.specs.Forms.{Form, longest, addresses, write_cdb}
 use Rattle.history.specs.Cut.{CutOf, Again}
@@ -62,7 +62,6 @@ recut_command ks q (Read a n) = q ∷ []
 recut_command ks q SynchronizeCache = q ∷ []
 recut_command ks q (ReserveTrack size) = q ∷ []
 recut_command ks q (CloseTrackSession function n) = q ∷ []
-recut_command ks q (ReadToc form time start allocation) = q ∷ []
 recut_command ks q (GetConfiguration request_type start allocation) = q ∷ []
 recut_command ks q (ReadDiscInformation dataType allocation) = q ∷ []
 recut_command ks q (ReadTrackInformation addressType n allocation) = q ∷ []

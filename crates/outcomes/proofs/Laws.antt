@@ -9,5 +9,4 @@ pub mod Accepts
 pub mod Cut
 pub mod Run
 pub mod Judge
-pub mod Sessions
 pub mod Lent

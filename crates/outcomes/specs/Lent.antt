@@ -1,10 +1,7 @@
 -- What a plan asks of the lent buffers. Every plan that is decided on finds it there (proofs/Laws/Lent).
-use Rattle.std.specs.Prelude.{ℕ, ◌+◌, ◌*◌, ◌/◌, ◌^◌, ◌≤◌, ◌<◌, ◌≡◌, List, length, take}
-use Rattle.features.specs.Bytes.{stored}
-use Rattle.reporting.specs.Contents.{disc_contents}
-use Rattle.decisions.specs.Plan.{no_plan}
-use Rattle.reporting.specs.Reply.{said}
-use Rattle.outcomes.specs.Types.{Flush, Skip, Record, Transfer, Nothing, Send, Gather, Fill, Content, Own, Configuration, TableOfContents, Disc, Verdict}
+use Rattle.std.specs.Prelude.{ℕ, ◌+◌, ◌*◌, ◌/◌, ◌^◌, ◌≤◌, ◌<◌, ◌≡◌, length}
+use Rattle.protocol.specs.Reply.{said}
+use Rattle.outcomes.specs.Types.{Flush, Skip, Record, Transfer, Nothing, Send, Gather, Fill, Verdict}
 
 -- the pending block has 1 to 15 sectors, and its block lies in the medium
 abbrev pub FlushFits : ℕ → Flush → Type 0
@@ -27,18 +24,10 @@ RunFits replyLent (Send a n i k) = 2048 * (n + k) ≤ replyLent
 RunFits replyLent (Gather b p n) = Unit {0}
 RunFits replyLent (Fill b k) = Unit {0}
 
--- a buffer with the table of contents written into it that a reply of so many bytes names; any other reply is not written yet
-unfoldable pub tabled : Disc → Content → ℕ → List ℕ → List ℕ
-tabled d Own n buffer = buffer
-tabled d (Configuration request_type start) n buffer = buffer
-tabled d (TableOfContents form time start) n buffer = stored buffer 0 (take n (disc_contents d form time start))
-
--- what a verdict on a disc asks of a medium, data and a reply buffer of these lengths
-pub record Fits (d : Disc) (mediumLent dataLent replyLent : ℕ) (v : Verdict) : Type 0 where
+-- what a verdict asks of a medium, data and a reply buffer of these lengths
+pub record Fits (mediumLent dataLent replyLent : ℕ) (v : Verdict) : Type 0 where
   pub flush : FlushFits mediumLent v.plan.flush
   pub transfer : TransferFits mediumLent dataLent v.plan.transfer
   pub run : RunFits replyLent v.plan.transfer
   pub report : v.reply.length ≤ replyLent
-  pub whole : v.reply.length ≤ length (said d v.reply.content v.reply.bytes)
-  -- a table of contents is all that its command sends or moves
-  pub still : (f t s : ℕ) → v.reply.content ≡ TableOfContents f t s → v.plan ≡ no_plan
+  pub whole : v.reply.length ≤ length (said v.reply.content v.reply.bytes)

@@ -14,9 +14,7 @@ pub fn recorded_run<'a>(disc: Disc, cdb: &[u8], medium: &'a [u8]) -> &'a [u8]
         return &medium[0..0];
     }
     let command = Command::decode(cdb);
-    let data = command.data_length();
-    let room = command.reply_room(contents::LONGEST);
-    let decision = commands::decide(disc, cdb, data, room);
+    let decision = commands::decide(disc, cdb, command.data_length(), command.reply_room());
     let plan = decision.plan;
     let transfer = plan.transfer;
     transfer.run(medium)

@@ -6,7 +6,6 @@ use Rattle.fragments.specs.List.{listed, some, every, find, sum_recorded}
 use Rattle.disc.specs.Sound.{used_first, first_at_zero, follows_from, in_order, ends_within, recorded_within, zeroed_within, incomplete_last, tail_last, tail_or_full, pending_named, finalized_complete, sound, allowed_state}
 use Rattle.disc.specs.Blank.{blank}
 use Rattle.protocol.specs.Lengths.{data_length, reply_room, lengths_fit}
-use Rattle.commands.specs.Toc.{contents_asked}
 use Rattle.disc.specs.Verdict.{accepted, accept, refuse, refuse_link}
 use Rattle.commands.specs.Flush.{flush, flush_plan, synchronize_cache}
 use Rattle.commands.specs.Write.{flush_others, flush_others_plan, gather, write_to, write_found, write}
@@ -53,7 +52,7 @@ printed_three =
 pub example : transcript (trace_of three) ≡ heading ++ printed_three
 unfolding
     transcript lines last_text replayed digits next_text words cdbs position_after trace_of step_at step_of reading_of bad_mark
-    blank judge judge_command perform decode data_length reply_room contents_asked lengths_fit accepted accept refuse refuse_link
+    blank judge judge_command perform decode data_length reply_room lengths_fit accepted accept refuse refuse_link
     is_refusal_sense allowed_sense listed some every find sum_recorded
     used_first first_at_zero follows_from in_order ends_within recorded_within zeroed_within incomplete_last tail_last tail_or_full pending_named
     finalized_complete sound allowed_state flush flush_plan synchronize_cache flush_others flush_others_plan gather write_to write_found write

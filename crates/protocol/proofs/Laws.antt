@@ -2,3 +2,4 @@
 pub mod Answer
 pub mod Lengths
 pub mod Reports
+pub mod Reply

@@ -1,7 +1,7 @@
 -- The lengths of data and reply that a command asks for (L4).
 use Rattle.std.specs.Prelude.{ℕ, ◌*◌, min, Bool, cond, ◌&&◌, length, eqb, leb}
 use Rattle.features.specs.Configuration.{configuration_bytes}
-use Rattle.protocol.specs.Types.{Command, TestUnitReady, RequestSense, Inquiry, ReadCapacity, Read, Write, SynchronizeCache, ReserveTrack, CloseTrackSession, ReadToc, GetConfiguration, ReadDiscInformation, ReadTrackInformation, Unlisted}
+use Rattle.protocol.specs.Types.{Command, TestUnitReady, RequestSense, Inquiry, ReadCapacity, Read, Write, SynchronizeCache, ReserveTrack, CloseTrackSession, GetConfiguration, ReadDiscInformation, ReadTrackInformation, Unlisted}
 
 -- the bytes of the whole reports of REQUEST SENSE, INQUIRY, READ CAPACITY, READ DISC INFORMATION and READ TRACK INFORMATION
 abbrev pub sense_length : ℕ
@@ -30,7 +30,6 @@ data_length (Write a n) = 2048 * n
 data_length SynchronizeCache = 0
 data_length (ReserveTrack n) = 0
 data_length (CloseTrackSession f n) = 0
-data_length (ReadToc f t s n) = 0
 data_length (GetConfiguration t s n) = 0
 data_length (ReadDiscInformation t n) = 0
 data_length (ReadTrackInformation t n m) = 0
@@ -44,24 +43,22 @@ inquiry_room pageBit n = cond (eqb pageBit 0) (min inquiry_length n) 0
 unfoldable pub configuration_room : ℕ → ℕ → ℕ → ℕ
 configuration_room request_type start n = cond (eqb request_type 3) 0 (min (length (configuration_bytes request_type start)) n)
 
--- the least room for the reply: a READ's sectors, a report cut to its allocation length; any room does for the others. How long the table of
--- contents is that READ TOC asks for, `contents`, the disc says: 0 where it refuses to show one
-unfoldable pub reply_room : ℕ → Command → ℕ
-reply_room contents TestUnitReady = 0
-reply_room contents (RequestSense n) = min sense_length n
-reply_room contents (Inquiry p n) = inquiry_room p n
-reply_room contents ReadCapacity = capacity_length
-reply_room contents (Read a n) = 2048 * n
-reply_room contents (Write a n) = 0
-reply_room contents SynchronizeCache = 0
-reply_room contents (ReserveTrack n) = 0
-reply_room contents (CloseTrackSession f n) = 0
-reply_room contents (ReadToc f t s n) = min contents n
-reply_room contents (GetConfiguration t s n) = configuration_room t s n
-reply_room contents (ReadDiscInformation t n) = min disc_information_length n
-reply_room contents (ReadTrackInformation t m n) = min track_information_length n
-reply_room contents Unlisted = 0
+-- the least room for the reply: a READ's sectors, a report cut to its allocation length; any room does for the others
+unfoldable pub reply_room : Command → ℕ
+reply_room TestUnitReady = 0
+reply_room (RequestSense n) = min sense_length n
+reply_room (Inquiry p n) = inquiry_room p n
+reply_room ReadCapacity = capacity_length
+reply_room (Read a n) = 2048 * n
+reply_room (Write a n) = 0
+reply_room SynchronizeCache = 0
+reply_room (ReserveTrack n) = 0
+reply_room (CloseTrackSession f n) = 0
+reply_room (GetConfiguration t s n) = configuration_room t s n
+reply_room (ReadDiscInformation t n) = min disc_information_length n
+reply_room (ReadTrackInformation t m n) = min track_information_length n
+reply_room Unlisted = 0
 
 -- whether the lent data and reply buffer have lengths that L4 lets through
-unfoldable pub lengths_fit : ℕ → Command → ℕ → ℕ → Bool
-lengths_fit contents c dataLent replyLent = eqb dataLent (data_length c) && leb (reply_room contents c) replyLent
+unfoldable pub lengths_fit : Command → ℕ → ℕ → Bool
+lengths_fit c dataLent replyLent = eqb dataLent (data_length c) && leb (reply_room c) replyLent

@@ -1,7 +1,7 @@
 -- Replies and how they are cut.
-use Rattle.std.specs.Prelude.{ℕ, ◌-◌, min, List, [], ◌++◌, length, replicate}
+use Rattle.std.specs.Prelude.{ℕ, ◌-◌, min, List, [], ◌++◌, length, take, replicate}
 use Rattle.features.specs.Configuration.{configuration_bytes}
-use Rattle.protocol.specs.Types.{Content, Own, Configuration, TableOfContents, Reply}
+use Rattle.protocol.specs.Types.{Content, Own, Configuration, Reply}
 
 -- a reply of `whole` bytes, of which at most `allocation` are sent: the one place where replies are cut
 abbrev pub cut_reply : List ℕ → Content → ℕ → ℕ → Reply
@@ -16,11 +16,15 @@ abbrev pub configuration_reply : ℕ → ℕ → ℕ → Reply
 configuration_reply request_type start allocation =
     cut_reply (replicate 36 0) (Configuration request_type start) (length (configuration_bytes request_type start)) allocation
 
--- what READ TOC says, which the reply only names too: the table of contents of a form, with the time bit, from a starting number on; `whole` is
--- its length
-abbrev pub contents_reply : ℕ → ℕ → ℕ → ℕ → ℕ → Reply
-contents_reply form time start whole allocation = cut_reply (replicate 36 0) (TableOfContents form time start) whole allocation
-
 -- a reply of no bytes
 abbrev pub no_reply : Reply
 no_reply = report [] 0
+
+-- what a reply with these bytes says, uncut
+unfoldable pub said : Content → List ℕ → List ℕ
+said Own bytes = bytes
+said (Configuration request_type start) bytes = configuration_bytes request_type start
+
+-- the bytes that are sent of a reply
+unfoldable pub reply_bytes : Reply → List ℕ
+reply_bytes r = take r.length (said r.content r.bytes)

@@ -31,12 +31,6 @@ pub enum Command {
         function: u8,
         number: u16,
     },
-    ReadToc {
-        form: u8,
-        time: u8,
-        start: u8,
-        allocation: u16,
-    },
     GetConfiguration {
         request_type: u8,
         start: u16,
@@ -107,12 +101,6 @@ impl Command {
                 length: word16(cdb, 7) as u32,
             },
             0x35 => Command::SynchronizeCache,
-            0x43 => Command::ReadToc {
-                form: byte_at(cdb, 2) % 16,
-                time: byte_at(cdb, 1) / 2 % 2,
-                start: byte_at(cdb, 6),
-                allocation: word16(cdb, 7),
-            },
             0x46 => Command::GetConfiguration {
                 request_type: byte_at(cdb, 1) % 4,
                 start: word16(cdb, 2),

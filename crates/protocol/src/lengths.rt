@@ -67,10 +67,9 @@ impl Command {
         }
     }
 
-    // The least room for the reply: a READ's sectors, or a report cut to its allocation length. `contents` is the length of the table of
-    // contents that READ TOC asks for, which the disc says.
-    pub fn reply_room(self, contents: usize) -> usize
-        ensures { result ≡ reply_room contents self }
+    // The least room for the reply: a READ's sectors, or a report cut to its allocation length.
+    pub fn reply_room(self) -> usize
+        ensures { result ≡ reply_room self }
     {
         match self {
             Command::RequestSense { allocation } => cut(SENSE_LENGTH, allocation as usize),
@@ -80,12 +79,6 @@ impl Command {
             } => inquiry_room(page_bit, allocation as usize),
             Command::ReadCapacity => CAPACITY_LENGTH,
             Command::Read { address: _, length } => SECTOR_LENGTH * (length as usize),
-            Command::ReadToc {
-                form: _,
-                time: _,
-                start: _,
-                allocation,
-            } => cut(contents, allocation as usize),
             Command::GetConfiguration {
                 request_type,
                 start,
@@ -105,9 +98,9 @@ impl Command {
     }
 
     // Whether data and reply buffer have lengths that the command can work with.
-    pub fn lengths_fit(self, contents: usize, data: usize, reply: usize) -> bool
-        ensures { result ≡ lengths_fit contents self «data» reply }
+    pub fn lengths_fit(self, data: usize, reply: usize) -> bool
+        ensures { result ≡ lengths_fit self «data» reply }
     {
-        (data == self.data_length()) & (self.reply_room(contents) <= reply)
+        (data == self.data_length()) & (self.reply_room() <= reply)
     }
 }

@@ -1,17 +1,16 @@
 // A reply, cut to the length that the command allows.
 ghost use Rattle.std.specs.Prelude.{◌≡◌};
 ghost use Rattle.protocol.specs.Types.{Own};
-ghost use Rattle.protocol.specs.Reply.{cut_reply, configuration_reply, contents_reply, no_reply};
+ghost use Rattle.protocol.specs.Reply.{cut_reply, configuration_reply, no_reply};
 
 use crate::lengths;
 
-// What a reply says: the bytes that it holds itself, or what GET CONFIGURATION or READ TOC says, which is longer than any other report and is
-// written only where it is sent.
+// What a reply says: the bytes that it holds itself, or what GET CONFIGURATION says, which is longer than any other report and is written
+// only where it is sent.
 #[derive(Drop)]
 pub enum Content {
     Own,
     Configuration { request_type: u8, start: u16 },
-    TableOfContents { form: u8, time: u8, start: u8 },
 }
 
 // A reply by value: its own bytes, zeros after them, what it says, and how many bytes of that are sent.
@@ -67,14 +66,6 @@ impl Reply {
             request_type,
             start,
         };
-        Reply::cut(bytes, content, whole, allocation)
-    }
-    // READ TOC's reply, of so many bytes.
-    pub fn of_contents(form: u8, time: u8, start: u8, whole: usize, allocation: usize) -> Reply
-        ensures { result ≡ contents_reply form time start whole allocation }
-    {
-        let bytes = [0u8; Reply::LIMIT];
-        let content = Content::TableOfContents { form, time, start };
         Reply::cut(bytes, content, whole, allocation)
     }
 }

@@ -2,6 +2,3 @@
 pub mod Types
 pub mod Reports
 pub mod Identity
-pub mod Contents
-pub mod Reply
-pub mod Shown

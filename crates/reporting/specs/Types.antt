@@ -1,14 +1,9 @@
 -- The types of the crates below by their short names.
 pub use Rattle.fragments.specs.declared.address.Lba.{Lba}
-pub use Rattle.fragments.specs.declared.fragment.Fragment.{Fragment}
-pub use Rattle.protocol.specs.declared.answer.Answer.TheVariants.{Accepted, Drive}
 pub use Rattle.protocol.specs.declared.answer.DriveRefusal.TheVariants.{InvalidOperationCode, WriteProtected, InvalidFieldInCommand, AddressOutOfRange, BlankCheck, InvalidAddressForWrite, IncompleteTrackInSession, EmptyTrack, NoMoreReservations, EndOfUserArea}
 pub use Rattle.disc.specs.declared.state.Disc.{Disc}
 pub use Rattle.fragments.specs.declared.list.Found.{Found}
 pub use Rattle.fragments.specs.declared.list.Found.TheVariants.{Number, Nowhere}
-pub use Rattle.protocol.specs.declared.reply.Content.{Content}
-pub use Rattle.protocol.specs.declared.reply.Content.TheVariants.{Own, Configuration, TableOfContents}
-pub use Rattle.protocol.specs.declared.reply.Reply.{Reply}
 pub use Rattle.protocol.specs.declared.reports.DiscReport.{DiscReport}
 pub use Rattle.protocol.specs.declared.reports.TrackReport.{TrackReport}
 pub use Rattle.disc.specs.declared.verdict.Verdict.{Verdict}

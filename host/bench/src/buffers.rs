@@ -1,7 +1,7 @@
 //! The buffers that both drives share.
 
 use gladhamre::cdb::{self, Cdb};
-use gladhamre::{Lent, State, BLOCK_BYTES, SECTOR_BYTES};
+use gladhamre::{Lent, BLOCK_BYTES, SECTOR_BYTES};
 use std::ops::{Deref, DerefMut};
 
 const PAGE: usize = 4_096;
@@ -44,7 +44,7 @@ pub struct Buffers {
 }
 
 impl Buffers {
-    /// For discs of up to so many blocks.
+    /// For a disc of so many blocks.
     pub fn new(capacity: u32) -> Buffers {
         Buffers {
             medium: Buffer::new(0, capacity as usize * BLOCK_BYTES, 0),
@@ -54,12 +54,12 @@ impl Buffers {
         }
     }
 
-    /// What is lent for a command to a disc in that state.
-    pub fn lend<'a>(&'a mut self, cdb: &'a Cdb, state: &State) -> Lent<'a> {
+    /// What is lent for a command.
+    pub fn lend<'a>(&'a mut self, cdb: &'a Cdb) -> Lent<'a> {
         Lent {
             cdb,
             data: &self.data[..cdb::data_length(cdb)],
-            medium: &mut self.medium[..state.capacity() as usize * BLOCK_BYTES],
+            medium: &mut self.medium,
             pending: &mut self.pending,
             reply: &mut self.reply,
         }

@@ -6,11 +6,7 @@ use gladhamre::cdb::{self, Cdb};
 use gladhamre::{State, RECORD_LIMIT, SECTOR_BYTES};
 
 /// Blocks of the disc: room for a full list, and for a session after it.
-const CAPACITY: u32 = 500;
-
-/// Blocks of a disc with room for as many sessions of one block as there can be, which is the largest
-/// here.
-pub const MOST_BLOCKS: u32 = 20_640;
+pub const CAPACITY: u32 = 500;
 const BLOCK_SECTORS: u32 = 16;
 
 /// Sectors recorded in the tail, enough for the longest READ.
@@ -25,7 +21,6 @@ const REPORT: u16 = cdb::FRAGMENT_INFORMATION_LENGTH as u16;
 /// Numbers of answers.
 const ACCEPTED: u32 = 0;
 const ADDRESS_OUT_OF_RANGE: u32 = 0x052100;
-const INVALID_FIELD: u32 = 0x052400;
 
 /// A command, and the state on which it is given again and again.
 pub struct Case {
@@ -58,23 +53,8 @@ impl Maker<'_> {
         maker
     }
 
-    /// A disc with so many closed sessions of one recorded block, and a blank tail; finalized without the
-    /// tail.
-    fn with_sessions(closed: usize, finalized: bool, buffers: &mut Buffers) -> Maker<'_> {
-        let state = State::blank(MOST_BLOCKS).expect("a capacity");
-        let mut maker = Maker { state, buffers };
-        for session in 1..=closed {
-            let is_last = finalized && session == closed;
-            let function = if is_last { cdb::FINALIZE } else { cdb::SESSION };
-            maker.write(BLOCK_SECTORS as u16);
-            maker.send(cdb::close(function, 0));
-        }
-        maker
-    }
-
     fn send(&mut self, cdb: Cdb) {
-        let before = self.state.clone();
-        let answer = Linked.command(self.state.words_mut(), self.buffers.lend(&cdb, &before));
+        let answer = Linked.command(self.state.words_mut(), self.buffers.lend(&cdb));
         assert_eq!(answer.number, 0, "{cdb:02X?} is accepted");
     }
 
@@ -128,7 +108,6 @@ pub fn cases(buffers: &mut Buffers) -> Vec<Case> {
         add("WRITE 64, 4 pending".into(), cdb::write(disc.next(), 64), &disc.state, bytes);
     }
     cases.extend(identity(buffers));
-    cases.extend(tables(buffers));
     cases.extend(reads_of_pending(buffers));
     cases.extend(list_changes(buffers));
     for records in [1, SOME_RECORDS, RECORD_LIMIT] {
@@ -161,33 +140,6 @@ fn identity(buffers: &mut Buffers) -> Vec<Case> {
         for (name, cdb) in questions {
             let (list, start) = (list_of(records), disc.state.clone());
             cases.push(Case { name: name.into(), list, cdb, start, bytes: 0, number: ACCEPTED });
-        }
-    }
-    cases
-}
-
-/// 43h without a closed session, which is refused, with one, and with as many as there can be: the whole
-/// table with sector addresses and with times, the last session, the lead-out alone.
-fn tables(buffers: &mut Buffers) -> Vec<Case> {
-    let toc = |form, time, start| cdb::read_toc(form, time, start, u16::MAX);
-    let all = toc(cdb::CLOSED_SESSIONS, false, 0);
-    let questions = [
-        ("43h", all),
-        ("43h with times", toc(cdb::CLOSED_SESSIONS, true, 0)),
-        ("43h form 1", toc(cdb::LAST_CLOSED_SESSION, false, 0)),
-        ("43h, the lead-out alone", toc(cdb::CLOSED_SESSIONS, false, cdb::LEAD_OUT)),
-    ];
-    let mut cases = Vec::new();
-    let mut add = |name: &str, cdb: Cdb, start: &State, number: u32| {
-        let (name, list, start) = (name.into(), list_of(start.records().count()), start.clone());
-        cases.push(Case { name, list, cdb, start, bytes: 0, number });
-    };
-    let open = Maker::with_sessions(0, false, buffers).state;
-    add("43h, no closed session", all, &open, INVALID_FIELD);
-    for (closed, finalized) in [(1, false), (RECORD_LIMIT, true)] {
-        let disc = Maker::with_sessions(closed, finalized, buffers).state;
-        for (name, cdb) in questions {
-            add(name, cdb, &disc, ACCEPTED);
         }
     }
     cases

@@ -7,5 +7,5 @@ mod cases;
 mod measure;
 
 pub use buffers::Buffers;
-pub use cases::{cases, Case, MOST_BLOCKS};
+pub use cases::{cases, Case, CAPACITY};
 pub use measure::{measure, Measured, Spread};

@@ -4,7 +4,7 @@
 
 #![forbid(unsafe_code)]
 
-use bench::{cases, measure, Buffers, Spread, MOST_BLOCKS};
+use bench::{cases, measure, Buffers, Spread, CAPACITY};
 use std::process::Command;
 
 fn main() {
@@ -12,7 +12,7 @@ fn main() {
     println!("{}\n", machine());
     println!("| Command | List | Linked, ns | Ordinary, ns | Ratio | Quartiles | Copy alone, ns |");
     println!("|---|---|---:|---:|---:|---:|---:|");
-    let mut buffers = Buffers::new(MOST_BLOCKS);
+    let mut buffers = Buffers::new(CAPACITY);
     for case in cases(&mut buffers) {
         if !format!("{} {}", case.name, case.list).contains(&wanted) {
             continue;

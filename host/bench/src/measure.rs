@@ -69,8 +69,8 @@ pub fn measure(case: &Case, buffers: &mut Buffers) -> Measured {
 
 fn same_answer(case: &Case, plain: &Plain, buffers: &mut Buffers) {
     let (mut linked_state, mut plain_state) = (case.start.clone(), case.start.clone());
-    let linked = Linked.command(linked_state.words_mut(), buffers.lend(&case.cdb, &case.start));
-    let plain = plain.command(plain_state.words_mut(), buffers.lend(&case.cdb, &case.start));
+    let linked = Linked.command(linked_state.words_mut(), buffers.lend(&case.cdb));
+    let plain = plain.command(plain_state.words_mut(), buffers.lend(&case.cdb));
     assert_eq!((linked.number, linked), (case.number, plain), "{}", case.name);
     assert!(linked_state == plain_state, "{}", case.name);
 }
@@ -83,7 +83,7 @@ fn turn(drive: &impl Drive, case: &Case, buffers: &mut Buffers, batches: usize) 
         images.fill(*case.start.words());
         let begun = Instant::now();
         for image in &mut images {
-            black_box(drive.command(black_box(image), buffers.lend(&case.cdb, &case.start)));
+            black_box(drive.command(black_box(image), buffers.lend(&case.cdb)));
         }
         time += begun.elapsed();
     }

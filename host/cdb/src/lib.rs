@@ -18,8 +18,6 @@ pub const READ_CAPACITY: u8 = 0x25;
 pub const READ: u8 = 0x28;
 pub const WRITE: u8 = 0x2A;
 pub const SYNCHRONIZE_CACHE: u8 = 0x35;
-/// READ TOC/PMA/ATIP: the closed sessions, as a table of contents.
-pub const READ_TOC: u8 = 0x43;
 pub const GET_CONFIGURATION: u8 = 0x46;
 pub const READ_DISC_INFORMATION: u8 = 0x51;
 pub const READ_FRAGMENT_INFORMATION: u8 = 0x52;
@@ -30,7 +28,7 @@ pub const READ_12: u8 = 0xA8;
 pub const WRITE_12: u8 = 0xAA;
 
 /// Every listed opcode.
-pub const OPCODES: [u8; 15] = [
+pub const OPCODES: [u8; 14] = [
     TEST_UNIT_READY,
     REQUEST_SENSE,
     INQUIRY,
@@ -38,7 +36,6 @@ pub const OPCODES: [u8; 15] = [
     READ,
     WRITE,
     SYNCHRONIZE_CACHE,
-    READ_TOC,
     GET_CONFIGURATION,
     READ_DISC_INFORMATION,
     READ_FRAGMENT_INFORMATION,
@@ -62,26 +59,6 @@ pub const PAGE_BIT: u8 = 0b1;
 pub const ALL_FEATURES: u8 = 0b00;
 pub const CURRENT_FEATURES: u8 = 0b01;
 pub const ONE_FEATURE: u8 = 0b10;
-
-/// Forms of 43h: an entry for each closed session and one for the lead-out, or an entry for the last
-/// closed session alone.
-pub const CLOSED_SESSIONS: u8 = 0;
-pub const LAST_CLOSED_SESSION: u8 = 1;
-
-/// The bit of 43h, in byte 1, that asks for addresses as times.
-pub const TIME_BIT: u8 = 0b10;
-
-/// The number of the lead-out's entry in 43h.
-pub const LEAD_OUT: u8 = 0xAA;
-
-/// The most sessions that a disc has, each of one fragment.
-pub const SESSION_LIMIT: usize = 160;
-
-/// The bytes of the header and of an entry of a reply to 43h, and those of the longest reply: as many
-/// sessions as a disc has, and the lead-out.
-pub const TOC_HEADER_LENGTH: usize = 4;
-pub const TOC_ENTRY_LENGTH: usize = 8;
-pub const TOC_LENGTH: usize = TOC_HEADER_LENGTH + (SESSION_LIMIT + 1) * TOC_ENTRY_LENGTH;
 
 /// The bytes of the longest reply to 46h, and those in front of the features.
 pub const CONFIGURATION_LENGTH: usize = 100;
@@ -162,18 +139,6 @@ pub fn close(function: u8, number: u16) -> Cdb {
     cdb
 }
 
-/// 43h of a form, with addresses as times or as sector addresses, from a starting number on.
-pub fn read_toc(form: u8, time: bool, start: u8, allocation: u16) -> Cdb {
-    let mut cdb = opcode_only(READ_TOC);
-    if time {
-        cdb[1] = TIME_BIT;
-    }
-    cdb[2] = form;
-    set_toc_start(&mut cdb, start);
-    set_allocation(&mut cdb, allocation);
-    cdb
-}
-
 /// 46h of a request type, from a starting feature on.
 pub fn get_configuration(request: u8, start: u16, allocation: u16) -> Cdb {
     let mut cdb = opcode_only(GET_CONFIGURATION);
@@ -225,11 +190,6 @@ pub fn set_start(cdb: &mut Cdb, feature: u16) {
     cdb[2..4].copy_from_slice(&feature.to_be_bytes());
 }
 
-/// The starting number of 43h.
-pub fn set_toc_start(cdb: &mut Cdb, number: u8) {
-    cdb[6] = number;
-}
-
 /// The allocation length of 12h.
 pub fn set_inquiry_allocation(cdb: &mut Cdb, allocation: u16) {
     cdb[3..5].copy_from_slice(&allocation.to_be_bytes());
@@ -268,36 +228,6 @@ pub fn allocation(cdb: &Cdb) -> u16 {
 /// The allocation length of 12h.
 pub fn inquiry_allocation(cdb: &Cdb) -> u16 {
     u16::from_be_bytes([cdb[3], cdb[4]])
-}
-
-/// The form of 43h.
-pub fn toc_form(cdb: &Cdb) -> u8 {
-    cdb[2] & 0b1111
-}
-
-/// The starting number of 43h.
-pub fn toc_start(cdb: &Cdb) -> u8 {
-    cdb[6]
-}
-
-/// The bytes of the uncut reply to 43h on a disc with so many closed sessions; none where the drive
-/// refuses it.
-pub fn toc_length(cdb: &Cdb, closed: usize) -> Option<usize> {
-    let entries = match (toc_form(cdb), usize::from(toc_start(cdb))) {
-        _ if closed == 0 => return None,
-        (CLOSED_SESSIONS, 0) => closed + 1,
-        (CLOSED_SESSIONS, number) if number <= closed => closed - number + 2,
-        (CLOSED_SESSIONS, _) if toc_start(cdb) == LEAD_OUT => 1,
-        (LAST_CLOSED_SESSION, _) => 1,
-        _ => return None,
-    };
-    Some(TOC_HEADER_LENGTH + entries * TOC_ENTRY_LENGTH)
-}
-
-/// How many bytes the reply buffer of 43h must have on a disc with so many closed sessions: none where
-/// the drive refuses it.
-pub fn toc_room(cdb: &Cdb, closed: usize) -> usize {
-    toc_length(cdb, closed).map_or(0, |whole| whole.min(allocation(cdb).into()))
 }
 
 /// The starting feature of 46h.
@@ -340,8 +270,7 @@ pub fn data_length(cdb: &Cdb) -> usize {
     0
 }
 
-/// How many bytes the reply buffer must have. Of 12h and 46h, none where the drive will refuse them. What
-/// 43h asks for depends on the disc, and is [`toc_room`]; here it is what suffices on every disc.
+/// How many bytes the reply buffer must have. Of 12h and 46h, none where the drive will refuse them.
 pub fn reply_room(cdb: &Cdb) -> usize {
     let allocation = usize::from(allocation(cdb));
     match cdb[0] {
@@ -349,57 +278,11 @@ pub fn reply_room(cdb: &Cdb) -> usize {
         INQUIRY if cdb[1] & PAGE_BIT == 0 => {
             usize::from(inquiry_allocation(cdb)).min(INQUIRY_LENGTH)
         }
-        READ_TOC => toc_room(cdb, SESSION_LIMIT),
         GET_CONFIGURATION => configuration_length(cdb).map_or(0, |whole| allocation.min(whole)),
         READ_CAPACITY => 8,
         READ | READ_12 => sectors(cdb) as usize * SECTOR_BYTES,
         READ_DISC_INFORMATION => allocation.min(34),
         READ_FRAGMENT_INFORMATION => allocation.min(FRAGMENT_INFORMATION_LENGTH),
         _ => 0,
-    }
-}
-
-#[cfg(test)]
-mod tests {
-    use super::{read_toc, reply_room, toc_length, toc_room, LEAD_OUT, SESSION_LIMIT, TOC_LENGTH};
-
-    /// Four bytes, and eight for each entry: the sessions from the starting number on and the lead-out.
-    #[test]
-    fn lengths_of_tables() {
-        for (form, start, closed, length) in [
-            (0, 0, 0, None),
-            (1, 0, 0, None),
-            (0, LEAD_OUT, 0, None),
-            (0, 0, 1, Some(20)),
-            (0, 1, 1, Some(20)),
-            (0, 2, 1, None),
-            (0, 2, 3, Some(28)),
-            (0, 3, 3, Some(20)),
-            (0, LEAD_OUT, 3, Some(12)),
-            (1, 9, 3, Some(12)),
-            (2, 0, 3, None),
-            (15, 0, 3, None),
-            (0, 0, SESSION_LIMIT, Some(TOC_LENGTH)),
-            (0, 160, SESSION_LIMIT, Some(20)),
-            (0, 161, SESSION_LIMIT, None),
-            (0, 255, SESSION_LIMIT, None),
-        ] {
-            let cdb = read_toc(form, true, start, u16::MAX);
-            assert_eq!(toc_length(&cdb, closed), length, "form {form} from {start}, {closed}");
-        }
-    }
-
-    /// What suffices on every disc is the most that any asks for.
-    #[test]
-    fn rooms_on_every_disc() {
-        for form in 0..16 {
-            for start in 0..=u8::MAX {
-                for allocation in [0, 7, 12, 500, u16::MAX] {
-                    let cdb = read_toc(form, false, start, allocation);
-                    let most = (0..=SESSION_LIMIT).map(|closed| toc_room(&cdb, closed)).max();
-                    assert_eq!(Some(reply_room(&cdb)), most);
-                }
-            }
-        }
     }
 }

@@ -1,32 +1,24 @@
-//! INQUIRY, GET CONFIGURATION and READ TOC, at the edges of what they ask for.
+//! INQUIRY and GET CONFIGURATION, at the edges of what they ask for.
 
 use crate::cdb::{self, Cdb};
 use crate::mood::Kind;
 use crate::outline::Outline;
 use crate::{Generator, Request};
 
-/// No reply to the first two has more bytes.
+/// No reply to either has more bytes.
 const MOST_BYTES: u64 = cdb::CONFIGURATION_LENGTH as u64;
 
 /// Whether it is one of them.
 pub fn is_question(cdb: &Cdb) -> bool {
-    matches!(cdb[0], cdb::INQUIRY | cdb::GET_CONFIGURATION | cdb::READ_TOC)
+    matches!(cdb[0], cdb::INQUIRY | cdb::GET_CONFIGURATION)
 }
 
 impl Generator {
     /// Now and then one of them; often on a blank disc, which commands soon leave behind.
     pub(crate) fn question(&mut self, outline: &Outline) -> Option<Kind> {
-        let once_in = if outline.is_blank() { 5 } else { 10 };
+        let once_in = if outline.is_blank() { 6 } else { 14 };
         let asks = self.random.once_in(once_in);
-        asks.then(|| {
-            self.random.pick(&[
-                Kind::Inquiry,
-                Kind::Configuration,
-                Kind::Configuration,
-                Kind::Contents,
-                Kind::Contents,
-            ])
-        })
+        asks.then(|| self.random.pick(&[Kind::Inquiry, Kind::Configuration, Kind::Configuration]))
     }
 
     /// 12h, now and then with the page bit, a page, or both.
@@ -56,43 +48,9 @@ impl Generator {
         cdb::set_allocation(cdb, allocation);
     }
 
-    /// 43h of any form, from a number that has an entry or from beside one.
-    pub(crate) fn set_contents(&mut self, outline: &Outline, cdb: &mut Cdb) {
-        cdb[0] = cdb::READ_TOC;
-        let form = match self.random.below(12) {
-            0 => self.random.between(2, 15) as u8,
-            1..=4 => cdb::LAST_CLOSED_SESSION,
-            _ => cdb::CLOSED_SESSIONS,
-        };
-        cdb[2] = cdb[2] & 0b1111_0000 | form;
-        let number = self.starting_number(outline);
-        cdb::set_toc_start(cdb, number);
-        // the byte before, which is no field
-        cdb[5] = self.starting_number(outline);
-        let whole = cdb::toc_length(cdb, outline.closed).unwrap_or(cdb::TOC_HEADER_LENGTH);
-        let allocation = self.allocation_about(whole);
-        cdb::set_allocation(cdb, allocation);
-    }
-
-    /// That of a closed session, the open one's, a fragment's, the lead-out's, or any.
-    fn starting_number(&mut self, outline: &Outline) -> u8 {
-        let closed = outline.closed as u64;
-        let number = match self.random.below(12) {
-            0..=2 => 0,
-            3 => 1,
-            4 => closed,
-            5 => closed + 1,
-            6 => outline.places.len() as u64,
-            7 | 8 => self.random.between(1, closed),
-            9 => cdb::LEAD_OUT.into(),
-            10 => self.random.pick(&[0xA0, 0xA9, 0xAB, 0xFF]),
-            _ => self.random.draw() & 0xFF,
-        };
-        number as u8
-    }
-
-    /// Data, less room than is asked for, or both.
-    pub(crate) fn spoil_question(&mut self, request: &mut Request, room: usize) {
+    /// Data, less room than the reply has bytes, or both.
+    pub(crate) fn spoil_question(&mut self, request: &mut Request) {
+        let room = request.twelve().map_or(0, |cdb| cdb::reply_room(&cdb));
         let [data, less] = match self.random.below(3) {
             0 => [true, true],
             1 if room > 0 => [false, true],

@@ -6,7 +6,6 @@ use crate::discs::{self, Tried};
 use crate::event::Event;
 use crate::searches::Searches;
 use crate::situations;
-use crate::tables::Tables;
 use gladhamre::State;
 use std::collections::BTreeMap;
 use std::fmt;
@@ -24,8 +23,6 @@ pub struct Coverage {
     on_discs: BTreeMap<(&'static str, &'static str, u32), u64>,
     /// Where the address of 52h, READ and WRITE lay.
     pub searches: Searches,
-    /// What 43h was asked for.
-    pub tables: Tables,
     pub blocks_recorded: u64,
     pub most_records: usize,
     pub most_sessions: u32,
@@ -79,7 +76,7 @@ impl fmt::Display for Meetings {
 }
 
 /// The commands that are tried on every kind of disc.
-const ON_DISCS: [(&str, Tried); 12] = [
+const ON_DISCS: [(&str, Tried); 9] = [
     ("28h READ", Tried::Read),
     ("A8h READ (12)", Tried::Read),
     ("2Ah WRITE", Tried::Write),
@@ -89,9 +86,6 @@ const ON_DISCS: [(&str, Tried); 12] = [
     ("46h type 1", Tried::Served),
     ("46h type 2", Tried::Served),
     ("46h type 3", Tried::Refused),
-    ("43h form 0", Tried::ClosedSessions),
-    ("43h form 1", Tried::LastClosedSession),
-    ("43h other form", Tried::Refused),
 ];
 
 /// Whether the command is one of them.
@@ -123,7 +117,6 @@ impl Coverage {
 
     fn note_situations(&mut self, event: &Event) {
         self.searches.note(event);
-        self.tables.note(event);
         let long_form = matches!(event.cdb[0], cdb::READ_12 | cdb::WRITE_12);
         for (index, (_, is_met)) in situations::all().enumerate() {
             let met = u64::from(is_met(event));
@@ -174,7 +167,6 @@ impl Coverage {
             *self.on_discs.entry(key).or_default() += count;
         }
         self.searches.add(&other.searches);
-        self.tables.add(&other.tables);
         self.blocks_recorded += other.blocks_recorded;
         self.most_records = self.most_records.max(other.most_records);
         self.most_sessions = self.most_sessions.max(other.most_sessions);
@@ -261,7 +253,6 @@ impl fmt::Display for Coverage {
             writeln!(out, "{meetings}")?;
         }
         writeln!(out, "{}", self.searches)?;
-        writeln!(out, "{}", self.tables)?;
         writeln!(
             out,
             "deepest states: {} records, {} of them incomplete, {} sessions",
@@ -285,11 +276,6 @@ impl fmt::Display for Coverage {
 /// A command as document 01 lists it.
 pub fn command_name(cdb: &Cdb) -> &'static str {
     match (cdb[0], cdb[1] & 0b11, cdb[2] & 0b111) {
-        (cdb::READ_TOC, _, _) => match cdb::toc_form(cdb) {
-            cdb::CLOSED_SESSIONS => "43h form 0",
-            cdb::LAST_CLOSED_SESSION => "43h form 1",
-            _ => "43h other form",
-        },
         (cdb::TEST_UNIT_READY, _, _) => "00h",
         (cdb::REQUEST_SENSE, _, _) => "03h",
         (cdb::INQUIRY, _, _) => "12h",

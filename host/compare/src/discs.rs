@@ -1,5 +1,5 @@
-//! Kinds of discs: each form of READ and WRITE, 12h, each type of 46h and each form of 43h are to get each
-//! of their answers on every one.
+//! Kinds of discs: each form of READ and WRITE, 12h and each type of 46h are to get each of their answers
+//! on every one.
 
 use crate::event::{is_full, Position};
 use gladhamre::{Record, State};
@@ -9,20 +9,20 @@ pub type Kind = (&'static str, fn(&State) -> bool);
 
 pub const FINALIZED: &str = "a finalized disc";
 pub const FULL: &str = "a full disc";
-const BLANK: &str = "a blank disc";
-const PENDING_IN_ONLY: &str = "a disc with sectors pending in its only fragment";
-const PENDING_IN_FIRST: &str = "a disc with sectors pending in the first fragment";
-const SESSIONS: &str = "a disc with three sessions or more and room";
 
 pub const KINDS: [Kind; 10] = [
-    (BLANK, |state| {
+    ("a blank disc", |state| {
         count(state) == 1 && state.record(0).recorded == 0 && state.pending_count() == 0
     }),
     ("a disc written in part, none pending", |state| {
         state.record(0).recorded > 0 && state.pending_count() == 0 && has_room(state)
     }),
-    (PENDING_IN_ONLY, |state| Position::of(state) == Some(Position::Only)),
-    (PENDING_IN_FIRST, |state| Position::of(state) == Some(Position::First)),
+    ("a disc with sectors pending in its only fragment", |state| {
+        Position::of(state) == Some(Position::Only)
+    }),
+    ("a disc with sectors pending in the first fragment", |state| {
+        Position::of(state) == Some(Position::First)
+    }),
     ("a disc with sectors pending in a middle fragment", |state| {
         Position::of(state) == Some(Position::Middle)
     }),
@@ -30,7 +30,9 @@ pub const KINDS: [Kind; 10] = [
         Position::of(state) == Some(Position::Last)
     }),
     ("a disc with a full list and room", |state| is_full(state) && has_room(state)),
-    (SESSIONS, |state| state.records().any(|record| record.session >= 3) && has_room(state)),
+    ("a disc with three sessions or more and room", |state| {
+        state.records().any(|record| record.session >= 3) && has_room(state)
+    }),
     (FULL, |state| state.finalized() == 0 && !has_room(state)),
     (FINALIZED, |state| state.finalized() == 1),
 ];
@@ -53,11 +55,8 @@ pub enum Tried {
     Inquiry,
     /// 46h of a type that is served.
     Served,
-    /// 46h of the type, and 43h of a form, that is refused.
+    /// 46h of the type that is refused.
     Refused,
-    /// 43h of form 0, and of form 1.
-    ClosedSessions,
-    LastClosedSession,
 }
 
 /// The answers of these commands on sound states.
@@ -68,24 +67,13 @@ pub const ANSWERS: [u32; 8] = [0, 4, 0x052100, 0x080000, 0x072700, 0x052102, 0x0
 pub fn can_answer(command: Tried, number: u32, kind: &str) -> bool {
     let is_write = command == Tried::Write;
     match number {
-        0 if is_contents(command) => !NONE_CLOSED.contains(&kind),
         0 => command != Tried::Refused,
         4 => true,
         0x052100 | 0x080000 => command == Tried::Read,
         0x072700 => is_write && kind == FINALIZED,
         0x052102 => is_write && kind != FINALIZED,
         0x056300 => is_write && kind != FINALIZED && kind != FULL,
-        0x052400 => match command {
-            Tried::LastClosedSession => ![SESSIONS, FINALIZED].contains(&kind),
-            _ => matches!(command, Tried::Inquiry | Tried::Refused | Tried::ClosedSessions),
-        },
+        0x052400 => matches!(command, Tried::Inquiry | Tried::Refused),
         _ => false,
     }
-}
-
-/// The kinds without a closed session: an incomplete fragment is in the last one.
-const NONE_CLOSED: [&str; 3] = [BLANK, PENDING_IN_ONLY, PENDING_IN_FIRST];
-
-fn is_contents(command: Tried) -> bool {
-    matches!(command, Tried::ClosedSessions | Tried::LastClosedSession)
 }

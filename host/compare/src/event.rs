@@ -244,14 +244,4 @@ impl Event<'_> {
     pub fn reaches_last_record(&self) -> bool {
         is_full(self.before) && self.address() >= 16 * u64::from(self.last_before().start)
     }
-
-    /// Whether the command before was refused, as far as the sense tells.
-    pub fn has_sense(&self) -> bool {
-        self.before.sense() != [0; 3]
-    }
-
-    /// The same, by another sense than 5/24/00.
-    pub fn has_other_sense(&self) -> bool {
-        self.has_sense() && self.before.sense() != [0x5, 0x24, 0x00]
-    }
 }

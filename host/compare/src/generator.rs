@@ -60,8 +60,7 @@ impl Generator {
 
     /// The command block with what is lent for it.
     pub(crate) fn lend(&mut self, cdb: Cdb, state: &State, allocated: usize) -> Request {
-        let mut request = Request::on(cdb, state);
-        let room = request.reply_length;
+        let mut request = Request::fitting(cdb, state.capacity());
         request.medium_length = request.medium_length.min(allocated);
         request.data_offset = self.random.below(OFFSETS as u64) as usize;
         request.reply_length += self.extra_room();
@@ -72,13 +71,13 @@ impl Generator {
         if self.random.once_in(once_in) {
             self.spoil(&mut request, allocated);
         } else if is_question(&cdb) && self.random.once_in(4) {
-            self.spoil_question(&mut request, room);
+            self.spoil_question(&mut request);
         }
         request
     }
 
-    /// What makes a crowd, a question what the drive is or which sessions are closed, what the disc is
-    /// at the edge of, or what the mood says.
+    /// What makes a crowd, a question what the drive is, what the disc is at the edge of, or what the
+    /// mood says.
     fn kind(&mut self, outline: &Outline) -> Kind {
         let crowds = self.crowds && !self.random.once_in(8);
         let of_crowd = outline.next_of_crowd(self.mood).filter(|_| crowds);
@@ -128,7 +127,6 @@ impl Generator {
             Kind::Junk => self.set_junk(cdb),
             Kind::Inquiry => self.set_inquiry(cdb),
             Kind::Configuration => self.set_configuration(cdb),
-            Kind::Contents => self.set_contents(outline, cdb),
         }
     }
 

@@ -285,4 +285,14 @@ impl Event<'_> {
     fn lacks_room(&self) -> usize {
         cdb::reply_room(self.cdb).saturating_sub(self.room())
     }
+
+    /// Whether the command before was refused, as far as the sense tells.
+    fn has_sense(&self) -> bool {
+        self.before.sense() != [0; 3]
+    }
+
+    /// The same, by another sense than 5/24/00.
+    fn has_other_sense(&self) -> bool {
+        self.has_sense() && self.before.sense() != [0x5, 0x24, 0x00]
+    }
 }

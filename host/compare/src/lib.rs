@@ -7,11 +7,8 @@
 #![forbid(unsafe_code)]
 
 mod aim;
-mod asked;
 mod asking;
 mod bench;
-mod contents;
-mod contents_rounds;
 mod coverage;
 pub mod demand3;
 mod discs;
@@ -24,25 +21,19 @@ mod generator;
 mod history;
 mod identity;
 mod lists;
-mod medium;
 mod mood;
 mod outline;
 mod pair;
 mod pool;
-mod questionnaire;
 mod random;
 mod readable;
 mod request;
 pub mod rounds;
 mod searches;
 mod seat;
-mod sessions;
-mod shown;
 mod situations;
 mod spoil;
 mod states;
-mod tables;
-mod transfer;
 mod unsound;
 
 pub use coverage::{answer_name, command_name, Coverage};

@@ -78,10 +78,10 @@ pub enum Kind {
     DiscInformation,
     FragmentInformation,
     Junk,
-    /// No mood has a weight for these: [`Generator::question`](crate::Generator::question) draws them.
+    /// No mood has a weight for these two: [`Generator::question`](crate::Generator::question) draws
+    /// them.
     Inquiry,
     Configuration,
-    Contents,
 }
 
 /// In the order of the weights.

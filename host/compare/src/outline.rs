@@ -1,7 +1,6 @@
 //! What the generator wants to know of a state. It must not trip over junk.
 
 use crate::mood::{Kind, Mood};
-use crate::shown::closed_sessions;
 use gladhamre::{Record, State, RECORD_LIMIT};
 
 /// Sectors between two sessions.
@@ -77,8 +76,6 @@ pub struct Outline {
     /// The sectors of the disc.
     pub sectors: u64,
     pub places: Vec<Place>,
-    /// The closed sessions.
-    pub closed: usize,
 }
 
 impl Outline {
@@ -87,7 +84,6 @@ impl Outline {
         Outline {
             sectors: 16 * u64::from(state.capacity()),
             places: state.records().enumerate().map(place).collect(),
-            closed: closed_sessions(state),
         }
     }
 

@@ -3,7 +3,6 @@
 
 use crate::coverage::answer_name;
 use crate::event::Event;
-use crate::medium::Medium;
 use crate::pool::{fill_from_pool, pool, OFFSETS};
 use crate::{Coverage, Drive, Random, Request};
 use gladhamre::{
@@ -47,7 +46,7 @@ impl fmt::Display for Difference {
 struct Side<'a> {
     drive: &'a dyn Drive,
     image: Vec<u32>,
-    medium: Medium,
+    medium: Vec<u8>,
     pending: Vec<u8>,
     /// The reply buffer after a command, as far as it is looked at.
     reply: Vec<u8>,
@@ -58,7 +57,7 @@ impl<'a> Side<'a> {
         Side {
             drive,
             image: vec![0; IMAGE_ROOM],
-            medium: Medium::zeros(medium_room),
+            medium: vec![0; medium_room],
             pending: vec![0; PENDING_ROOM],
             reply: Vec::new(),
         }
@@ -276,7 +275,7 @@ impl<'a> Pair<'a> {
     /// Compares the whole media.
     pub fn compare_media(&mut self) -> Result<(), Difference> {
         self.commands_since_whole = 0;
-        same("byte of the medium", &self.left.medium[..], &self.right.medium[..])
+        same("byte of the medium", &self.left.medium, &self.right.medium)
             .map_err(|what| self.differ_in(&what))
     }
 

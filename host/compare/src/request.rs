@@ -2,8 +2,7 @@
 
 use crate::cdb::{self, Cdb};
 use crate::pool;
-use crate::shown::closed_sessions;
-use gladhamre::{State, BLOCK_BYTES, STATE_WORDS};
+use gladhamre::{BLOCK_BYTES, STATE_WORDS};
 
 /// A command with the lengths of everything that is lent for it.
 #[derive(Clone, Debug, PartialEq, Eq)]
@@ -19,8 +18,8 @@ pub struct Request {
 }
 
 impl Request {
-    /// The request of a command block with the lengths that it asks for, on a disc of so many blocks.
-    /// They are exactly those, but for the reply buffer of 43h, which suffices on any disc.
+    /// The request of a command block with exactly the lengths that it asks for, on a disc of so
+    /// many blocks.
     pub fn fitting(cdb: Cdb, capacity: u32) -> Request {
         Request {
             data_offset: 0,
@@ -30,17 +29,6 @@ impl Request {
             medium_length: capacity as usize * BLOCK_BYTES,
             pending_length: BLOCK_BYTES,
             cdb: cdb.to_vec(),
-        }
-    }
-
-    /// The same on a disc in that state, on which it may depend how much room is asked for.
-    pub fn on(cdb: Cdb, state: &State) -> Request {
-        let fitting = Request::fitting(cdb, state.capacity());
-        match cdb[0] {
-            cdb::READ_TOC => {
-                Request { reply_length: cdb::toc_room(&cdb, closed_sessions(state)), ..fitting }
-            }
-            _ => fitting,
         }
     }
 

@@ -8,17 +8,12 @@ use crate::{states, unsound, Coverage, Difference, Drive, Generator, Mood, Pair,
 use gladhamre::{State, RECORD_LIMIT, STATE_WORDS};
 use plain::Rule;
 
-pub use crate::contents_rounds::{session_sequences, tables};
-
 /// Capacities of the discs that sequences run on. The first two are full before the list is; the
 /// third has room for a full list of short fragments, and hardly for a session after it.
 pub const CAPACITIES: [u32; 4] = [256, 300, 480, 1_000];
 
 /// The capacity of a disc with room for WRITEs of more than 65,535 sectors.
 pub const LONG_CAPACITY: u32 = 4_300;
-
-/// The capacity of a disc with room for as many short sessions as there can be.
-pub const SESSIONS_CAPACITY: u32 = 21_000;
 
 /// The capacity of the largest disc.
 pub const CAPACITY_LIMIT: u32 = 143_444;
@@ -28,15 +23,10 @@ pub const CAPACITY_LIMIT: u32 = 143_444;
 pub struct Effort {
     /// Sequences from a blank disc, for each of the capacities; some three hundred commands each.
     pub sequences: u64,
-    /// Sequences that close one session after another; some two thousand commands each.
-    pub session_sequences: u64,
     /// Blocks of the largest disc whose state is injected.
     pub injected_blocks: u32,
     /// Sound states injected, some six commands each.
     pub sound: u64,
-    /// Times that READ TOC asks for everything on sound states with any number of sessions; some three
-    /// thousand commands each.
-    pub tables: u64,
     /// States that break one rule, for each rule; four commands each.
     pub unsound: u64,
     /// Junk images, two commands each, and blank discs of good and bad capacities.
@@ -47,10 +37,8 @@ impl Effort {
     /// One round, as much as the gate compares.
     pub const ROUND: Effort = Effort {
         sequences: 2_000,
-        session_sequences: 6,
         injected_blocks: 1_000,
         sound: 60_000,
-        tables: 5,
         unsound: 1_000,
         junk: 40_000,
     };
@@ -70,12 +58,6 @@ pub fn everything(
     junk_images(&mut pair, seed, effort.junk)?;
     sound_states(&mut pair, seed, effort.sound)?;
     let mut coverage = pair.coverage;
-    let mut pair = Pair::new(left, right, CAPACITY_LIMIT);
-    tables(&mut pair, seed, effort.tables)?;
-    coverage.add(&pair.coverage);
-    let mut pair = Pair::new(left, right, SESSIONS_CAPACITY);
-    session_sequences(&mut pair, seed, effort.session_sequences)?;
-    coverage.add(&pair.coverage);
     for capacity in CAPACITIES {
         let mut pair = Pair::new(left, right, capacity);
         sequences(&mut pair, capacity, seed, effort.sequences)?;
@@ -143,7 +125,7 @@ pub fn long_runs(pair: &mut Pair, seed: u64) -> Result<(), Difference> {
 }
 
 /// Commands with the answers that both drives must give.
-pub(crate) fn send_all(
+fn send_all(
     pair: &mut Pair,
     random: &mut Random,
     commands: &[(Cdb, u32)],
@@ -331,6 +313,6 @@ fn some_capacity(random: &mut Random, most: u32) -> u32 {
     }
 }
 
-pub(crate) fn within(what: &str, seed: u64, number: u64, difference: &Difference) -> Difference {
+fn within(what: &str, seed: u64, number: u64, difference: &Difference) -> Difference {
     Difference(format!("seed {seed}, {what} {number}: {difference}"))
 }

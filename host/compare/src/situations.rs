@@ -2,7 +2,6 @@
 //! that rule.
 
 use crate::cdb;
-use crate::contents::OF_CONTENTS;
 use crate::event::{is_full, lacks_one, Event};
 use crate::forms::OF_FORMS;
 use crate::identity::OF_IDENTITY;
@@ -13,16 +12,12 @@ use gladhamre::RECORD_LIMIT;
 pub type Situation = (&'static str, fn(&Event) -> bool);
 
 /// How many there are.
-pub const COUNT: usize = OF_FRAGMENTS.len()
-    + OF_READABLE_SECTORS.len()
-    + OF_FORMS.len()
-    + OF_IDENTITY.len()
-    + OF_CONTENTS.len();
+pub const COUNT: usize =
+    OF_FRAGMENTS.len() + OF_READABLE_SECTORS.len() + OF_FORMS.len() + OF_IDENTITY.len();
 
 /// Every situation, those in which it counts how the fragments are first.
 pub fn all() -> impl Iterator<Item = Situation> {
-    let of_requests = OF_READABLE_SECTORS.into_iter().chain(OF_FORMS).chain(OF_IDENTITY);
-    OF_FRAGMENTS.into_iter().chain(of_requests).chain(OF_CONTENTS)
+    OF_FRAGMENTS.into_iter().chain(OF_READABLE_SECTORS).chain(OF_FORMS).chain(OF_IDENTITY)
 }
 
 /// Whether the situation is one of READ or WRITE, whatever the form.

@@ -138,7 +138,7 @@ pub(crate) fn follower(forerunner: Option<&Record>, length: u32, jump: bool) -> 
 }
 
 /// Kind, recorded blocks and zero-filled sectors. A tail often ends where a last session just fits.
-pub(crate) fn fill_in(random: &mut Random, record: &mut Record, is_tail: bool, may_be_open: bool) {
+fn fill_in(random: &mut Random, record: &mut Record, is_tail: bool, may_be_open: bool) {
     record.kind = random.pick(&[RESERVED, APPENDED]);
     record.recorded = record.length;
     if is_tail {
@@ -163,7 +163,7 @@ pub(crate) fn fill_in(random: &mut Random, record: &mut Record, is_tail: bool, m
 }
 
 /// A pending count and its fragment's number.
-pub(crate) fn pending(random: &mut Random, records: &[Record]) -> (u32, u32) {
+fn pending(random: &mut Random, records: &[Record]) -> (u32, u32) {
     let open = incomplete_numbers(records);
     if open.is_empty() || random.once_in(3) {
         return (0, 0);

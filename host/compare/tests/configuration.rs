@@ -6,22 +6,19 @@ mod identity;
 mod linked;
 #[path = "../../plain/tests/near_misses/mod.rs"]
 mod near_misses;
-#[path = "../../plain/tests/questions/mod.rs"]
-mod questions;
 #[path = "../../plain/tests/replies/mod.rs"]
 mod replies;
 
-use identity::{CAPACITY, RUNS};
+use identity::{Host, RUNS};
 use linked::linked;
 use near_misses::visit_all;
-use questions::Host;
 use std::collections::BTreeSet;
 
 #[test]
 fn runs_of_both_commands() {
     for (name, run) in RUNS {
         println!("{name}");
-        run(&mut Host::blank(linked, CAPACITY));
+        run(&mut Host::blank(linked));
     }
 }
 

@@ -3,35 +3,18 @@
 
 use compare::demand3::{self, Tally};
 use compare::every_list::{self, Addresses, SHAPES};
-use compare::rounds::{everything, sequences, session_sequences, Effort, SESSIONS_CAPACITY};
+use compare::rounds::{everything, sequences, Effort};
 use compare::{seed, Coverage, Difference, Drive, Linked, Pair, Plain};
 use plain::Fault;
 
-/// States injected, but for those made for 43h.
-const INJECTED: Effort = Effort {
-    sequences: 0,
-    session_sequences: 0,
-    injected_blocks: CAPACITY,
-    sound: 12_000,
-    tables: 0,
-    unsound: 20,
-    junk: 200,
-};
-
-/// Those alone.
-const TABLES: Effort =
-    Effort { injected_blocks: 256, sound: 0, tables: 1, unsound: 0, junk: 0, ..INJECTED };
+const INJECTED: Effort =
+    Effort { sequences: 0, injected_blocks: CAPACITY, sound: 12_000, unsound: 20, junk: 200 };
 
 /// Room for a full list, and for a session after it.
 const CAPACITY: u32 = 480;
 
-/// For sequences alone, those of any commands and those that close sessions.
+/// For sequences alone.
 const SEQUENCES: u64 = 1_000;
-const SESSION_SEQUENCES: u64 = 3;
-
-fn is_of_contents(fault: Fault) -> bool {
-    matches!(fault, Fault::Contents(_) | Fault::InContents(_))
-}
 
 fn is_found(fault: Fault, found: Result<Coverage, Difference>) {
     match found {
@@ -43,8 +26,7 @@ fn is_found(fault: Fault, found: Result<Coverage, Difference>) {
 fn injected_states_find_every_fault(right: &dyn Drive) {
     for fault in Fault::all() {
         let faulty = Plain { fault: Some(fault) };
-        let effort = if is_of_contents(fault) { TABLES } else { INJECTED };
-        is_found(fault, everything(right, &faulty, seed(), effort));
+        is_found(fault, everything(right, &faulty, seed(), INJECTED));
     }
 }
 
@@ -63,13 +45,8 @@ fn against_the_plain_drive() {
 fn by_sequences_alone() {
     for fault in Fault::of_commands() {
         let faulty = Plain { fault: Some(fault) };
-        let is_of_contents = is_of_contents(fault);
-        let capacity = if is_of_contents { SESSIONS_CAPACITY } else { CAPACITY };
-        let mut pair = Pair::new(&Linked, &faulty, capacity);
-        let found = match is_of_contents {
-            true => session_sequences(&mut pair, seed(), SESSION_SEQUENCES),
-            false => sequences(&mut pair, capacity, seed(), SEQUENCES),
-        };
+        let mut pair = Pair::new(&Linked, &faulty, CAPACITY);
+        let found = sequences(&mut pair, CAPACITY, seed(), SEQUENCES);
         is_found(fault, found.map(|()| pair.coverage));
     }
 }

@@ -1,7 +1,7 @@
 //! The header, the wrapper, the ordinary drive and the linked one have the same limit of records and
 //! the same state image.
 
-use compare::{cdb, Drive, Linked, Plain};
+use compare::{Drive, Linked, Plain};
 use gladhamre::{HEADER_WORDS, RECORD_LIMIT, RECORD_WORDS, STATE_WORDS};
 use std::io::Write;
 use std::process::{Command, Stdio};
@@ -43,7 +43,6 @@ fn the_header_has_the_wrappers_numbers() {
 #[test]
 fn the_ordinary_drive_has_the_wrappers_numbers() {
     assert_eq!(plain::FRAGMENT_LIMIT, RECORD_LIMIT);
-    assert_eq!(cdb::SESSION_LIMIT, RECORD_LIMIT);
     assert_eq!(plain::IMAGE_WORDS, STATE_WORDS);
 }
 

@@ -48,7 +48,7 @@ impl Disc {
         })
     }
 
-    /// Sends a command with a reply buffer of the length that it asks for, or with 43h may ask for.
+    /// Sends a command with a reply buffer of the length that it asks for.
     pub fn send(&mut self, cdb: &Cdb, data: &[u8]) -> io::Result<Outcome> {
         let mut buffer = zeros(cdb::reply_room(cdb))?;
         let answer = self.send_with(cdb, data, &mut buffer);

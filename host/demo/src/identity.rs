@@ -1,7 +1,11 @@
 //! What the drive says that it is: the texts of INQUIRY, and of GET CONFIGURATION the profile and the
 //! features, as the linked reader gives them.
 
-use crate::words::{columns, number_at};
+use crate::words::number_at;
+
+/// Features to a line, and the width of one.
+const FEATURES_TO_A_LINE: usize = 4;
+const FEATURE_WIDTH: usize = 27;
 
 /// What a whole reply to INQUIRY says.
 pub fn inquiry(reply: &[u8]) -> String {
@@ -30,7 +34,7 @@ pub fn configuration(reply: &[u8]) -> (String, Vec<String>) {
     let text = format!("profile {:04X}h {}, {count}", read.profile, profile(read.profile));
     let features: Vec<String> =
         read.features.iter().map(|&number| format!("{number:04X}h {}", feature(number))).collect();
-    (text, columns(&features))
+    (text, features.chunks(FEATURES_TO_A_LINE).map(columns).collect())
 }
 
 /// Why the reader refuses it: by its length a part is missing, or it is none of the drive's.
@@ -48,6 +52,11 @@ fn unread(reply: &[u8]) -> String {
         }
         _ => "not as this drive sends it".into(),
     }
+}
+
+fn columns(features: &[String]) -> String {
+    let line: String = features.iter().map(|text| format!("{text:<FEATURE_WIDTH$}")).collect();
+    line.trim_end().into()
 }
 
 fn profile(number: u16) -> &'static str {

@@ -6,7 +6,6 @@
 
 #![forbid(unsafe_code)]
 
-mod contents;
 mod disc;
 mod fragments;
 mod grid;

@@ -1,13 +1,12 @@
 //! Commands, answers, senses, replies and fragments in words.
 
 use crate::track::Track;
-use crate::{contents, fragments, identity};
+use crate::{fragments, identity};
 use gladhamre::cdb::{self, Cdb};
 use gladhamre::{Record, Refusal};
 
-/// Bytes of a reply to a line, and the width of such a line.
+/// Bytes of a reply to a line.
 const BYTES_TO_A_LINE: usize = 36;
-const LINE_WIDTH: usize = 3 * BYTES_TO_A_LINE;
 
 /// A command block in words.
 pub fn command(cdb: &Cdb) -> String {
@@ -22,7 +21,6 @@ pub fn command(cdb: &Cdb) -> String {
         cdb::WRITE => run("WRITE", cdb),
         cdb::WRITE_12 => run("WRITE (12)", cdb),
         cdb::SYNCHRONIZE_CACHE => "SYNCHRONIZE CACHE".into(),
-        cdb::READ_TOC => contents::asked(cdb),
         cdb::GET_CONFIGURATION => get_configuration(cdb[1] & 0b11, cdb::start(cdb)),
         cdb::READ_DISC_INFORMATION => "READ DISC INFORMATION".into(),
         cdb::READ_FRAGMENT_INFORMATION => track_information(cdb[1] & 0b11, value),
@@ -173,7 +171,6 @@ pub fn reply(cdb: &Cdb, reply: &[u8]) -> Vec<String> {
         return Vec::new();
     }
     let (text, details) = match cdb[0] {
-        cdb::READ_TOC => contents::told(cdb, reply),
         cdb::GET_CONFIGURATION => identity::configuration(reply),
         _ => (said(cdb, reply), Vec::new()),
     };
@@ -229,16 +226,6 @@ fn sector_contents(reply: &[u8]) -> String {
         _ => hex(&first[..8]),
     };
     format!("begins {begins}, {} all zero", sectors(zero))
-}
-
-/// Short texts side by side, in columns as wide as the longest asks for.
-pub fn columns(texts: &[String]) -> Vec<String> {
-    let width = 2 + texts.iter().map(String::len).max().unwrap_or(0);
-    let line = |texts: &[String]| -> String {
-        let line: String = texts.iter().map(|text| format!("{text:<width$}")).collect();
-        line.trim_end().into()
-    };
-    texts.chunks((LINE_WIDTH / width).max(1)).map(line).collect()
 }
 
 /// A reply's bytes, the zeros at its end by their number.

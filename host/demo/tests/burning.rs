@@ -1,18 +1,16 @@
 //! A burning program's session, burning-program.txt, on the linked drive: every answer and every reply, the
 //! disc that it leaves, and what is read back.
 
-mod example;
-mod table;
+use demo::{data_bytes, fragment_list, play, Disc, Outcome, Run};
+use gladhamre::cdb::{self, Cdb};
+use gladhamre::SECTOR_BYTES;
+use script::Part;
+use std::path::Path;
 
-use demo::fragment_list;
-use example::{part, sent};
-use gladhamre::{cdb, SECTOR_BYTES};
-use table::{blocks, played, reply};
-
-const SCRIPT: &str = "burning-program.txt";
+const SCRIPT: &str = concat!(env!("CARGO_MANIFEST_DIR"), "/scripts/burning-program.txt");
 
 /// The table's line for each command, without its number.
-const ROWS: [&str; 48] = [
+const ROWS: [&str; 45] = [
     "INQUIRY                                accepted  0/00/00 no sense                          0      0",
     "GET CONFIGURATION, all from 0000h      accepted  0/00/00 no sense                          0      0",
     "GET CONFIGURATION, all from 0000h      accepted  0/00/00 no sense                          0      0",
@@ -52,9 +50,6 @@ const ROWS: [&str; 48] = [
     "READ TRACK INFORMATION, number 1       accepted  0/00/00 no sense                          -      0",
     "READ TRACK INFORMATION, number 2       accepted  0/00/00 no sense                          -      0",
     "READ TRACK INFORMATION, number 3       accepted  0/00/00 no sense                          -      0",
-    "READ TOC, closed sessions              accepted  0/00/00 no sense                          -      0",
-    "READ TOC, last closed session          accepted  0/00/00 no sense                          -      0",
-    "READ TOC, form 2                       refused   5/24/00 invalid field in command          -      0",
     "READ CAPACITY                          accepted  0/00/00 no sense                          -      0",
     "READ 48 sectors at 0                   accepted  0/00/00 no sense                          -      0",
     "READ 48 sectors at 2096                accepted  0/00/00 no sense                          -      0",
@@ -64,7 +59,7 @@ const ROWS: [&str; 48] = [
 ];
 
 /// What the replies say, by the number of the command.
-const REPLIES: [(usize, &str); 25] = [
+const REPLIES: [(usize, &str); 23] = [
     (1, "reply of 36 bytes: device type 05h, removable medium, vendor \"GLADHAMR\", product \"DVD+R LOGGER\", revision \"1.00\""),
     (2, "reply of 8 bytes: cut, 100 bytes in all, profile 001Bh"),
     (3, "reply of 100 bytes: profile 001Bh DVD+R, 10 features"),
@@ -83,13 +78,11 @@ const REPLIES: [(usize, &str); 25] = [
     (37, "reply of 36 bytes: fragment 1, session 1, first sector 0, next 0, free 0, length 48"),
     (38, "reply of 36 bytes: fragment 2, session 2, first sector 2096, next 0, free 0, length 48"),
     (39, "reply of 36 bytes: fragment 3, session 3, first sector 4192, next 0, free 0, length 16"),
-    (40, "reply of 36 bytes: closed sessions 1 to 3"),
-    (41, "reply of 12 bytes: closed sessions 1 to 3"),
-    (43, "reply of 8 bytes: last readable address 4207, sectors of 2048 bytes"),
-    (44, "reply of 98304 bytes: begins \"sector        0\\n\", 0 sectors all zero"),
-    (45, "reply of 98304 bytes: begins B2 B2 B2 B2 B2 B2 B2 B2, 16 sectors all zero"),
-    (46, "reply of 32768 bytes: begins \"sector     4192\\n\", 0 sectors all zero"),
-    (48, "reply of 16 bytes: profile 001Bh DVD+R, 1 feature"),
+    (40, "reply of 8 bytes: last readable address 4207, sectors of 2048 bytes"),
+    (41, "reply of 98304 bytes: begins \"sector        0\\n\", 0 sectors all zero"),
+    (42, "reply of 98304 bytes: begins B2 B2 B2 B2 B2 B2 B2 B2, 16 sectors all zero"),
+    (43, "reply of 32768 bytes: begins \"sector     4192\\n\", 0 sectors all zero"),
+    (45, "reply of 16 bytes: profile 001Bh DVD+R, 1 feature"),
 ];
 
 /// INQUIRY's reply.
@@ -118,19 +111,46 @@ fn bytes(text: &str) -> Vec<u8> {
     text.split(' ').map(|byte| u8::from_str_radix(byte, 16).expect("a byte")).collect()
 }
 
+fn part() -> Part {
+    let mut parts = script::read(Path::new(SCRIPT)).expect("it is there");
+    assert_eq!(parts.len(), 1);
+    parts.remove(0)
+}
+
+/// The disc that the session leaves, and the table.
+fn played() -> (Disc, String) {
+    let mut out = Vec::new();
+    let (disc, _) = play(&Run::of_part(part()), &mut out).expect("memory takes everything");
+    (disc, String::from_utf8(out).expect("text"))
+}
+
+/// The lines of each command in the table, without the number and the indentation.
+fn blocks(table: &str) -> Vec<Vec<&str>> {
+    let mut blocks: Vec<Vec<&str>> = Vec::new();
+    for line in table.lines().skip_while(|line| !line.starts_with("---")).skip(1) {
+        match line.strip_prefix("     ") {
+            Some(under) => blocks.last_mut().expect("a command stands above").push(under),
+            None => blocks.push(vec![&line[5..]]),
+        }
+    }
+    blocks
+}
+
 #[test]
 fn answers_are_those_of_the_script() {
-    let (_, table) = played(part(SCRIPT));
+    let (_, table) = played();
     let rows: Vec<&str> = blocks(&table).iter().map(|block| block[0]).collect();
     assert_eq!(rows, ROWS);
 }
 
 #[test]
 fn replies_are_told() {
-    let (_, table) = played(part(SCRIPT));
+    let (_, table) = played();
     let told: Vec<(usize, &str)> = (1..)
         .zip(blocks(&table))
-        .filter_map(|(number, block)| Some((number, *reply(&block).first()?)))
+        .filter_map(|(number, block)| {
+            Some((number, *block.iter().find(|line| line.starts_with("reply of "))?))
+        })
         .collect();
     assert_eq!(told, REPLIES);
 }
@@ -138,9 +158,10 @@ fn replies_are_told() {
 /// Of GET CONFIGURATION every feature is named, and every byte shown.
 #[test]
 fn features_are_named() {
-    let (_, table) = played(part(SCRIPT));
+    let (_, table) = played();
+    let block = blocks(&table).swap_remove(2);
     assert_eq!(
-        reply(&blocks(&table)[2]),
+        block[2..],
         [
             "reply of 100 bytes: profile 001Bh DVD+R, 10 features",
             "0000h Profile List         0001h Core                 0002h Morphing             0003h Removable Medium",
@@ -153,35 +174,23 @@ fn features_are_named() {
     );
 }
 
-/// READ TOC has the tracks where READ TRACK INFORMATION has told of them, since every session has one.
-#[test]
-fn contents_are_told() {
-    let (_, table) = played(part(SCRIPT));
-    let blocks = blocks(&table);
-    assert_eq!(
-        reply(&blocks[39]),
-        [
-            "reply of 36 bytes: closed sessions 1 to 3",
-            "session 1 at 0     session 2 at 2096  session 3 at 4192  lead-out at 4208",
-            "00 22 01 03 00 14 01 00 00 00 00 00 00 14 02 00 00 00 08 30 00 14 03 00 00 00 10 60 00 14 AA 00 00 00 10 70",
-        ]
-    );
-    assert_eq!(
-        reply(&blocks[40]),
-        [
-            "reply of 12 bytes: closed sessions 1 to 3",
-            "session 3 at 4192",
-            "00 0A 01 03 00 14 03 00 00 00 10 60",
-        ]
-    );
+/// Sends every command, and gives each with its data and its outcome.
+fn sent() -> Vec<(Cdb, Vec<u8>, Outcome)> {
+    let mut disc = Disc::blank(300).expect("a capacity");
+    let send = |command: &script::Command| {
+        let data = data_bytes(&command.data, &command.cdb).expect("memory");
+        let outcome = disc.send(&command.cdb, &data).expect("memory");
+        (command.cdb, data.to_vec(), outcome)
+    };
+    part().commands().map(send).collect()
 }
 
 #[test]
 fn who_is_there_is_told_byte_for_byte() {
-    let replies: Vec<Vec<u8>> = sent(&part(SCRIPT))
+    let replies: Vec<Vec<u8>> = sent()
         .iter()
-        .filter(|sent| [cdb::INQUIRY, cdb::GET_CONFIGURATION].contains(&sent.cdb[0]))
-        .map(|sent| sent.outcome.reply().to_vec())
+        .filter(|(cdb, ..)| [cdb::INQUIRY, cdb::GET_CONFIGURATION].contains(&cdb[0]))
+        .map(|(_, _, outcome)| outcome.reply().to_vec())
         .collect();
     let (header, whole) = (bytes(CONFIGURATION[0]), bytes(&CONFIGURATION.join(" ")));
     let one = bytes(DVD_PLUS_R);
@@ -193,17 +202,17 @@ fn who_is_there_is_told_byte_for_byte() {
 /// The three tracks come back as the WRITEs brought them, the reserved one filled up with zeros.
 #[test]
 fn tracks_are_read_back() {
-    let sent = sent(&part(SCRIPT));
+    let sent = sent();
     let written = |first: u32, end: u32| -> Vec<u8> {
-        let writes = sent.iter().filter(|sent| {
-            cdb::is_write(&sent.cdb) && (first..end).contains(&cdb::value(&sent.cdb))
-        });
-        writes.flat_map(|sent| sent.data.clone()).collect()
+        let writes = sent
+            .iter()
+            .filter(|(cdb, ..)| cdb::is_write(cdb) && (first..end).contains(&cdb::value(cdb)));
+        writes.flat_map(|(_, data, _)| data.clone()).collect()
     };
     let read: Vec<&[u8]> = sent
         .iter()
-        .filter(|sent| cdb::is_read(&sent.cdb) && sent.outcome.answer.is_ok())
-        .map(|sent| sent.outcome.reply())
+        .filter(|(cdb, _, outcome)| cdb::is_read(cdb) && outcome.answer.is_ok())
+        .map(|(_, _, outcome)| outcome.reply())
         .collect();
     let mut second = written(2_096, 2_144);
     assert_eq!(second.len(), 32 * SECTOR_BYTES);
@@ -214,7 +223,7 @@ fn tracks_are_read_back() {
 
 #[test]
 fn disc_is_burned() {
-    let (disc, _) = played(part(SCRIPT));
+    let (disc, _) = played();
     assert_eq!(
         fragment_list(&disc),
         [

@@ -3,7 +3,7 @@
 
 use demo::{data_bytes, fragment_list, reply_bytes, Disc, Outcome};
 use gladhamre::{
-    cdb, raw, Lent, Record, Refusal, State, BLOCK_BYTES, RECORD_LIMIT, SECTOR_BYTES, STATE_WORDS,
+    cdb, raw, Lent, Refusal, State, BLOCK_BYTES, RECORD_LIMIT, SECTOR_BYTES, STATE_WORDS,
 };
 use mapped::Mapped;
 use std::collections::BTreeSet;
@@ -246,7 +246,6 @@ fn command_of(row: &str) -> cdb::Cdb {
             cdb
         }
         row if row.contains("INQUIRY of 36") => cdb::inquiry(36),
-        row if row.contains("READ TOC of 65,535") => read_toc_of(row),
         row if row.contains("of type 3") => cdb::get_configuration(3, 0, u16::MAX),
         row if row.contains("GET CONFIGURATION of 65,535") => {
             cdb::get_configuration(cdb::ALL_FEATURES, 0, u16::MAX)
@@ -254,25 +253,6 @@ fn command_of(row: &str) -> cdb::Cdb {
         row if row.contains("opcode 4Ah") => cdb::opcode_only(0x4A),
         _ => cdb::opcode_only(cdb::TEST_UNIT_READY),
     }
-}
-
-fn read_toc_of(row: &str) -> cdb::Cdb {
-    let (form, start) = match row {
-        row if row.contains(" in form 1 ") => (cdb::LAST_CLOSED_SESSION, 0),
-        row if row.contains(" in form 2 ") => (2, 0),
-        row if row.contains(" from number 2 ") => (cdb::CLOSED_SESSIONS, 2),
-        _ => (cdb::CLOSED_SESSIONS, 0),
-    };
-    cdb::read_toc(form, false, start, u16::MAX)
-}
-
-/// The state after a WRITE 0 of 16 and CLOSE 010.
-fn closed_session() -> Vec<u32> {
-    let mut disc = blank(256);
-    for (cdb, data) in [(cdb::write(0, 16), BLOCK_BYTES), (cdb::close(cdb::SESSION, 0), 0)] {
-        disc.send(&cdb, &zeros(data)).expect("memory").answer.expect("it is accepted");
-    }
-    disc.state.words().to_vec()
 }
 
 /// The number in a row between these words and its last ones.
@@ -283,9 +263,6 @@ fn counted(row: &str, before: &str, last: &str) -> Option<usize> {
 /// The buffers that it is lent there.
 fn lent(row: &str) -> Buffers {
     let mut lent = Buffers::fitting(command_of(row));
-    if row.contains(" of the closed session ") {
-        lent.state = closed_session();
-    }
     if let Some(length) = counted(row, " with ", " bytes of data") {
         lent.data = zeros(length);
         return lent;
@@ -318,7 +295,7 @@ fn lent(row: &str) -> Buffers {
 fn link_refusals_are_what_the_drive_answers() {
     let manual = manual();
     let rows = table(&manual, "| Lent | Answer |");
-    assert_eq!(rows.len(), 32);
+    assert_eq!(rows.len(), 24);
     for row in rows {
         assert_eq!(lent(row[0]).answer(), row[1], "{}", row[0]);
     }
@@ -340,74 +317,6 @@ fn features_are_what_the_drive_sends() {
     let all = cdb::get_configuration(cdb::ALL_FEATURES, 0, u16::MAX);
     let outcome = blank(256).send(&all, &[]).expect("memory");
     assert_eq!(outcome.reply()[cdb::CONFIGURATION_HEADER_LENGTH..], descriptors.concat());
-}
-
-/// A finalized disc of the largest capacity, a session of one fragment for each first block and length.
-fn finalized(sessions: &[(u32, u32)]) -> State {
-    let mut state = State::blank(143_444).expect("a capacity");
-    state.words_mut()[1] = 1;
-    for (index, &(start, length)) in sessions.iter().enumerate() {
-        let session = index as u32 + 1;
-        let record = Record { session, start, length, recorded: length, zero_filled: 0, kind: 1 };
-        state.set_record(index, record);
-    }
-    state
-}
-
-/// What the drive replies to a 43h, which looks at no byte of the medium.
-fn contents(mut state: State, cdb: &cdb::Cdb) -> Vec<u8> {
-    let mut medium = zeros(state.capacity() as usize * BLOCK_BYTES);
-    let mut pending = vec![0; BLOCK_BYTES];
-    let mut reply = vec![0; cdb::TOC_LENGTH];
-    let (medium, pending) = (&mut medium, &mut pending);
-    let lent = Lent { cdb, data: &[], medium, pending, reply: &mut reply };
-    let accepted = state.command(lent).expect("sessions are closed");
-    reply.truncate(accepted.reply_count as usize);
-    reply
-}
-
-/// The manual's table of times has what the drive tells where a session begins at that sector, and where
-/// the lead-out does.
-#[test]
-fn times_are_what_the_drive_tells() {
-    let manual = manual();
-    let rows = table(&manual, "| Sector | Its time | Bytes 4-7 |");
-    assert_eq!(rows.len(), 9);
-    for row in rows {
-        let block = row[0].replace(',', "").parse::<u32>().expect("a sector") / 16;
-        let starting = match block {
-            0 => finalized(&[(0, 1)]),
-            block => finalized(&[(0, block - 128), (block, 1)]),
-        };
-        let last = cdb::read_toc(cdb::LAST_CLOSED_SESSION, true, 0, u16::MAX);
-        let mut told = vec![contents(starting, &last)];
-        if block > 0 {
-            let lead_out = cdb::read_toc(cdb::CLOSED_SESSIONS, true, cdb::LEAD_OUT, u16::MAX);
-            told.push(contents(finalized(&[(0, block)]), &lead_out));
-        }
-        for reply in told {
-            let bytes = &reply[8..12];
-            assert_eq!(reply_bytes(bytes), row[2], "{}", row[0]);
-            assert_eq!(format!("{}:{:02}:{:02}", bytes[1], bytes[2], bytes[3]), row[1]);
-        }
-    }
-}
-
-/// The shortest and the longest reply to 43h, in the manual and in the header.
-#[test]
-fn contents_are_as_long_as_documented() {
-    let sessions: Vec<(u32, u32)> = (0..RECORD_LIMIT as u32).map(|at| (129 * at, 1)).collect();
-    let length = |sessions: &[(u32, u32)], start: u8| {
-        let cdb = cdb::read_toc(cdb::CLOSED_SESSIONS, false, start, u16::MAX);
-        contents(finalized(sessions), &cdb).len()
-    };
-    let (shortest, longest) = (length(&sessions[..1], cdb::LEAD_OUT), length(&sessions, 0));
-    assert_eq!((shortest, longest), (12, cdb::TOC_LENGTH));
-    let manual = manual().replace(',', "");
-    let row = format!("| uncut replies of 43h | {shortest} to {longest} bytes |");
-    assert!(manual.contains(&row), "{row}");
-    let header = fs::read_to_string(format!("{ROOT}/include/gladhamre.h")).expect("it is there");
-    assert!(header.contains(&format!("#define GLADHAMRE_LONGEST_REPORT {longest}u ")));
 }
 
 /// The manual's table of numbers has those of the linked drive and its wrapper.

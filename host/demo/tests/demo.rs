@@ -481,7 +481,7 @@ fn program_ends_as_it_should() {
     assert_eq!(bad.status.code(), Some(2));
     let says = String::from_utf8_lossy(&bad.stderr).into_owned();
     assert!(
-        says.ends_with("bad.txt: line 2: \"0x2A\" is neither bytes in hexadecimal nor one of the words `disc`, `survey`, `inquiry`, `configuration`, `toc` and `data`\n"),
+        says.ends_with("bad.txt: line 2: \"0x2A\" is neither bytes in hexadecimal nor one of the words `disc`, `survey`, `inquiry`, `configuration` and `data`\n"),
         "{says}"
     );
     assert_eq!(demo(&["--what"]).status.code(), Some(2));

@@ -1,18 +1,19 @@
 //! INQUIRY and GET CONFIGURATION in the table: what each form asks for, and what its reply says.
 
-mod table;
-
+use demo::{play, Run};
 use std::path::Path;
-use table::{blocks, played, reply};
 
 /// The lines of the table for one line of a script, on a blank disc: the command with its answer, the
 /// reply in words, the names of features, the reply's bytes.
 fn told(line: &str) -> Vec<String> {
     let mut parts = script::parse(line, Path::new("")).expect("a good script");
-    let (_, table) = played(parts.remove(0));
-    let block = blocks(&table).remove(0);
-    let lines = [&block[..1], &reply(&block)].concat();
-    lines.into_iter().map(str::to_owned).collect()
+    let mut out = Vec::new();
+    play(&Run::of_part(parts.remove(0)), &mut out).expect("memory takes everything");
+    let table = String::from_utf8(out).expect("text");
+    let lines = table.lines().skip_while(|line| !line.starts_with("  1  "));
+    let lines: Vec<&str> = lines.map(|line| line[5..].trim_end()).collect();
+    // under the first line stand the command block and the list of fragments, a line for both
+    [&lines[..1], &lines[2..]].concat().into_iter().map(str::to_owned).collect()
 }
 
 /// The first line: the command, and whether it is accepted.

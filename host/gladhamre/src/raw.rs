@@ -9,9 +9,8 @@ pub struct Lent<'a> {
     pub data: &'a [u8],
     pub medium: &'a mut [u8],
     pub pending: &'a mut [u8],
-    /// At least [`cdb::reply_room`] bytes; of 43h the disc decides how many, [`cdb::toc_room`], and that
-    /// is never more. Data and room are asked for also where the drive will refuse the command, so a
-    /// READ (12) may ask for terabytes; only a 12h, 43h or 46h that it will refuse needs no room.
+    /// At least [`cdb::reply_room`] bytes. Both lengths are asked for also where the drive will refuse
+    /// the command: a READ (12) may ask for terabytes.
     pub reply: &'a mut [u8],
 }
 

@@ -1,15 +1,12 @@
 //! A command block's fields, and the lengths of data and reply buffer that go with them (L4).
 
 use crate::configuration::{self, Request};
-use crate::contents::{self, ReadToc};
-use crate::disc::Disc;
 use crate::inquiry::{self, Inquiry};
 use crate::reply;
 use crate::units::sector_bytes;
 use crate::{Address, Fault, Refusal};
 
 pub(crate) const INQUIRY: u8 = 0x12;
-pub(crate) const READ_TOC: u8 = 0x43;
 pub(crate) const GET_CONFIGURATION: u8 = 0x46;
 /// READ (12) and WRITE (12): the same commands with a length of four bytes.
 pub(crate) const READ_12: u8 = 0xA8;
@@ -25,7 +22,6 @@ pub enum Command {
     Read { from: Address, sectors: u64 },
     Write { to: Address, sectors: u64 },
     SynchronizeCache,
-    ReadToc(ReadToc),
     GetConfiguration(Request),
     Reserve { sectors: u64 },
     Close { function: u8, number: u64 },
@@ -55,7 +51,6 @@ impl Command {
                 None => Command::Unlisted,
             },
             0x35 => Command::SynchronizeCache,
-            READ_TOC => Command::ReadToc(ReadToc::decode(cdb, fault)),
             GET_CONFIGURATION => Command::GetConfiguration(Request::decode(cdb, fault)),
             0x53 => Command::Reserve { sectors: four(5) },
             0x5B => Command::Close { function: cdb[2] & 0b111, number: two(4) },
@@ -72,18 +67,22 @@ impl Command {
     }
 
     /// L4: the data must be exactly what the command takes, and the reply buffer hold what it can
-    /// send on that disc. Where the drive will refuse it, 12h, 43h and 46h can send nothing; all others
-    /// can as if it did not.
-    pub fn check_transfer(self, disc: &Disc, data: usize, reply: usize) -> Result<(), Refusal> {
-        let fault = disc.fault;
+    /// send. Where the drive will refuse it, 12h and 46h can send nothing; all others can as if it
+    /// did not.
+    pub fn check_transfer(
+        self,
+        data: usize,
+        reply: usize,
+        fault: Option<Fault>,
+    ) -> Result<(), Refusal> {
         let data_wanted = match fault {
             Some(Fault::DataLengthWraps) => self.data_wanted() as u32 as usize,
             _ => self.data_wanted(),
         };
         let room_wanted = match fault {
-            Some(Fault::ReplyRoomWraps) => self.reply_room_wanted(disc) as u32 as usize,
+            Some(Fault::ReplyRoomWraps) => self.reply_room_wanted(fault) as u32 as usize,
             Some(Fault::ReadTwelveReplyCut | Fault::RoomUntested) => 0,
-            _ => self.reply_room_wanted(disc),
+            _ => self.reply_room_wanted(fault),
         };
         let data_fits = data == data_wanted || fault == Some(Fault::DataUntested);
         if data_fits && reply >= room_wanted {
@@ -100,16 +99,11 @@ impl Command {
         }
     }
 
-    fn reply_room_wanted(self, disc: &Disc) -> usize {
-        let fault = disc.fault;
+    fn reply_room_wanted(self, fault: Option<Fault>) -> usize {
         match self {
             Command::Inquiry(inquiry) => {
                 let whole = inquiry.reply(fault).map(|reply| reply.len());
                 cut_size(whole, inquiry::BYTES, inquiry.allocation, fault)
-            }
-            Command::ReadToc(asked) => {
-                let whole = disc.contents_length(asked);
-                cut_size(whole, contents::MOST_BYTES, asked.allocation, fault)
             }
             Command::GetConfiguration(request) => {
                 let whole = request.reply_length(fault);

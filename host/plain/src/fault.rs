@@ -1,8 +1,8 @@
 //! Deliberate mistakes, one at a time. Each is tested at one place of the drive.
 
-use crate::command::{GET_CONFIGURATION, INQUIRY, READ_12, READ_TOC, WRITE_12};
+use crate::command::{GET_CONFIGURATION, INQUIRY, READ_12, WRITE_12};
 use crate::halving::{self, Search, Slip};
-use crate::{ConfigurationSlip, ContentsSlip, InquirySlip, Rule};
+use crate::{ConfigurationSlip, InquirySlip, Rule};
 
 /// The most fragments that a disc had before the limit was raised.
 pub(crate) const FORMER_LIMIT: usize = 64;
@@ -211,10 +211,6 @@ pub enum Fault {
     Inquiry(InquirySlip),
     /// 12h, and no other command, makes this mistake.
     InInquiry(&'static Fault),
-    /// 43h makes this mistake of its own.
-    Contents(ContentsSlip),
-    /// 43h, and no other command, makes this mistake.
-    InContents(&'static Fault),
     /// 46h makes this mistake of its own.
     Configuration(ConfigurationSlip),
     /// 46h, and no other command, makes this mistake.
@@ -227,21 +223,12 @@ impl Fault {
     /// Every mistake, with every rule that can be left untested.
     pub fn all() -> Vec<Fault> {
         let rules = Rule::ALL.map(Fault::RuleUntested);
-        let on_large_discs = ContentsSlip::OF_LATE_TIMES.map(Fault::Contents);
-        let of_states = rules.into_iter().chain(on_large_discs).chain([Fault::FullListTooLow]);
-        Self::of_commands().chain(of_states).collect()
+        Self::of_commands().chain(rules).chain([Fault::FullListTooLow]).collect()
     }
 
-    /// The mistakes that commands on discs of a few sessions can show, those of halving last.
+    /// The mistakes that commands on sound states can show, those of halving last.
     pub fn of_commands() -> impl Iterator<Item = Fault> {
-        let of_reports = Self::of_contents().chain(Self::of_identity());
-        Self::OF_COMMANDS.into_iter().chain(of_reports).chain(halving::faults())
-    }
-
-    /// The mistakes of 43h that discs of any size can show.
-    pub fn of_contents() -> impl Iterator<Item = Fault> {
-        let of_contents = ContentsSlip::OF_ANY_DISC.map(Fault::Contents);
-        of_contents.into_iter().chain(Self::OF_REPORTS.iter().map(Fault::InContents))
+        Self::OF_COMMANDS.into_iter().chain(Self::of_identity()).chain(halving::faults())
     }
 
     /// The mistakes of the commands that say what the drive is, 12h and 46h.
@@ -257,7 +244,6 @@ impl Fault {
     const OF_REPORTS: &'static [Fault] = &[
         Fault::Unlisted,
         Fault::FlushOnAcceptance,
-        Fault::FlushOnRefusal,
         Fault::SenseKept,
         Fault::SenseUnset,
         Fault::TransferTestedLate,
@@ -363,9 +349,7 @@ impl Fault {
     /// The mistake that is made with this command block, if it meets one.
     pub(crate) fn met_by(self, cdb: &[u8; 12]) -> Option<Fault> {
         let fault = match self {
-            Fault::InInquiry(fault) | Fault::InContents(fault) | Fault::InConfiguration(fault) => {
-                *fault
-            }
+            Fault::InInquiry(fault) | Fault::InConfiguration(fault) => *fault,
             _ => self,
         };
         self.is_met_by(cdb).then_some(fault)
@@ -376,7 +360,6 @@ impl Fault {
     fn is_met_by(self, cdb: &[u8; 12]) -> bool {
         match self {
             Fault::Inquiry(_) | Fault::InInquiry(_) => cdb[0] == INQUIRY,
-            Fault::Contents(_) | Fault::InContents(_) => cdb[0] == READ_TOC,
             Fault::Configuration(_) | Fault::InConfiguration(_) => cdb[0] == GET_CONFIGURATION,
             Fault::ReadTwelveUnlisted
             | Fault::ReadTwelveLengthOfTen

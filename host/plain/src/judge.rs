@@ -3,7 +3,6 @@
 
 use crate::command::Command;
 use crate::configuration::{self, Request};
-use crate::contents::ReadToc;
 use crate::disc::Disc;
 use crate::fault::FORMER_LIMIT;
 use crate::halving::Search;
@@ -16,7 +15,7 @@ use crate::{Address, Block, ConfigurationSlip, Fault, Kind, Sense, BLOCK_SECTORS
 pub(crate) const SESSION_GAP: u64 = 128;
 
 /// What an accepted command does.
-#[derive(Clone, Debug)]
+#[derive(Clone, Copy, Debug)]
 pub(crate) enum Step {
     Nothing,
     Send(Report),
@@ -41,7 +40,6 @@ impl Disc {
             Command::Read { from, sectors } => self.judge_read(from, sectors),
             Command::Write { to, sectors } => self.judge_write(to, sectors),
             Command::SynchronizeCache => Ok(Step::Flush),
-            Command::ReadToc(asked) => self.judge_contents(asked),
             Command::GetConfiguration(request) => self.judge_configuration(request),
             Command::Reserve { sectors } => self.judge_reserve(sectors),
             Command::Close { function, number } => self.judge_close(function, number),
@@ -65,13 +63,6 @@ impl Disc {
     fn judge_inquiry(&self, inquiry: Inquiry) -> Result<Step, Sense> {
         let reply = inquiry.reply(self.fault).ok_or(Sense::INVALID_FIELD)?;
         Ok(self.send(&reply, inquiry.allocation))
-    }
-
-    /// 43h: 5/24/00 without a closed session, for a form from 2 on, and in form 0 for a starting number
-    /// that is not 0, AAh or a closed session's.
-    fn judge_contents(&self, asked: ReadToc) -> Result<Step, Sense> {
-        let reply = self.contents(asked).ok_or(Sense::INVALID_FIELD)?;
-        Ok(self.send(&reply, asked.allocation))
     }
 
     /// 46h: 5/24/00 for request type 3.

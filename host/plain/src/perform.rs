@@ -37,7 +37,7 @@ impl Disc {
         let late =
             self.slips(Fault::TransferTestedLate) || self.slips(Fault::TwelveTransferTestedLate);
         if !(late && judged.is_err()) {
-            command.check_transfer(self, lent.data.len(), lent.reply.len())?;
+            command.check_transfer(lent.data.len(), lent.reply.len(), self.fault)?;
         }
         match judged {
             Ok(step) => {

@@ -10,32 +10,26 @@ pub const CAPACITY_BYTES: usize = 8;
 pub const DISC_INFORMATION_BYTES: usize = 34;
 pub const FRAGMENT_INFORMATION_BYTES: usize = 36;
 
-/// The most bytes of a reply that is held in place: no table of contents of many sessions.
-const SHORT_BYTES: usize = configuration::MOST_BYTES;
+/// The most bytes that a reply without sectors has.
+const MOST_BYTES: usize = configuration::MOST_BYTES;
 
-/// The bytes of a reply without sectors, cut to the allocation length.
-#[derive(Clone, Debug)]
-pub enum Report {
-    Short { bytes: [u8; SHORT_BYTES], count: usize },
-    Long(Vec<u8>),
+/// The bytes of a reply, cut to the allocation length.
+#[derive(Clone, Copy, Debug)]
+pub struct Report {
+    bytes: [u8; MOST_BYTES],
+    count: usize,
 }
 
 impl Report {
     pub fn cut(reply: &[u8], allocation: usize) -> Report {
-        let cut = &reply[..reply.len().min(allocation)];
-        if cut.len() > SHORT_BYTES {
-            return Report::Long(cut.to_vec());
-        }
-        let mut bytes = [0; SHORT_BYTES];
-        bytes[..cut.len()].copy_from_slice(cut);
-        Report::Short { bytes, count: cut.len() }
+        let count = reply.len().min(allocation);
+        let mut bytes = [0; MOST_BYTES];
+        bytes[..count].copy_from_slice(&reply[..count]);
+        Report { bytes, count }
     }
 
     pub fn bytes(&self) -> &[u8] {
-        match self {
-            Report::Short { bytes, count } => &bytes[..*count],
-            Report::Long(bytes) => bytes,
-        }
+        &self.bytes[..self.count]
     }
 }
 

@@ -156,7 +156,6 @@ fn asked(words: &[&str], folder: &Path, capacity: u32) -> Result<Line, String> {
         ["survey", rest @ ..] => Survey::of(rest, capacity).map(Line::Survey),
         ["inquiry", rest @ ..] => questions::inquiry(rest).map(Line::without_data),
         ["configuration", rest @ ..] => questions::configuration(rest).map(Line::without_data),
-        ["toc", rest @ ..] => questions::toc(rest).map(Line::without_data),
         _ => command(words, folder, capacity).map(Line::Command),
     }
 }
@@ -191,7 +190,7 @@ fn hex_bytes(word: &str) -> Result<Vec<u8>, String> {
     let digits = digits.ok_or_else(|| {
         format!(
             "\"{word}\" is neither bytes in hexadecimal nor one of the words `disc`, `survey`, \
-             `inquiry`, `configuration`, `toc` and `data`"
+             `inquiry`, `configuration` and `data`"
         )
     })?;
     if digits.len() % 2 != 0 {

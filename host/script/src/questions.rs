@@ -1,10 +1,7 @@
-//! `inquiry`, `configuration TYPE START` and `toc FORM START time`: what a host asks of a drive and of
-//! its disc, INQUIRY, GET CONFIGURATION and READ TOC with room for the whole reply.
+//! `inquiry` and `configuration TYPE START`: what a burning program asks before anything else, INQUIRY
+//! and GET CONFIGURATION with room for the whole reply.
 
-use cdb::{Cdb, ALL_FEATURES, CLOSED_SESSIONS, CONFIGURATION_LENGTH, INQUIRY_LENGTH, TOC_LENGTH};
-
-/// The forms of READ TOC that a command block can ask for.
-const FORMS: u8 = 16;
+use cdb::{Cdb, ALL_FEATURES, CONFIGURATION_LENGTH, INQUIRY_LENGTH};
 
 /// What stands after the word `inquiry`: nothing.
 pub(crate) fn inquiry(words: &[&str]) -> Result<Cdb, String> {
@@ -33,44 +30,14 @@ fn request_type(word: &str) -> Result<u8, String> {
     }
 }
 
+/// One to four hexadecimal digits.
 fn starting_feature(word: &str) -> Result<u16, String> {
-    hex_number(word, 4).ok_or_else(|| {
-        format!("`configuration` takes a starting feature of 0000 to FFFF, not \"{word}\"")
-    })
-}
-
-/// What stands after the word `toc`: form and starting number, both 0 where they are missing, and at
-/// the end `time` where the addresses shall be times.
-pub(crate) fn toc(words: &[&str]) -> Result<Cdb, String> {
-    let (words, time) = match words {
-        [words @ .., "time"] => (words, true),
-        words => (words, false),
-    };
-    let (form, start) = match *words {
-        [] => (CLOSED_SESSIONS, 0),
-        [form] => (toc_form(form)?, 0),
-        [form, start] => (toc_form(form)?, starting_number(start)?),
-        _ => return Err("write `toc`, a form, a starting number and `time`".into()),
-    };
-    Ok(cdb::read_toc(form, time, start, TOC_LENGTH as u16))
-}
-
-fn toc_form(word: &str) -> Result<u8, String> {
-    (0..FORMS)
-        .find(|form| form.to_string() == word)
-        .ok_or_else(|| format!("`toc` takes a form of 0 to {}, not \"{word}\"", FORMS - 1))
-}
-
-fn starting_number(word: &str) -> Result<u8, String> {
-    hex_number(word, 2)
-        .and_then(|number| number.try_into().ok())
-        .ok_or_else(|| format!("`toc` takes a starting number of 00 to FF, not \"{word}\""))
-}
-
-/// A number of so many hexadecimal digits at the most.
-fn hex_number(word: &str, digits: usize) -> Option<u16> {
-    let number = u16::from_str_radix(word, 16).ok()?;
-    (word.len() <= digits && !word.starts_with('+')).then_some(number)
+    match u16::from_str_radix(word, 16) {
+        Ok(number) if word.len() <= 4 && !word.starts_with('+') => Ok(number),
+        _ => {
+            Err(format!("`configuration` takes a starting feature of 0000 to FFFF, not \"{word}\""))
+        }
+    }
 }
 
 #[cfg(test)]

@@ -102,7 +102,7 @@ fn surveys_are_read() {
     assert_eq!(every_sector.cdbs().count(), 2_295_104);
 }
 
-/// `inquiry`, `configuration` and `toc` are a command block each, with room for the whole reply.
+/// `inquiry` and `configuration` are a command block each, with room for the whole reply.
 #[test]
 fn questions_are_read() {
     for (text, cdb) in [
@@ -113,17 +113,6 @@ fn questions_are_read() {
         ("configuration 0 0100", cdb::get_configuration(0, 0x0100, 100)),
         ("configuration 2 2b", cdb::get_configuration(2, 0x002B, 100)),
         ("configuration 3 FFFF", cdb::get_configuration(3, 0xFFFF, 100)),
-        ("toc", cdb::read_toc(0, false, 0, 1_292)),
-        ("disc 256\n toc\ttime # both", cdb::read_toc(0, true, 0, 1_292)),
-        ("toc 0", cdb::read_toc(0, false, 0, 1_292)),
-        ("toc 1", cdb::read_toc(1, false, 0, 1_292)),
-        ("toc 1 time", cdb::read_toc(1, true, 0, 1_292)),
-        ("toc 9", cdb::read_toc(9, false, 0, 1_292)),
-        ("toc 15 ff time", cdb::read_toc(15, true, 0xFF, 1_292)),
-        ("toc 0 AA", cdb::read_toc(0, false, 0xAA, 1_292)),
-        ("toc 0 aA time", cdb::read_toc(0, true, 0xAA, 1_292)),
-        ("toc 0 2", cdb::read_toc(0, false, 2, 1_292)),
-        ("toc 10 10", cdb::read_toc(10, false, 0x10, 1_292)),
     ] {
         let parts = parsed(text).expect("a good script");
         assert_eq!(parts[0].lines.len(), 1, "{text:?}");
@@ -142,13 +131,13 @@ macro_rules! no_word {
             ": \"",
             $word,
             "\" is neither bytes in hexadecimal nor one of the words `disc`, `survey`, `inquiry`, \
-             `configuration`, `toc` and `data`"
+             `configuration` and `data`"
         )
     };
 }
 
 /// What is neither a command block nor a word for one, with the message; tools/trace says the same.
-const NO_CDBS: [(&str, &str); 57] = [
+const NO_CDBS: [(&str, &str); 37] = [
     ("", "line 1: the script has no command"),
     ("# nothing\n\n", "line 2: the script has no command"),
     ("hello world", no_word!(1, "hello")),
@@ -207,26 +196,6 @@ const NO_CDBS: [(&str, &str); 57] = [
         "configuration 2 +2B",
         "line 1: `configuration` takes a starting feature of 0000 to FFFF, not \"+2B\"",
     ),
-    ("43 toc", no_word!(1, "toc")),
-    ("TOC", no_word!(1, "TOC")),
-    ("time", no_word!(1, "time")),
-    ("toc 0 AA 100", "line 1: write `toc`, a form, a starting number and `time`"),
-    ("00\ntoc 0 AA 100 time", "line 2: write `toc`, a form, a starting number and `time`"),
-    ("toc 0 00 data fill A1", "line 1: write `toc`, a form, a starting number and `time`"),
-    ("toc 16", "line 1: `toc` takes a form of 0 to 15, not \"16\""),
-    ("toc 00", "line 1: `toc` takes a form of 0 to 15, not \"00\""),
-    ("toc 01 AA", "line 1: `toc` takes a form of 0 to 15, not \"01\""),
-    ("toc +1", "line 1: `toc` takes a form of 0 to 15, not \"+1\""),
-    ("toc 1.0", "line 1: `toc` takes a form of 0 to 15, not \"1.0\""),
-    ("toc -1 time", "line 1: `toc` takes a form of 0 to 15, not \"-1\""),
-    ("\ntoc AA", "line 2: `toc` takes a form of 0 to 15, not \"AA\""),
-    ("toc time 1", "line 1: `toc` takes a form of 0 to 15, not \"time\""),
-    ("toc time time", "line 1: `toc` takes a form of 0 to 15, not \"time\""),
-    ("toc data", "line 1: `toc` takes a form of 0 to 15, not \"data\""),
-    ("toc 0 100", "line 1: `toc` takes a starting number of 00 to FF, not \"100\""),
-    ("toc 0 001 time", "line 1: `toc` takes a starting number of 00 to FF, not \"001\""),
-    ("toc 0 AAh", "line 1: `toc` takes a starting number of 00 to FF, not \"AAh\""),
-    ("toc 0 +A", "line 1: `toc` takes a starting number of 00 to FF, not \"+A\""),
 ];
 
 #[test]
@@ -339,12 +308,8 @@ fn traces_are_made_of_the_same_cdbs() {
         let bytes = (first..=0xFF).take(CDB_LENGTH).map(|byte| format!("{byte:02x}"));
         every_byte += &format!("{}\n", bytes.collect::<Vec<_>>().join(" "));
     }
-    let example = |name| fs::read_to_string(format!("{SCRIPTS}/{name}")).expect("it is there");
-    let twelve_byte = example("twelve-byte.txt");
-    let commands: Vec<&str> =
-        twelve_byte.lines().filter(|line| !line.starts_with("disc")).collect();
-    let forms: Vec<String> =
-        (0..16).flat_map(|form| [format!("toc {form}"), format!("toc {form} 7F time")]).collect();
+    let example = fs::read_to_string(format!("{SCRIPTS}/twelve-byte.txt")).expect("it is there");
+    let commands: Vec<&str> = example.lines().filter(|line| !line.starts_with("disc")).collect();
     for text in [
         "2A 00 00000000 00 0014\n",
         "disc 300\n35 # flush\r\n\n 5B 00\t02",
@@ -357,12 +322,8 @@ fn traces_are_made_of_the_same_cdbs() {
         "inquiry\nconfiguration\n00",
         "disc 300\nconfiguration 1\n configuration 2 002B # DVD+R\nconfiguration 0 1f\r\ninquiry",
         "configuration 3\nconfiguration 0 0\nconfiguration 2 FFFF\nconfiguration 2 10e",
-        "toc\ntoc time\ntoc 0\ntoc 0 time\n00",
-        "disc 300\ntoc 0 AA\r\n toc 0 aa\ttime # lead-out\ntoc 0 1\ntoc 0 0b time\ntoc 1 FF",
-        &forms.join("\n"),
         &every_byte,
         &commands.join("\n"),
-        &example("old-reader.txt"),
     ] {
         let parts = parsed(text).expect("a good script");
         let made = traced(text);

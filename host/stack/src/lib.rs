@@ -16,15 +16,8 @@ use std::sync::Mutex;
 
 /// As much as the measurement tries: some hundred thousand commands, from blank discs and on states
 /// of every kind, with every command answered in every way.
-pub const EFFORT: Effort = Effort {
-    sequences: 100,
-    session_sequences: 1,
-    injected_blocks: 1_000,
-    sound: 5_000,
-    tables: 1,
-    unsound: 50,
-    junk: 2_000,
-};
+pub const EFFORT: Effort =
+    Effort { sequences: 100, injected_blocks: 1_000, sound: 5_000, unsound: 50, junk: 2_000 };
 
 /// The numbers of L1 to L4.
 const LINK_REFUSALS: RangeInclusive<u32> = 1..=4;
@@ -36,8 +29,8 @@ pub type Depths = BTreeMap<(&'static str, u32), usize>;
 #[derive(Default)]
 pub struct Measurement {
     pub depths: Depths,
-    /// The commands that reached the drive on a full list, with their answers.
-    pub on_full_lists: BTreeSet<(&'static str, u32)>,
+    /// The commands that reached the drive on a full list.
+    pub on_full_lists: BTreeSet<&'static str>,
 }
 
 /// The linked drive on a painted stack.
@@ -56,7 +49,7 @@ impl Measured {
         let most = measurement.depths.entry((name, number)).or_default();
         *most = depth.max(*most);
         if list_is_full && !LINK_REFUSALS.contains(&number) {
-            measurement.on_full_lists.insert((name, number));
+            measurement.on_full_lists.insert(name);
         }
     }
 }

@@ -9,7 +9,7 @@ const ROUNDING: usize = 1_024;
 const MOST: usize = 20 * 1_024;
 
 /// Every command that can be accepted.
-const COMMANDS: [&str; 21] = [
+const COMMANDS: [&str; 19] = [
     "00h",
     "03h",
     "12h",
@@ -19,8 +19,6 @@ const COMMANDS: [&str; 21] = [
     "A8h READ (12)",
     "AAh WRITE (12)",
     "35h",
-    "43h form 0",
-    "43h form 1",
     "46h type 0",
     "46h type 1",
     "46h type 2",
@@ -33,10 +31,6 @@ const COMMANDS: [&str; 21] = [
     "5Bh CLOSE 110",
 ];
 
-/// Answers of 43h on a full list: its reply is the longest there.
-const TABLES: [(&str, u32); 4] =
-    [("43h form 0", 0), ("43h form 0", 0x052400), ("43h form 1", 0), ("43h other form", 0x052400)];
-
 /// Every refusal: L1 to L4, then document 01's table of senses.
 const REFUSALS: [u32; 14] = [
     1, 2, 3, 4, 0x052000, 0x072700, 0x052400, 0x052100, 0x080000, 0x052102, 0x057203, 0x057204,
@@ -47,12 +41,7 @@ fn assert_all_measured(measurement: &Measurement) {
     let Measurement { depths, on_full_lists } = measurement;
     for name in COMMANDS {
         assert!(depths.contains_key(&(name, 0)), "{name} was never accepted");
-        let came = on_full_lists.iter().any(|&(command, _)| command == name);
-        assert!(came, "{name} never came on a full list");
-    }
-    for (name, number) in TABLES {
-        let came = on_full_lists.contains(&(name, number));
-        assert!(came, "{name} never got {number:06X} on a full list");
+        assert!(on_full_lists.contains(name), "{name} never came on a full list");
     }
     for number in REFUSALS {
         assert!(depths.keys().any(|&(_, given)| given == number), "{number:06X} never came");

@@ -141,8 +141,8 @@ pub flush-finalized : (d : Disc) → (flush d).finalized ≡ d.finalized
 unfolding flush
 flush-finalized d = by_cases (eqb d.pending 0) (λ z. rw z) (λ z. rw z)
 
-pub flush-ready : (d : Disc) → Ready d → Ready (flush d)
-flush-ready d r =
+pub flush_ready : (d : Disc) → Ready d → Ready (flush d)
+flush_ready d r =
     record { sound = rules-sound (flush d) (flush-sound d r); range = rw (flush_capacity d) r.range }
 
 -- nothing pending, nothing flushed

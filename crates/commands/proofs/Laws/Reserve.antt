@@ -78,8 +78,8 @@ module _ (d : Disc) (size : ℕ) (f : d.finalized ≡ false) (z : invalid_size s
         ∙ accept_count d (split_tail d (whole_blocks size)) no_reply no_plan 0 none))))
 
 -- a size that is not refused has a block
-blocks-some : (size : ℕ) → invalid_size size ≡ false → 1 ≤ whole_blocks size
-blocks-some size z =
+blocks_some : (size : ℕ) → invalid_size size ≡ false → 1 ≤ whole_blocks size
+blocks_some size z =
     let some : size ≡ 0 → ⊥ = eqb-false size 0 (or_false_left (eqb size 0) (not (eqb (left_over size) 0)) z) in
     let whole : left_over size ≡ 0 = eqb-true _ _ (not-false _ (or_false_right (eqb size 0) (not (eqb (left_over size) 0)) z)) in
     omega arith
@@ -107,4 +107,4 @@ reserve_cases P d size r refused split =
     (λ u.
     cond_cases P (leb d.capacity (next_fragment_start (end (reserved_at (last_record d) b))).0) _ _ (λ h. refused EndOfUserArea)
     (λ h.
-    split b (blocks-some size z) f (not-false _ t) (splitting d b r (eqb-false _ _ u) (leb-false _ _ h)))))))
+    split b (blocks_some size z) f (not-false _ t) (splitting d b r (eqb-false _ _ u) (leb-false _ _ h)))))))

@@ -1,4 +1,4 @@
--- What is recorded stays recorded: a record with recorded blocks stays at its place, session and start and records no fewer; and which blocks are
+-- What is recorded stays recorded: a record with recorded blocks stays at its place and start and records no fewer; and which blocks are
 -- recorded anew.
 use Prim.Native.Nat.{ℕ, ◌+◌, ◌-◌, ◌≤◌, ◌<◌, suc}
 use mathlib.Core.Path.{◌≡◌, refl, sym, ◌∙◌, ap, subst}
@@ -23,7 +23,6 @@ use Rattle.disc.proofs.Laws.Order.{Ordered, Extends, extended-used, last-used, d
 -- the record f is still at an index of e
 pub record Stays (f : Fragment) (e : Disc) (i : ℕ) : Type 0 where
   pub listed : i < used e
-  pub session : (at e i).session ≡ f.session
   pub start : (at e i).start.0 ≡ f.start.0
   pub recorded : f.recorded ≤ (at e i).recorded
 
@@ -47,7 +46,7 @@ NoBlock x = ⊥
 pub same_onward : (d : Disc) → Onward d d NoBlock
 same_onward d =
     record {
-      stays = λ i h n. record { listed = h; session = refl; start = refl; recorded = omega arith };
+      stays = λ i h n. record { listed = h; start = refl; recorded = omega arith };
       was = λ x h. inl h;
       adds = λ x b. absurd b;
     }
@@ -86,7 +85,6 @@ list-onward d e k B q o =
           let at_same = ap (λ (l : List Fragment). get_or l i unused_record) q in
           record {
             listed = subst (λ (l : List Fragment). i < length (listed l)) q a.listed;
-            session = subst (λ (f : Fragment). f.session ≡ (at d i).session) at_same a.session;
             start = subst (λ (f : Fragment). f.start.0 ≡ (at d i).start.0) at_same a.start;
             recorded = subst (λ (f : Fragment). (at d i).recorded ≤ f.recorded) at_same a.recorded;
           };
@@ -112,7 +110,7 @@ onward-on d e k B C o p =
           λ i h n.
           let a = o.stays i h n in
           let b = p.stays i a.listed (some-recorded a.recorded n) in
-          record { listed = b.listed; session = b.session ∙ a.session; start = b.start ∙ a.start; recorded = omega (arith, a.recorded, b.recorded) };
+          record { listed = b.listed; start = b.start ∙ a.start; recorded = omega (arith, a.recorded, b.recorded) };
       was = λ x h. ⊎_elim (λ b. ⊎_elim (λ c. inl c) (λ c. inr (inl c)) (o.was x b)) (λ b. inr (inr b)) (p.was x h);
       adds = λ x b. ⊎_elim (λ c. held_onward e k C x p (o.adds x c)) (λ c. p.adds x c) b;
     }
@@ -138,7 +136,7 @@ pub grown_onward : (d e : Disc) → Sound d → Grown d e → Onward d e (Grew d
 grown_onward d e s g =
     let u = grown-used d e s g in
     record {
-      stays = λ i h n. record { listed = omega (arith, u); session = g.session i; start = g.start i; recorded = g.more i };
+      stays = λ i h n. record { listed = omega (arith, u); start = g.start i; recorded = g.more i };
       was =
           λ x h.
           let i = h.index in
@@ -154,9 +152,9 @@ grown_onward d e s g =
 
 -- another record in the place of the last one, with as many blocks recorded
 pub replace_onward :
-    (d : Disc) (g : Fragment) → Sound d → (g.length ≡ 0 → ⊥) → g.session ≡ (last_record d).session → g.start.0 ≡ (last_record d).start.0
-    → (last_record d).recorded ≡ g.recorded → Onward d (with_record d (used d) g) NoBlock
-replace_onward d g s l m b w =
+    (d : Disc) (g : Fragment) → Sound d → (g.length ≡ 0 → ⊥) → g.start.0 ≡ (last_record d).start.0 → (last_record d).recorded ≡ g.recorded
+    → Onward d (with_record d (used d) g) NoBlock
+replace_onward d g s l b w =
     let k = used d - 1 in
     let fs = d.fragments in
     let e = with_record d (used d) g in
@@ -166,14 +164,12 @@ replace_onward d g s l m b w =
     λ i q. ap (λ j. get_or (set fs k g) j unused_record) q ∙ get_or-set_same fs k g unused_record slot in
     let old : (i : ℕ) → i ≡ k → at d i ≡ last_record d = λ i q. ap (λ j. at d j) q in
     let else : (i : ℕ) → (i ≡ k → ⊥) → at e i ≡ at d i = λ i q. get_or-set_other fs k i g unused_record q in
-    let session : (i : ℕ) → (at e i).session ≡ (at d i).session =
-    λ i. equal_cases i k (λ q. ap (λ f. f.session) (here i q) ∙ (m ∙ sym (ap (λ f. f.session) (old i q)))) (λ q. ap (λ f. f.session) (else i q)) in
     let start : (i : ℕ) → (at e i).start.0 ≡ (at d i).start.0 =
     λ i. equal_cases i k (λ q. ap (λ f. f.start.0) (here i q) ∙ (b ∙ sym (ap (λ f. f.start.0) (old i q)))) (λ q. ap (λ f. f.start.0) (else i q)) in
     let count : (i : ℕ) → (at e i).recorded ≡ (at d i).recorded =
     λ i. equal_cases i k (λ q. ap (λ f. f.recorded) (here i q) ∙ (sym w ∙ sym (ap (λ f. f.recorded) (old i q)))) (λ q. ap (λ f. f.recorded) (else i q)) in
     record {
-      stays = λ i h n. record { listed = omega (arith, h, u); session = session i; start = start i; recorded = omega (arith, count i) };
+      stays = λ i h n. record { listed = omega (arith, h, u); start = start i; recorded = omega (arith, count i) };
       was =
           λ x h.
           let i = h.index in
@@ -192,7 +188,7 @@ drop-onward d s z =
       stays =
           λ i h n.
           let other : i ≡ k → ⊥ = λ e. n (ap (λ j. (at d j).recorded) e ∙ z) in
-          record { listed = omega (arith, s.some); session = ap (λ f. f.session) (else i other); start = ap (λ f. f.start.0) (else i other); recorded = omega (arith, ap (λ f. f.recorded) (else i other)) };
+          record { listed = omega (arith, s.some); start = ap (λ f. f.start.0) (else i other); recorded = omega (arith, ap (λ f. f.recorded) (else i other)) };
       was =
           λ x h.
           let i = h.index in
@@ -217,7 +213,7 @@ extend_onward d o t x =
       stays =
           λ i h n.
           let same = else i (λ q. omega arith) in
-          record { listed = omega arith; session = ap (λ f. f.session) same; start = ap (λ f. f.start.0) same; recorded = omega (arith, ap (λ f. f.recorded) same) };
+          record { listed = omega arith; start = ap (λ f. f.start.0) same; recorded = omega (arith, ap (λ f. f.recorded) same) };
       was =
           λ y h.
           let i = h.index in

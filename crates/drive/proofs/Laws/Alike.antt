@@ -10,7 +10,7 @@ use borrow.Author.Tests.{eqb-true, eqb-false}
 use lib.Dec.{eqb}
 use Rattle.fragments.specs.Address.{lba}
 use Rattle.protocol.specs.Answer.{refusal_sense}
-use Rattle.reporting.specs.Reply.{reply_bytes}
+use Rattle.protocol.specs.Reply.{reply_bytes}
 use Rattle.commands.specs.Judge.{judge}
 use Rattle.outcomes.specs.Lent.{FlushFits, TransferFits}
 use Rattle.outcomes.specs.Recorded.{flushes, transfers, records_block, flushed_count}
@@ -163,7 +163,7 @@ byte_recorded s q v i j t =
 
 -- the bytes that are sent are recorded ones and those of pending sectors
 sent_alike :
-    (t : Transfer) (r m n p q : List ℕ)
+    (t : Transfer) (r : Reply) (m n p q : List ℕ)
     → ((a : Lba) (l i k : ℕ) → t ≡ Send a l i k → (stretch a.0 l m ≡ stretch a.0 l n) × (stretch i k p ≡ stretch i k q))
     → sent_bytes t r m p ≡ sent_bytes t r n q
 unfolding sent_bytes
@@ -203,9 +203,9 @@ module _
     flush-sectors : (c : Block) (l : ℕ) → v.plan.flush ≡ Record c l → take (2048 * l) p ≡ take (2048 * l) q
     flush-sectors c l e = rw (pending.flushed c l e).0 held
 
-    reply-alike : sent_bytes v.plan.transfer (reply_bytes d v.reply) m p ≡ sent_bytes v.plan.transfer (reply_bytes d v.reply) n q
+    reply-alike : sent_bytes v.plan.transfer v.reply m p ≡ sent_bytes v.plan.transfer v.reply n q
     reply-alike =
-        sent_alike v.plan.transfer (reply_bytes d v.reply) m n p q
+        sent_alike v.plan.transfer v.reply m n p q
         (λ a l i k e.
         decided-sends d v a l i k j.decided e
         (λ count w.

@@ -17,7 +17,7 @@ use Rattle.disc.specs.Verdict.{refuse_link}
 use Rattle.commands.specs.Write.{write}
 use Rattle.outcomes.proofs.Laws.Accepts.{takes-accepted, write-takes}
 use Rattle.outcomes.proofs.Laws.Cut.{cut-accepted, cut-plans, parts-takes}
-use Rattle.commands.proofs.Laws.Judge.{allowed-ready}
+use Rattle.commands.proofs.Laws.Judge.{allowed_ready}
 use Rattle.outcomes.proofs.Laws.Judge.{judge-writes, decided-served, decided-allowed, decided-capacity, judge_link}
 use Rattle.drive.proofs.Laws.Moves.{cut-pending, cut-medium}
 use Rattle.drive.proofs.Laws.Kept.{length-flushed_medium, length-flushed_pending}
@@ -102,13 +102,13 @@ module _ (s : Drive) (q : Request) (a : Lba) (n : ℕ) (w : WriteOf q a n) (k : 
   unfolding step carried_out
   write-pending = ap (λ (v : Verdict). moved_pending v.plan s.pending q.payload) (write_verdict s q a n w k)
 
-  write-fits : Fits s.disc (length s.medium) (length q.payload) (length q.buffer) (write s.disc a n)
+  write-fits : Fits (length s.medium) (length q.payload) (length q.buffer) (write s.disc a n)
   write-fits =
-      subst (λ (v : Verdict). Fits s.disc (length s.medium) (length q.payload) (length q.buffer) v)
+      subst (λ (v : Verdict). Fits (length s.medium) (length q.payload) (length q.buffer) v)
       (verdict-judge s q w.cdb k.lends ∙ write_verdict s q a n w k) (judgement s q k.lends).fits
 
   write-ready : Ready s.disc
-  write-ready = allowed-ready s.disc k.range k.allowed
+  write-ready = allowed_ready s.disc k.range k.allowed
 
 -- the plans of two parts do what the plan of the whole does
 module _

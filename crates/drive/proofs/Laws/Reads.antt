@@ -17,13 +17,12 @@ use Rattle.disc.specs.Verdict.{refuse}
 use Rattle.decisions.specs.Run.{stretch}
 use Rattle.fragments.proofs.Laws.Bool.{by_cases, contradiction, cond_yes, cond_no}
 use Rattle.disc.proofs.Laws.Rules.{sound-rules}
-use Rattle.commands.proofs.Laws.Judge.{allowed-ready}
+use Rattle.commands.proofs.Laws.Judge.{allowed_ready}
 use Rattle.disc.proofs.Laws.Readable.{readable-inside}
 use Rattle.commands.proofs.Laws.Read.{all_readable-at, at-all_readable, read-blank, Shared, shared}
 use Rattle.outcomes.proofs.Laws.Accepts.{read-accepted, accepted-read, read_sends}
 use Rattle.outcomes.proofs.Laws.Judge.{judge_reads, perform-read, decided-performed}
 use Rattle.drive.specs.Types.{Lba, Read, Accepted, Drive as by_drive, BlankCheck, Transfer, Verdict}
-use Rattle.reporting.specs.Reply.{reply_bytes}
 use Rattle.drive.specs.Reply.{sent_bytes}
 use Rattle.drive.specs.Step.{Drive, Request, verdict_on, carried_out, step}
 use Rattle.drive.specs.Requests.{ReadOf}
@@ -42,7 +41,7 @@ read_verdict s q a n w k =
 module _ (s : Drive) (q : Request) (a : Lba) (n : ℕ) (w : ReadOf q a n) (k : Served s) (z : n ≡ 0 → ⊥) where
   readable-within : ((i : ℕ) → i < n → is_readable s.disc (lba (a.0 + i)) ≡ true) → a.0 + n ≤ sectors_in s.disc.capacity
   readable-within h =
-      let sound = sound-rules s.disc (allowed-ready s.disc k.range k.allowed).sound in
+      let sound = sound-rules s.disc (allowed_ready s.disc k.range k.allowed).sound in
       let last = readable-inside s.disc sound (lba (a.0 + (n - 1))) (h (n - 1) (omega (arith, z))) in
       omega (arith, last, z)
 
@@ -94,15 +93,15 @@ module _
 
     shares : Shared s.disc a n share (left_over (a.0 + share)) (n - share)
     shares =
-        shared s.disc (sound-rules s.disc (allowed-ready s.disc served.range served.allowed).sound) a n z
+        shared s.disc (sound-rules s.disc (allowed_ready s.disc served.range served.allowed).sound) a n z
         (at-all_readable s.disc a n read-readable)
 
     -- sends the medium's sectors, then those of the pending buffer
     pub read-reply : (step s q).reply ≡ stretch a.0 share s.medium ++ stretch (left_over (a.0 + share)) (n - share) s.pending
     unfolding step carried_out sending sent_bytes
     read-reply =
-        ap (λ (v : Verdict). sent_bytes v.plan.transfer (reply_bytes s.disc v.reply) s.medium s.pending) performed
-        ∙ ap (λ (t : Transfer). sent_bytes t (reply_bytes s.disc (read s.disc a n).reply) s.medium s.pending) (read_sends s.disc a n answered z)
+        ap (λ (v : Verdict). sent_bytes v.plan.transfer v.reply s.medium s.pending) performed
+        ∙ ap (λ (t : Transfer). sent_bytes t (read s.disc a n).reply s.medium s.pending) (read_sends s.disc a n answered z)
 
     -- each at its address
     pub read-sector : (i : ℕ) → i < n → take 2048 (drop (2048 * i) (step s q).reply) ≡ sector_of s (a.0 + i)

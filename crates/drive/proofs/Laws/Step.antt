@@ -9,20 +9,18 @@ use lib.Dec.{eqb}
 use lib.ListN.{length, take, drop, length-append, length-take}
 use Rattle.protocol.specs.Answer.{number}
 use Rattle.protocol.specs.Command.{decode}
-use Rattle.reporting.specs.Reply.{reply_bytes}
-use Rattle.commands.specs.Judge.{judge, responded}
-use Rattle.outcomes.specs.Lent.{TransferFits, RunFits, tabled, Fits}
+use Rattle.protocol.specs.Reply.{reply_bytes}
+use Rattle.commands.specs.Judge.{judge}
+use Rattle.outcomes.specs.Lent.{TransferFits, RunFits, Fits}
 use Rattle.disc.specs.Verdict.{refuse_link, rise}
 use Rattle.disc.specs.Apply.{affected, changed, decided}
 use Rattle.fragments.proofs.Laws.Bool.{and_left, and_right, cond_cases, by_cases}
 use Rattle.outcomes.proofs.Laws.Judge.{Decided, on_link, judge-decided, decided-rise, decided-most, judge-block}
-use Rattle.outcomes.proofs.Laws.Lent.{judge-fits, judge-written}
+use Rattle.outcomes.proofs.Laws.Lent.{judge-fits}
 use Rattle.drive.specs.Types.{Lba, Disc, LinkRefusal, Decision, Outcome, CommandBlockLength, MediumSize, Reply, Transfer, Nothing, Send, Gather, Fill, Verdict, Response}
 use Rattle.drive.specs.Moves.{flushed_medium, flushed_pending, transferred_medium, transferred_pending, moved_medium, moved_pending}
-use Rattle.drive.specs.Bytes.{splice}
-use Rattle.drive.specs.Reply.{sent_bytes, told_bytes}
-use Rattle.drive.proofs.Laws.Reply.{said-whole, said-length, tabled-sent}
-use Rattle.drive.specs.Step.{Drive, Request, lent, verdict_on, carried_out, step, Feasible, CarriedOut, outcome, declined, response_of, Answered, AnsweredByChange}
+use Rattle.drive.specs.Reply.{sent_bytes}
+use Rattle.drive.specs.Step.{Drive, Request, lent, verdict_on, carried_out, step, Feasible, CarriedOut, declined, response_of, Answered, AnsweredByChange}
 use Rattle.drive.proofs.Laws.Bytes.{splice_nil}
 
 -- the lower layer's laws of a decision hold of the verdict: it is a link refusal or what the disc decides
@@ -76,8 +74,8 @@ lent_pending d m p h = eqb-true _ _ (and_right (eqb m (32768 * d.capacity)) (eqb
 
 -- the reply buffer has room for what is sent
 sent_room :
-    (t : Transfer) (r : Reply) (medium pending : List ℕ) (m : ℕ) → RunFits m t → r.length ≤ m → length (sent_bytes t (told_bytes r) medium pending) ≤ m
-unfolding sent_bytes told_bytes
+    (t : Transfer) (r : Reply) (medium pending : List ℕ) (m : ℕ) → RunFits m t → r.length ≤ m → length (sent_bytes t r medium pending) ≤ m
+unfolding sent_bytes reply_bytes
 sent_room Nothing r medium pending m g h = simp length-take (omega arith)
 sent_room (Send a n i k) r medium pending m g h =
     let x = drop (2048 * a.0) medium in
@@ -88,7 +86,7 @@ sent_room (Fill b k) r medium pending m g h = simp length-take (omega arith)
 
 -- what the disc has decided, with all that is known of it
 pub record Judgement (s : Drive) (q : Request) (v : Verdict) : Type 0 where
-  pub fits : Fits s.disc (length s.medium) (length q.payload) (length q.buffer) v
+  pub fits : Fits (length s.medium) (length q.payload) (length q.buffer) v
   pub block : length s.pending ≡ 32768
   pub decided : Decided s.disc (decode q.cdb) (length q.payload) (length q.buffer) v
 
@@ -113,22 +111,22 @@ sent_within_lem t l n p f block a m i k e = let w = subst (TransferFits l n) e f
 
 -- what the code that carries a decision out asks is there
 pub decided_feasible :
-    (s : Drive) (q : Request) (d : Decision) (buffer : List ℕ) → length buffer ≡ length q.buffer → lent s.disc (length s.medium) (length s.pending) ≡ true
+    (s : Drive) (q : Request) (d : Decision) → lent s.disc (length s.medium) (length s.pending) ≡ true
     → decided s.disc d ≡ judge s.disc q.cdb (length q.payload) (length q.buffer)
-    → Feasible d.plan d.reply q.payload s.medium s.pending buffer
+    → Feasible d.plan d.reply q.payload s.medium s.pending q.buffer
 unfolding decided
-decided_feasible s q d buffer size h e =
+decided_feasible s q d h e =
     let n = length q.payload in
     let m = length q.buffer in
     let j = judgement s q h in
-    let f : Fits s.disc (length s.medium) n m (decided s.disc d) = rw e j.fits in
+    let f : Fits (length s.medium) n m (decided s.disc d) = rw e j.fits in
     record {
       sends =
           record {
             within = sent_within_lem d.plan.transfer (length s.medium) n (length s.pending) f.transfer j.block;
-            room = rw size (sent_room d.plan.transfer d.reply s.medium s.pending m f.run f.report);
-            report = rw size f.report;
-            whole = said-whole s.disc d.reply.content d.reply.bytes d.reply.length f.whole;
+            room = sent_room d.plan.transfer d.reply s.medium s.pending m f.run f.report;
+            report = f.report;
+            whole = f.whole;
           };
       block = j.block;
       flush = f.flush;
@@ -170,30 +168,18 @@ verdict_answered s q v r medium pending buffer same out =
       bounded = λ a n c. rw count (decided-most s.disc v a n c w);
     }
 
--- a decision carried out is served, on the reply buffer as the lower layer leaves it
+-- a decision carried out is served
 pub decision_served :
-    (s : Drive) (q : Request) (d : Decision) (lentOn : List ℕ) (r : Outcome) (medium pending buffer : List ℕ)
-    → lent s.disc (length s.medium) (length s.pending) ≡ true
-    → decided s.disc d ≡ judge s.disc q.cdb (length q.payload) (length q.buffer) → decided s.disc d ≡ verdict_on s q
-    → lentOn ≡ responded s.disc q.cdb (length q.payload) q.buffer
-    → CarriedOut d q.payload s.medium s.pending lentOn r medium pending buffer → AnsweredByChange s q r medium pending buffer
-unfolding decided carried_out told_bytes reply_bytes
-decision_served s q d lentOn r medium pending buffer h judged same on out =
-    let f : Fits s.disc (length s.medium) (length q.payload) (length q.buffer) (decided s.disc d) = rw judged (judgement s q h).fits in
-    let tabled-on : lentOn ≡ tabled s.disc d.reply.content d.reply.length q.buffer =
-    on ∙ (judge-written s.disc q.cdb (length q.payload) q.buffer
-    ∙ sym (ap (λ (v : Verdict). tabled s.disc v.reply.content v.reply.length q.buffer) judged)) in
+    (s : Drive) (q : Request) (d : Decision) (r : Outcome) (medium pending buffer : List ℕ) → decided s.disc d ≡ verdict_on s q
+    → CarriedOut d q.payload s.medium s.pending q.buffer r medium pending buffer → AnsweredByChange s q r medium pending buffer
+unfolding decided carried_out
+decision_served s q d r medium pending buffer same out =
     verdict_answered s q (decided s.disc d) (response_of s.disc r) medium pending buffer same
     (record {
-      responds =
-          ap (response_of s.disc)
-          (out.responds ∙ ap (outcome d) (said-length s.disc d.plan.transfer d.reply s.medium s.pending f.whole));
+      responds = ap (response_of s.disc) out.responds;
       recorded_medium = out.recorded_medium;
       kept_pending = out.kept_pending;
-      filled_buffer =
-          out.filled_buffer
-          ∙ (ap (λ (l : List ℕ). splice l 0 (sent_bytes d.plan.transfer (told_bytes d.reply) s.medium s.pending)) tabled-on
-          ∙ tabled-sent s.disc d.plan d.reply.content d.reply.bytes d.reply.length s.medium s.pending q.buffer f.still f.report);
+      filled_buffer = out.filled_buffer;
     })
 
 -- a link refusal leaves every buffer as it is

@@ -111,11 +111,11 @@ pub write-all :
 write-all w words fs i h l m e = e ∙ ap (λ (x : List Fragment). splice w 7 (list_words x)) (take_all i fs (omega arith))
 
 -- head and records are the image
-pub write-both :
+pub write_both :
     (w : List ℕ) (d : Disc) (words words₁ : List ℕ) → length w ≡ image_length → length d.fragments ≡ limit → words ≡ splice w 0 (head_words d)
     → words₁ ≡ splice words 7 (list_words d.fragments) → words₁ ≡ encode d
 unfolding encode
-write-both w d words words₁ hw hf e f =
+write_both w d words words₁ hw hf e f =
     let l = length-list d.fragments in
     f
     ∙ (ap (λ (m : List ℕ). splice m 7 (list_words d.fragments)) e

@@ -18,7 +18,6 @@ use Rattle.disc.specs.Records.{pending_in, records, numbered, is_recorded, is_pe
 use Rattle.fragments.specs.List.{listed, some, every, find, sum_recorded}
 use Rattle.disc.specs.Sound.{used_first, first_at_zero, follows_from, in_order, ends_within, recorded_within, zeroed_within, incomplete_last, tail_last, tail_or_full, pending_named, finalized_complete, sound, allowed_state}
 use Rattle.protocol.specs.Lengths.{data_length, reply_room, lengths_fit}
-use Rattle.commands.specs.Toc.{contents_asked}
 use Rattle.commands.specs.Flush.{flush, flush_plan, synchronize_cache}
 use Rattle.commands.specs.Read.{all_readable, medium_share, sending, read}
 use Rattle.commands.specs.Write.{flush_others, flush_others_plan, gather, write_to, write_found, write}
@@ -229,7 +228,7 @@ record Computed (c : ℕ) : Type 0 where
 
 -- on the smallest disc and on the largest
 computed : Computed 256 × Computed 143444
-unfolding decisions disc_after account_by given noted credited written flushed split_tail reserve decode read_opcode write_opcode fields listed some every find sum_recorded used_first first_at_zero follows_from in_order ends_within recorded_within zeroed_within incomplete_last tail_last tail_or_full pending_named finalized_complete sound allowed_state is_refusal_sense allowed_sense blank data_length reply_room contents_asked lengths_fit accepted accept refuse flush flush_plan synchronize_cache all_readable medium_share sending read flush_others flush_others_plan gather write_to write_found write next_writable_or_zero free_sectors track_bytes track_verdict track_found track_numbered read_track_information perform judge_command judge
+unfolding decisions disc_after account_by given noted credited written flushed split_tail reserve decode read_opcode write_opcode fields listed some every find sum_recorded used_first first_at_zero follows_from in_order ends_within recorded_within zeroed_within incomplete_last tail_last tail_or_full pending_named finalized_complete sound allowed_state is_refusal_sense allowed_sense blank data_length reply_room lengths_fit accepted accept refuse flush flush_plan synchronize_cache all_readable medium_share sending read flush_others flush_others_plan gather write_to write_found write next_writable_or_zero free_sectors track_bytes track_verdict track_found track_numbered read_track_information perform judge_command judge
 computed = (
   record {
     range = refl;
@@ -536,11 +535,11 @@ late_shapes_lem s a n l x j =
     ∷ shape flushing.cdb 0 0 ∷ shape (reading ten 32 0).cdb 0 (length-replicate {A = ℕ} 32768 x i) ∷ shape (write_cdb ten 32 3) (l.six_length i) 0
     ∷ shape (reading_some ten a n 0).cdb 0 (length-replicate {A = ℕ} (2048 * n) x i) ∷ []
 
-late-answers :
+late_answers :
     (c : ℕ) → Computed c → (f : Flash c) (a n : ℕ) (l : Log) (x : ℕ) (j : ℕ → Change)
     → decisions (late_shapes a n) (blank c) ≡ newer_answers ++ (Accepted ∷ [])
     → get_or (answers (given (late a n l x j) (blank_over c f)) (blank_over c f)) 7 Accepted ≡ Accepted
-late-answers c m f a n l x j e =
+late_answers c m f a n l x j e =
     let s = blank_over c f in
     let known = known-answers c s (flash_start c f m.range) (given (late a n l x j) s) (given_admissible (late a n l x j) s) (late_shapes a n) (late_shapes_lem s a n l x j) in
     ap (λ (r : List Answer). get_or r 7 Accepted) (known ∙ e)
@@ -596,7 +595,7 @@ module _ (c : ℕ) (m : Computed c) (kept : KeptAccount) (f : Flash c) (l : Log)
   unfolding given final answers replies decode read_opcode write_opcode fields
   read-late a h =
       kept.back c disc₀ start₀ logTurns log-admissible (turn (after (j 7) (reading ten 16 x)) logEnd) (turn_alike (after (j 7) (reading ten 16 x)) logEnd) (lba 16) 16 refl
-      (late-answers c m f 16 16 l x j m.late_answered.1) a h
+      (late_answers c m f 16 16 l x j m.late_answered.1) a h
 
   early-known : (a : ℕ) → at_address (list_of c early_shapes) (lba a) ≡ Number 1 → content_at earlyTurns disc₀ a ≡ (account_of c earlyTurns early_shapes).content a
   early-known a e = known-content c disc₀ start₀ earlyTurns early-admissible early_shapes (early_shapes_lem disc₀ l x j) a 1 e
@@ -737,7 +736,7 @@ module _ (c : ℕ) (m : Computed c) (back : ReadBack) (count : KeptAsListed) (hi
       let us = given (later l x j) (result w (final ts disc₁)).after in
       back.later c disc₁ start₁ ts w us admissible₁ (lba 5) 13 refl (newer-answer c m disc₁ start₁ l x j 2)
       (turn (after (j 7) (reading ten 0 x)) end₁) (turn_alike (after (j 7) (reading ten 0 x)) end₁) (lba 0) 16 refl
-      (late-answers c m f 0 16 l x j m.late_answered.0) 2 7 (omega arith) (omega arith) refl
+      (late_answers c m f 0 16 l x j m.late_answered.0) 2 7 (omega arith) (omega arith) refl
 
   -- the sectors of accepted WRITEs, by the answers
   bring : List Answer → List Written
@@ -751,7 +750,7 @@ module _ (c : ℕ) (m : Computed c) (back : ReadBack) (count : KeptAsListed) (hi
   unfolding given final answers replies decode read_opcode write_opcode fields writes accepted_write write_of brought_to sole bring
   none₁ =
       back.back c disc₁ start₁ turns₁ admissible₁ (turn (after (j 7) (reading ten 16 x)) end₁) (turn_alike (after (j 7) (reading ten 16 x)) end₁) (lba 16) 16 refl
-      (late-answers c m f 16 16 l x j m.late_answered.1) 4 (omega arith)
+      (late_answers c m f 16 16 l x j m.late_answered.1) 4 (omega arith)
       ∙ ap (λ (r : List Answer). sole (brought_to 20 (bring r))) (newer-answers c m disc₁ start₁ l x j)
 
   -- pending sectors, by the last WRITE and by all of them
@@ -763,14 +762,14 @@ module _ (c : ℕ) (m : Computed c) (back : ReadBack) (count : KeptAsListed) (hi
       let w = turn (after (j 6) (writing ten 32 3 l.six)) (final ts disc₁) in
       let g = after (j 7) (reading_some ten 32 3 x) in
       back.later c disc₁ start₁ ts w [] admissible₁ (lba 32) 3 refl (newer-answer c m disc₁ start₁ l x j 6)
-      (turn g end₁) (turn_alike g end₁) (lba 32) 3 refl (late-answers c m f 32 3 l x j m.late_answered.2) 1 1 (omega arith) (omega arith) refl
+      (turn g end₁) (turn_alike g end₁) (lba 32) 3 refl (late_answers c m f 32 3 l x j m.late_answered.2) 1 1 (omega arith) (omega arith) refl
 
   waiting-last₁ : sector_at 2 (after_all turns₁ disc₁ (after (j 7) (reading_some ten 32 3 x))).reply ≡ sector_at 2 l.six
   unfolding given final answers replies decode read_opcode write_opcode fields writes accepted_write write_of brought_to sole bring
   waiting-last₁ =
       let g = after (j 7) (reading_some ten 32 3 x) in
       back.back c disc₁ start₁ turns₁ admissible₁ (turn g end₁) (turn_alike g end₁) (lba 32) 3 refl
-      (late-answers c m f 32 3 l x j m.late_answered.2) 2 (omega arith)
+      (late_answers c m f 32 3 l x j m.late_answered.2) 2 (omega arith)
       ∙ ap (λ (r : List Answer). sole (brought_to 34 (bring r))) (newer-answers c m disc₁ start₁ l x j)
 
   last-disc : end₁.disc ≡ list_of c newer_shapes

@@ -23,7 +23,6 @@ use Rattle.commands.specs.Read.{sending, read}
 use Rattle.commands.specs.Write.{flush_others, flush_others_plan, gather, Writable, write_to, write_found, write}
 use Rattle.commands.specs.Reserve.{split_tail, reserve}
 use Rattle.commands.specs.Close.{append_tail, close_incomplete, close_fragment, has_incomplete_reserved, close_tail, open_session, close_session, finalized, finalize, close}
-use Rattle.reporting.specs.Contents.{has_contents, read_toc}
 use Rattle.reporting.specs.Identity.{inquiry, get_configuration}
 use Rattle.reporting.specs.Reports.{request_sense, read_capacity, read_disc_information, read_track_information, track_verdict, track_found, track_numbered}
 use Rattle.commands.specs.Judge.{test_unit_ready, perform}
@@ -43,7 +42,7 @@ use Rattle.outcomes.proofs.Laws.Keep.{write_room}
 use Rattle.outcomes.proofs.Laws.Outcome.{append_pending}
 use Rattle.drive.specs.Moves.{gathered_medium, gathered_pending, flushed_medium, flushed_pending, transferred_medium, transferred_pending, moved_medium, moved_pending}
 use Rattle.drive.proofs.Laws.Kept.{length-flushed_medium, length-flushed_pending}
-use Rattle.history.specs.Types.{Lba, Fragment, Kind, Reserved, Appended, Disc, Found, Number, Nowhere, Accepted, DriveRefusal, WriteProtected, InvalidFieldInCommand, AddressOutOfRange, InvalidOperationCode, InvalidAddressForWrite, IncompleteTrackInSession, EmptyTrack, NoMoreReservations, EndOfUserArea, Reply, Plan, Verdict, Skip, Nothing, Gather, Command, TestUnitReady, RequestSense, Inquiry, ReadCapacity, Read, Write, SynchronizeCache, ReserveTrack, CloseTrackSession, ReadToc, GetConfiguration, ReadDiscInformation, ReadTrackInformation, Unlisted}
+use Rattle.history.specs.Types.{Lba, Fragment, Kind, Reserved, Appended, Disc, Found, Number, Nowhere, Accepted, DriveRefusal, WriteProtected, InvalidFieldInCommand, AddressOutOfRange, InvalidOperationCode, InvalidAddressForWrite, IncompleteTrackInSession, EmptyTrack, NoMoreReservations, EndOfUserArea, Reply, Plan, Verdict, Skip, Nothing, Gather, Command, TestUnitReady, RequestSense, Inquiry, ReadCapacity, Read, Write, SynchronizeCache, ReserveTrack, CloseTrackSession, GetConfiguration, ReadDiscInformation, ReadTrackInformation, Unlisted}
 use Rattle.history.specs.Account.{Account, extent_of, written, zeroed, flushed, filled, credited}
 use Rattle.history.proofs.Laws.Account.{Holds, same_holds, zeroed_none, flushed_none}
 use Rattle.history.proofs.Laws.Recording.{holds_as, holds_at, flush-holds, others-own, others-else, gather-holds-own, gather-holds-else, fill-holds-own, fill-holds-else}
@@ -413,7 +412,7 @@ module _
 
     -- every command
     pub noted-performed : (c : Command) → Noted (credited n (extent_of d n) c sectors k) (perform d c)
-    unfolding perform credited test_unit_ready request_sense inquiry read_toc get_configuration read_capacity read_disc_information
+    unfolding perform credited test_unit_ready request_sense inquiry get_configuration read_capacity read_disc_information
     noted-performed TestUnitReady = noted-same k no_reply refl
     noted-performed (RequestSense allocation) = noted-same k _ refl
     noted-performed (Inquiry pageBit allocation) =
@@ -424,8 +423,6 @@ module _
     noted-performed SynchronizeCache = noted-synchronize
     noted-performed (ReserveTrack size) = noted-reserve size
     noted-performed (CloseTrackSession function j) = noted-close function j
-    noted-performed (ReadToc form time start allocation) =
-        cond_cases (Noted k) (has_contents d form start) _ _ (λ t. noted-same k _ refl) (λ t. noted-refused k InvalidFieldInCommand)
     noted-performed (GetConfiguration request_type start allocation) =
         cond_cases (Noted k) (eqb request_type 3) _ _ (λ t. noted-refused k InvalidFieldInCommand) (λ t. noted-same k _ refl)
     noted-performed (ReadDiscInformation dataType allocation) =

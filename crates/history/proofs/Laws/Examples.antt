@@ -27,8 +27,8 @@ whole_sectors =
     length-append (sector 7) (sector 9 ++ [])
     ∙ omega (arith, length-replicate {A = ℕ} 2048 7, length-append (sector 9) [], length-replicate {A = ℕ} 2048 9)
 
-one-sector : (f : Form) (a x : ℕ) → a < addresses → WriteOf (request (write_cdb f a 1) (sector x) []) (lba a) 1
-one-sector f a x h = write_cdb_lem f a 1 h (both_name f 1 (omega arith)) (sector x) (length-replicate {A = ℕ} 2048 x)
+one_sector : (f : Form) (a x : ℕ) → a < addresses → WriteOf (request (write_cdb f a 1) (sector x) []) (lba a) 1
+one_sector f a x h = write_cdb_lem f a 1 h (both_name f 1 (omega arith)) (sector x) (length-replicate {A = ℕ} 2048 x)
 
 -- a cut that is one, of both forms, at any address that has a next one
 pub cut_in_two : (a : ℕ) → a + 1 < addresses → CutOf (whole_write a) (first_part a ∷ second_part a ∷ [])
@@ -40,8 +40,8 @@ cut_in_two a h =
       whole = write_cdb_lem ten a 2 (omega (arith, h)) (omega arith) (whole_write a).payload whole_sectors;
       several = omega arith;
       parts =
-          part (lba a) 1 1 (first_part a) _ _ (omega arith) (one-sector ten a 7 (omega (arith, h)))
-          (part (lba (a + 1)) 1 0 (second_part a) [] [] (omega arith) (one-sector twelve (a + 1) 9 h) (none _));
+          part (lba a) 1 1 (first_part a) _ _ (omega arith) (one_sector ten a 7 (omega (arith, h)))
+          (part (lba (a + 1)) 1 0 (second_part a) [] [] (omega arith) (one_sector twelve (a + 1) 9 h) (none _));
     }
 
 -- a WRITE (12) of more sectors than a WRITE (10) names, in parts of both forms
@@ -111,12 +111,12 @@ parts_joined a b c n m k x one two qs w v (part d i j u rest us h y (part f g l 
 
 pub gap_is_none : (q : Request) (qs : List Request) → CutOf q (first_part 0 ∷ part_after_gap ∷ qs) → ⊥
 gap_is_none q qs c =
-    let e = parts_joined (lba 0) (lba 2) c.address 1 1 c.count q.payload (first_part 0) part_after_gap qs (one-sector ten 0 7 (omega arith)) (one-sector ten 2 9 (omega arith)) c.parts in
+    let e = parts_joined (lba 0) (lba 2) c.address 1 1 c.count q.payload (first_part 0) part_after_gap qs (one_sector ten 0 7 (omega arith)) (one_sector ten 2 9 (omega arith)) c.parts in
     omega arith
 
 pub overlap_is_none : (q : Request) (qs : List Request) → CutOf q (first_part 0 ∷ part_over_first ∷ qs) → ⊥
 overlap_is_none q qs c =
-    let e = parts_joined (lba 0) (lba 0) c.address 1 1 c.count q.payload (first_part 0) part_over_first qs (one-sector ten 0 7 (omega arith)) (one-sector ten 0 9 (omega arith)) c.parts in
+    let e = parts_joined (lba 0) (lba 0) c.address 1 1 c.count q.payload (first_part 0) part_over_first qs (one_sector ten 0 7 (omega arith)) (one_sector ten 0 9 (omega arith)) c.parts in
     omega arith
 
 -- one part alone is no cut

@@ -12,7 +12,6 @@ use Rattle.disc.specs.Records.{pending_in, numbered}
 use Rattle.fragments.specs.List.{listed, some, every, find, sum_recorded}
 use Rattle.disc.specs.Sound.{used_first, first_at_zero, follows_from, in_order, ends_within, recorded_within, zeroed_within, incomplete_last, tail_last, tail_or_full, pending_named, finalized_complete, sound, allowed_state}
 use Rattle.protocol.specs.Lengths.{data_length, reply_room, lengths_fit}
-use Rattle.commands.specs.Toc.{contents_asked}
 use Rattle.commands.specs.Flush.{flush, flush_plan, synchronize_cache}
 use Rattle.commands.specs.Read.{all_readable, read}
 use Rattle.commands.specs.Write.{flush_others, flush_others_plan, gather, write_to, write_found, write}
@@ -74,7 +73,7 @@ left = disc_after run_shapes (blank 300)
 computed :
     ((numbered left 1).recorded ≡ 3) × ((numbered left 1).zeroed ≡ 43) × (pending_in left 1 ≡ 0) × ((numbered left 2).recorded ≡ 2)
     × ((numbered left 2).zeroed ≡ 10) × (pending_in left 2 ≡ 0)
-unfolding disc_after decode write_opcode fields listed some every find sum_recorded used_first first_at_zero follows_from in_order ends_within recorded_within zeroed_within incomplete_last tail_last tail_or_full pending_named finalized_complete sound allowed_state is_refusal_sense allowed_sense blank data_length reply_room contents_asked lengths_fit accepted accept refuse refuse_link flush flush_plan all_readable read flush_others flush_others_plan gather write_to write_found write split_tail reserve append_tail close_incomplete close_fragment close synchronize_cache perform judge_command judge
+unfolding disc_after decode write_opcode fields listed some every find sum_recorded used_first first_at_zero follows_from in_order ends_within recorded_within zeroed_within incomplete_last tail_last tail_or_full pending_named finalized_complete sound allowed_state is_refusal_sense allowed_sense blank data_length reply_room lengths_fit accepted accept refuse refuse_link flush flush_plan all_readable read flush_others flush_others_plan gather write_to write_found write split_tail reserve append_tail close_incomplete close_fragment close synchronize_cache perform judge_command judge
 computed = (refl, refl, refl, refl, refl, refl)
 
 -- from every start of 300 blocks: the five sectors of the reserved fragment, flushed by a WRITE to the tail and then filled to its three

@@ -13,8 +13,7 @@ use Rattle.protocol.specs.Reports.{low, high, bytes32}
 use Rattle.fragments.proofs.Laws.Bool.{cond_cases}
 use Rattle.drive.specs.Step.{request}
 use Rattle.drive.specs.Requests.{WriteOf}
-use Rattle.reporting.proofs.Laws.Shown.{of_four}
-use Rattle.history.specs.Types.{Lba, Command, TestUnitReady, RequestSense, Inquiry, ReadCapacity, Read, Write, SynchronizeCache, ReserveTrack, CloseTrackSession, ReadToc, GetConfiguration, ReadDiscInformation, ReadTrackInformation, Unlisted}
+use Rattle.history.specs.Types.{Lba, Command, TestUnitReady, RequestSense, Inquiry, ReadCapacity, Read, Write, SynchronizeCache, ReserveTrack, CloseTrackSession, GetConfiguration, ReadDiscInformation, ReadTrackInformation, Unlisted}
 use Rattle.history.specs.Forms.{Form, ten, twelve, write_opcode, longest, addresses, fields, write_cdb, IsBytes, OfForm, WriteForms}
 
 -- a command block that is a WRITE's has one of the two forms; nothing is said of any other command
@@ -28,7 +27,6 @@ HasForm b (Read a n) = Unit {0}
 HasForm b SynchronizeCache = Unit {0}
 HasForm b (ReserveTrack size) = Unit {0}
 HasForm b (CloseTrackSession function n) = Unit {0}
-HasForm b (ReadToc form time start allocation) = Unit {0}
 HasForm b (GetConfiguration request_type start allocation) = Unit {0}
 HasForm b (ReadDiscInformation dataType allocation) = Unit {0}
 HasForm b (ReadTrackInformation addressType n allocation) = Unit {0}
@@ -54,19 +52,27 @@ has_form b h =
     (λ f₃. cond_cases P (eqb o 0x28) _ _ (λ t. tt)
     (λ f₄. cond_cases P (eqb o 0x2A) _ _ (λ t. inl (record { opcode = eqb-true o 0x2A t; address = address; count = two_bytes b h 7 }))
     (λ f₅. cond_cases P (eqb o 0x35) _ _ (λ t. tt)
-    (λ f₆. cond_cases P (eqb o 0x43) _ _ (λ t. tt)
-    (λ f₇. cond_cases P (eqb o 0x46) _ _ (λ t. tt)
-    (λ f₈. cond_cases P (eqb o 0x53) _ _ (λ t. tt)
-    (λ f₉. cond_cases P (eqb o 0x5B) _ _ (λ t. tt)
-    (λ g₀. cond_cases P (eqb o 0x51) _ _ (λ t. tt)
-    (λ g₁. cond_cases P (eqb o 0x52) _ _ (λ t. tt)
-    (λ g₂. cond_cases P (eqb o 0xA8) _ _ (λ t. tt)
-    (λ g₃. cond_cases P (eqb o 0xAA) _ _ (λ t. inr (record { opcode = eqb-true o 0xAA t; address = address; count = four_bytes b h 6 }))
-    (λ g₄. tt)))))))))))))))
+    (λ f₆. cond_cases P (eqb o 0x46) _ _ (λ t. tt)
+    (λ f₇. cond_cases P (eqb o 0x53) _ _ (λ t. tt)
+    (λ f₈. cond_cases P (eqb o 0x5B) _ _ (λ t. tt)
+    (λ f₉. cond_cases P (eqb o 0x51) _ _ (λ t. tt)
+    (λ g₀. cond_cases P (eqb o 0x52) _ _ (λ t. tt)
+    (λ g₁. cond_cases P (eqb o 0xA8) _ _ (λ t. tt)
+    (λ g₂. cond_cases P (eqb o 0xAA) _ _ (λ t. inr (record { opcode = eqb-true o 0xAA t; address = address; count = four_bytes b h 6 }))
+    (λ g₃. tt))))))))))))))
 
 only_forms : (b : List ℕ) → IsBytes b → (a : Lba) (n : ℕ) → decode b ≡ Write a n → OfForm ten b a n ⊎ OfForm twelve b a n
 unfolding HasForm
 only_forms b h a n e = subst (HasForm b) e (has_form b h)
+
+-- a number by its four bytes
+of_bytes :
+    (a b c d : ℕ) → b ≡ a / 0x100 → c ≡ b / 0x100 → d ≡ c / 0x100 → d < 0x100
+    → 0x10000 * (0x100 * (d % 0x100) + c % 0x100) + (0x100 * (b % 0x100) + a % 0x100) ≡ a
+of_bytes a b c d e f g h = omega (arith, e, f, g, h)
+
+of_four : (a : ℕ) → a < addresses → 0x10000 * (0x100 * (a / 0x1000000 % 0x100) + a / 0x10000 % 0x100) + (0x100 * (a / 0x100 % 0x100) + a % 0x100) ≡ a
+of_four a h = of_bytes a (a / 0x100) (a / 0x10000) (a / 0x1000000) refl (omega arith) (omega arith) (omega (arith, h))
 
 -- a command block names its address and its length
 pub write_cdb_lem :

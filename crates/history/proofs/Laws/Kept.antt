@@ -20,7 +20,7 @@ use Rattle.outcomes.specs.Lent.{Fits}
 use Rattle.outcomes.specs.Recorded.{among}
 use Rattle.commands.specs.Judge.{perform}
 use Rattle.fragments.proofs.Laws.Bool.{by_cases, or_right, or_cases, contradiction, cond_yes, cond_no}
-use Rattle.commands.proofs.Laws.Judge.{allowed-ready}
+use Rattle.commands.proofs.Laws.Judge.{allowed_ready}
 use Rattle.outcomes.proofs.Laws.Judge.{decided-performed}
 use Rattle.outcomes.proofs.Laws.Recorded.{among-from, among_below}
 use Rattle.disc.proofs.Laws.Readable.{held_recorded, Located, located, located-recorded, located-pending, nowhere-unreadable, nowhere-unrecorded}
@@ -49,7 +49,7 @@ abbrev pub HoldsOn : Drive → ℕ → Account → Type 0
 HoldsOn s n k = Holds s.disc s.medium s.pending n k
 
 pub served-sound : (s : Drive) → Served s → Sound s.disc
-served-sound s w = sound-rules s.disc (allowed-ready s.disc w.range w.allowed).sound
+served-sound s w = sound-rules s.disc (allowed_ready s.disc w.range w.allowed).sound
 
 -- one command, by its answer
 module _ (s : Drive) (q : Request) (n : ℕ) (k : Account) (w : Served s) (one : 1 ≤ n) (h : HoldsOn s n k) where
@@ -61,10 +61,10 @@ module _ (s : Drive) (q : Request) (n : ℕ) (k : Account) (w : Served s) (one :
       let l = length s.medium in
       let j = judgement s q w.lends in
       let performed : verdict_on s q ≡ perform d c = decided-performed d (verdict_on s q) (verdict_decided s q) e in
-      let fits : Fits d l (length q.payload) (length q.buffer) (perform d c) =
-      subst (λ (v : Verdict). Fits d l (length q.payload) (length q.buffer) v) (sym (verdict_judges s q w.lends) ∙ performed) j.fits in
+      let fits : Fits l (length q.payload) (length q.buffer) (perform d c) =
+      subst (λ (v : Verdict). Fits l (length q.payload) (length q.buffer) v) (sym (verdict_judges s q w.lends) ∙ performed) j.fits in
       subst (λ (v : Verdict). HoldsOn (carried_out v s q).after n (credited n (extent_of d n) c q.payload k)) (sym performed)
-      (noted-performed d s.medium s.pending q.payload n k (allowed-ready d w.range w.allowed) one j.block
+      (noted-performed d s.medium s.pending q.payload n k (allowed_ready d w.range w.allowed) one j.block
       (lent_medium d l (length s.pending) w.lends) h c (sym (ap (λ (v : Verdict). v.answer) performed) ∙ e) fits.flush fits.transfer)
 
   pub answer-holds : (a : Answer) → (step s q).answer ≡ a → HoldsOn (step s q).after n (noted n (extent_of s.disc n) q a k)

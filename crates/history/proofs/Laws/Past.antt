@@ -21,7 +21,6 @@ use Rattle.commands.specs.Read.{sending, read}
 use Rattle.commands.specs.Write.{flush_others_plan, Writable, write_to, write_found, write}
 use Rattle.commands.specs.Reserve.{split_tail, reserve}
 use Rattle.commands.specs.Close.{filled_record, append_tail, close_incomplete, close_fragment, has_incomplete_reserved, close_tail, open_session, close_session, finalized, finalize, close}
-use Rattle.reporting.specs.Contents.{has_contents, read_toc}
 use Rattle.reporting.specs.Identity.{inquiry, get_configuration}
 use Rattle.reporting.specs.Reports.{request_sense, read_capacity, read_disc_information, read_track_information, track_verdict, track_found, track_numbered}
 use Rattle.commands.specs.Judge.{test_unit_ready, perform}
@@ -37,7 +36,7 @@ use Rattle.commands.proofs.Laws.Flush.{owner, flush_grows, flush-sound, flush-us
 use Rattle.commands.proofs.Laws.Write.{writable_found}
 use Rattle.commands.proofs.Laws.Reserve.{reserve_cases}
 use Rattle.outcomes.proofs.Laws.Counts.{blank_only_none}
-use Rattle.history.specs.Types.{Lba, Fragment, Kind, Reserved, Appended, Disc, Found, Number, Nowhere, Accepted, DriveRefusal, WriteProtected, InvalidFieldInCommand, AddressOutOfRange, InvalidOperationCode, InvalidAddressForWrite, IncompleteTrackInSession, EmptyTrack, NoMoreReservations, EndOfUserArea, Reply, Flush, Plan, Verdict, Skip, Record, Nothing, Gather, Fill, Command, TestUnitReady, RequestSense, Inquiry, ReadCapacity, Read, Write, SynchronizeCache, ReserveTrack, CloseTrackSession, ReadToc, GetConfiguration, ReadDiscInformation, ReadTrackInformation, Unlisted}
+use Rattle.history.specs.Types.{Lba, Fragment, Kind, Reserved, Appended, Disc, Found, Number, Nowhere, Accepted, DriveRefusal, WriteProtected, InvalidFieldInCommand, AddressOutOfRange, InvalidOperationCode, InvalidAddressForWrite, IncompleteTrackInSession, EmptyTrack, NoMoreReservations, EndOfUserArea, Reply, Flush, Plan, Verdict, Skip, Record, Nothing, Gather, Fill, Command, TestUnitReady, RequestSense, Inquiry, ReadCapacity, Read, Write, SynchronizeCache, ReserveTrack, CloseTrackSession, GetConfiguration, ReadDiscInformation, ReadTrackInformation, Unlisted}
 use Rattle.history.specs.Account.{extent_of}
 use Rattle.history.specs.Past.{Past, block_recorded, sector_gathered, sectors_gathered, past_flushed, past_filled, past_after}
 
@@ -560,7 +559,7 @@ module _ (d : Disc) (h : Past) (r : Ready d) (w : Recalls d h) where
 
   -- every command
   pub recalled-performed : (c : Command) → Recalled (past_after d c h) (perform d c)
-  unfolding perform past_after test_unit_ready request_sense inquiry read_toc get_configuration read_capacity read_disc_information synchronize_cache
+  unfolding perform past_after test_unit_ready request_sense inquiry get_configuration read_capacity read_disc_information synchronize_cache
   recalled-performed TestUnitReady = recalled-same no_reply
   recalled-performed (RequestSense allocation) = recalled-same _
   recalled-performed (Inquiry pageBit allocation) =
@@ -571,8 +570,6 @@ module _ (d : Disc) (h : Past) (r : Ready d) (w : Recalls d h) where
   recalled-performed SynchronizeCache = recalled-flush (flush d) no_reply
   recalled-performed (ReserveTrack size) = recalled-reserve size
   recalled-performed (CloseTrackSession function j) = recalled-close function j
-  recalled-performed (ReadToc form time start allocation) =
-      cond_cases (Recalled h) (has_contents d form start) _ _ (λ t. recalled-same _) (λ t. recalled-refused h InvalidFieldInCommand)
   recalled-performed (GetConfiguration request_type start allocation) =
       cond_cases (Recalled h) (eqb request_type 3) _ _ (λ t. recalled-refused h InvalidFieldInCommand) (λ t. recalled-same _)
   recalled-performed (ReadDiscInformation dataType allocation) =

@@ -19,7 +19,6 @@ use Rattle.commands.specs.Read.{read}
 use Rattle.commands.specs.Write.{flush_others, gather, Writable, write_to, write_found, write}
 use Rattle.commands.specs.Reserve.{split_tail, reserve}
 use Rattle.commands.specs.Close.{filled_record, append_tail, close_incomplete, close_fragment, has_incomplete_reserved, close_tail, open_session, close_session, finalized, finalize, close}
-use Rattle.reporting.specs.Contents.{has_contents, read_toc}
 use Rattle.reporting.specs.Identity.{inquiry, get_configuration}
 use Rattle.reporting.specs.Reports.{request_sense, read_capacity, read_disc_information, read_track_information, track_verdict, track_found, track_numbered}
 use Rattle.commands.specs.Judge.{test_unit_ready, perform}
@@ -39,7 +38,7 @@ use Rattle.commands.proofs.Laws.Session.{kept, kept_few, kept_pending_lem}
 use Rattle.outcomes.proofs.Laws.Keep.{write_room, gather_grows, gather-sound, fill_grows, fill_sound}
 use Rattle.outcomes.proofs.Laws.Outcome.{append_pending}
 use Rattle.outcomes.proofs.Laws.Counts.{SameCounts, same_counts, counts-on, split-counts, split-start, shorten-counts, close-tail-counts, open_counts}
-use Rattle.history.specs.Types.{Lba, Fragment, Kind, Reserved, Appended, Disc, Found, Number, Nowhere, Accepted, DriveRefusal, WriteProtected, InvalidFieldInCommand, AddressOutOfRange, InvalidOperationCode, InvalidAddressForWrite, IncompleteTrackInSession, EmptyTrack, NoMoreReservations, EndOfUserArea, Reply, Plan, Verdict, Command, TestUnitReady, RequestSense, Inquiry, ReadCapacity, Read, Write, SynchronizeCache, ReserveTrack, CloseTrackSession, ReadToc, GetConfiguration, ReadDiscInformation, ReadTrackInformation, Unlisted}
+use Rattle.history.specs.Types.{Lba, Fragment, Kind, Reserved, Appended, Disc, Found, Number, Nowhere, Accepted, DriveRefusal, WriteProtected, InvalidFieldInCommand, AddressOutOfRange, InvalidOperationCode, InvalidAddressForWrite, IncompleteTrackInSession, EmptyTrack, NoMoreReservations, EndOfUserArea, Reply, Plan, Verdict, Command, TestUnitReady, RequestSense, Inquiry, ReadCapacity, Read, Write, SynchronizeCache, ReserveTrack, CloseTrackSession, GetConfiguration, ReadDiscInformation, ReadTrackInformation, Unlisted}
 
 -- the sectors of the fragment with a number: recorded and pending ones
 abbrev pub taken : Disc → ℕ → ℕ
@@ -257,7 +256,7 @@ module _ (d : Disc) (n : ℕ) (r : Ready d) (one : 1 ≤ n) where
 
   -- every command
   pub moved-performed : (c : Command) → Moved (perform d c)
-  unfolding perform test_unit_ready request_sense inquiry read_toc get_configuration read_capacity read_disc_information synchronize_cache
+  unfolding perform test_unit_ready request_sense inquiry get_configuration read_capacity read_disc_information synchronize_cache
   moved-performed TestUnitReady = moved_same no_reply no_plan
   moved-performed (RequestSense allocation) = moved_same _ no_plan
   moved-performed (Inquiry pageBit allocation) =
@@ -268,8 +267,6 @@ module _ (d : Disc) (n : ℕ) (r : Ready d) (one : 1 ≤ n) where
   moved-performed SynchronizeCache = moved-flush (flush d) no_reply _ (same_counts (flush d)) (flush_pending d)
   moved-performed (ReserveTrack size) = moved-reserve size
   moved-performed (CloseTrackSession function j) = moved-close function j
-  moved-performed (ReadToc form time start allocation) =
-      cond_cases Moved (has_contents d form start) _ _ (λ t. moved_same _ no_plan) (λ t. moved-refused InvalidFieldInCommand)
   moved-performed (GetConfiguration request_type start allocation) =
       cond_cases Moved (eqb request_type 3) _ _ (λ t. moved-refused InvalidFieldInCommand) (λ t. moved_same _ no_plan)
   moved-performed (ReadDiscInformation dataType allocation) =

@@ -13,7 +13,7 @@ use Rattle.outcomes.specs.Recorded.{among, records_block, flushed_count, transfe
 use Rattle.fragments.proofs.Laws.Bool.{by_cases}
 use Rattle.fragments.proofs.Laws.Numbers.{equal_cases}
 use Rattle.disc.proofs.Laws.Blank.{blank_pending}
-use Rattle.commands.proofs.Laws.Judge.{allowed-ready}
+use Rattle.commands.proofs.Laws.Judge.{allowed_ready}
 use Rattle.outcomes.proofs.Laws.Judge.{decided-performed, decided-recorded, decided-pending}
 use Rattle.outcomes.proofs.Laws.Recorded.{among-from, among_below}
 use Rattle.disc.proofs.Laws.Readable.{blank_unrecorded}
@@ -37,7 +37,7 @@ module _ (s : Drive) (q : Request) (h : Past) (w : Served s) (m : Recalls s.disc
       let v = verdict_on s q in
       let performed = decided-performed d v (verdict_decided s q) e in
       subst (λ (x : Verdict). Tells d h (past_after d (decode q.cdb) h) x.plan) (sym performed)
-      (recalled-performed d h (allowed-ready d w.range w.allowed) m (decode q.cdb) (sym (ap (λ (x : Verdict). x.answer) performed) ∙ e))
+      (recalled-performed d h (allowed_ready d w.range w.allowed) m (decode q.cdb) (sym (ap (λ (x : Verdict). x.answer) performed) ∙ e))
 
   accepted-recalls : (step s q).answer ≡ Accepted → Recalls (step s q).after.disc (past_after s.disc (decode q.cdb) h)
   unfolding step carried_out

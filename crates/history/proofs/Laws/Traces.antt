@@ -15,7 +15,7 @@ use Rattle.disc.specs.Rules.{Sound}
 use Rattle.commands.specs.Judge.{perform}
 use Rattle.outcomes.proofs.Laws.Accepts.{Takes, write-takes}
 use Rattle.fragments.proofs.Laws.Bool.{contradiction, by_cases, cond_yes, cond_no}
-use Rattle.commands.proofs.Laws.Judge.{allowed-ready}
+use Rattle.commands.proofs.Laws.Judge.{allowed_ready}
 use Rattle.outcomes.proofs.Laws.Judge.{decided-performed}
 use Rattle.fragments.proofs.Laws.Numbers.{equal_cases}
 use Rattle.outcomes.proofs.Laws.Recorded.{among-from, among_below, among_between}
@@ -23,7 +23,7 @@ use Rattle.drive.specs.Step.{Drive, Request, Result, verdict_on, carried_out, st
 use Rattle.drive.proofs.Laws.Alike.{step_link, step-refused}
 use Rattle.drive.proofs.Laws.Cut.{Served, served-after, served_alike}
 use Rattle.drive.proofs.Laws.Step.{verdict_decided}
-use Rattle.history.specs.Types.{Lba, Disc, Answer, Accepted, Link, Drive as by_drive, Verdict, Command, TestUnitReady, RequestSense, Inquiry, ReadCapacity, Read, Write, SynchronizeCache, ReserveTrack, CloseTrackSession, ReadToc, GetConfiguration, ReadDiscInformation, ReadTrackInformation, Unlisted}
+use Rattle.history.specs.Types.{Lba, Disc, Answer, Accepted, Link, Drive as by_drive, Verdict, Command, TestUnitReady, RequestSense, Inquiry, ReadCapacity, Read, Write, SynchronizeCache, ReserveTrack, CloseTrackSession, GetConfiguration, ReadDiscInformation, ReadTrackInformation, Unlisted}
 use Rattle.history.specs.Sequence.{Start, Turn, found, result, final, Admissible}
 use Rattle.history.specs.Account.{Extent, Account, opened, extent_of, written, flushed, filled, credited, noted, account_from, account}
 use Rattle.history.specs.Brought.{Written, write_of, accepted_write, writes, brought_to, sole, brought_in}
@@ -183,7 +183,6 @@ credited_pads n x (Inquiry pageBit allocation) sectors k b first none = pads_sam
 credited_pads n x ReadCapacity sectors k b first none = pads_same b k
 credited_pads n x (Read a count) sectors k b first none = pads_same b k
 credited_pads n x (ReserveTrack size) sectors k b first none = pads_same b k
-credited_pads n x (ReadToc form time start allocation) sectors k b first none = pads_same b k
 credited_pads n x (GetConfiguration request_type start allocation) sectors k b first none = pads_same b k
 credited_pads n x (ReadDiscInformation dataType allocation) sectors k b first none = pads_same b k
 credited_pads n x (ReadTrackInformation addressType number allocation) sectors k b first none = pads_same b k
@@ -303,7 +302,6 @@ is_write (Read a count) = false
 is_write SynchronizeCache = false
 is_write (ReserveTrack size) = false
 is_write (CloseTrackSession function number) = false
-is_write (ReadToc form time start allocation) = false
 is_write (GetConfiguration request_type start allocation) = false
 is_write (ReadDiscInformation dataType allocation) = false
 is_write (ReadTrackInformation addressType number allocation) = false
@@ -318,7 +316,7 @@ module _
     noting c n = credited n (extent_of s.disc n) c q.payload (ks n)
 
     ready : Ready s.disc
-    ready = allowed-ready s.disc w.range w.allowed
+    ready = allowed_ready s.disc w.range w.allowed
 
     -- it is accepted
     module _ (accepted : (step s q).answer ≡ Accepted) (c : Command) (is : decode q.cdb ≡ c) where
@@ -412,7 +410,6 @@ module _
     accepted-traced e SynchronizeCache is = command-plain e SynchronizeCache is refl
     accepted-traced e (ReserveTrack size) is = command-plain e (ReserveTrack size) is refl
     accepted-traced e (CloseTrackSession function number) is = command-plain e (CloseTrackSession function number) is refl
-    accepted-traced e (ReadToc form time start allocation) is = command-plain e (ReadToc form time start allocation) is refl
     accepted-traced e (GetConfiguration request_type start allocation) is = command-plain e (GetConfiguration request_type start allocation) is refl
     accepted-traced e (ReadDiscInformation dataType allocation) is = command-plain e (ReadDiscInformation dataType allocation) is refl
     accepted-traced e (ReadTrackInformation addressType number allocation) is =

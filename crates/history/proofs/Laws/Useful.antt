@@ -13,12 +13,11 @@ use Rattle.protocol.specs.Command.{decode}
 use Rattle.fragments.specs.List.{listed, some, every, find, sum_recorded, first_of_session}
 use Rattle.disc.specs.Sound.{used_first, first_at_zero, follows_from, in_order, ends_within, recorded_within, zeroed_within, incomplete_last, tail_last, tail_or_full, pending_named, finalized_complete, sound, allowed_state}
 use Rattle.protocol.specs.Lengths.{data_length, reply_room, lengths_fit}
-use Rattle.commands.specs.Toc.{contents_asked}
 use Rattle.commands.specs.Flush.{flush, flush_plan}
 use Rattle.commands.specs.Write.{flush_others, flush_others_plan, gather, write_to, write_found, write}
 use Rattle.reporting.specs.Reports.{session_state, disc_status, read_disc_information}
 use Rattle.protocol.specs.Reports.{disc_bytes}
-use Rattle.reporting.specs.Reply.{said, reply_bytes}
+use Rattle.protocol.specs.Reply.{said, reply_bytes}
 use Rattle.commands.specs.Judge.{perform, judge_command, judge}
 use Rattle.disc.specs.Verdict.{accepted, accept}
 use Rattle.drive.specs.Reply.{sent_bytes}
@@ -50,10 +49,10 @@ three = judge two.disc (write_cdb ten 16 16) 32768 0
 
 computed :
     (one.answer ≡ Accepted) × (one.recorded ≡ 1)
-    × ((d : Disc) (m p : List ℕ) → sent_bytes two.plan.transfer (reply_bytes d two.reply) m p ≡ 0x00 ∷ 0x20 ∷ 0x05 ∷ 1 ∷ 1 ∷ 1 ∷ 1 ∷ replicate 27 0)
+    × ((m p : List ℕ) → sent_bytes two.plan.transfer two.reply m p ≡ 0x00 ∷ 0x20 ∷ 0x05 ∷ 1 ∷ 1 ∷ 1 ∷ 1 ∷ replicate 27 0)
     × (three.answer ≡ Accepted) × (three.recorded ≡ 1)
-unfolding sent_bytes reply_bytes said decode write_opcode fields listed some every find sum_recorded first_of_session used_first first_at_zero follows_from in_order ends_within recorded_within zeroed_within incomplete_last tail_last tail_or_full pending_named finalized_complete sound allowed_state is_refusal_sense allowed_sense blank data_length reply_room contents_asked lengths_fit accepted accept flush flush_plan flush_others flush_others_plan gather write_to write_found write session_state disc_status disc_bytes read_disc_information perform judge_command judge
-computed = (refl, refl, λ d m p. refl, refl, refl)
+unfolding sent_bytes reply_bytes said decode write_opcode fields listed some every find sum_recorded first_of_session used_first first_at_zero follows_from in_order ends_within recorded_within zeroed_within incomplete_last tail_last tail_or_full pending_named finalized_complete sound allowed_state is_refusal_sense allowed_sense blank data_length reply_room lengths_fit accepted accept flush flush_plan flush_others flush_others_plan gather write_to write_found write session_state disc_status disc_bytes read_disc_information perform judge_command judge
+computed = (refl, refl, λ m p. refl, refl, refl)
 
 module _ (s : Drive) (start : Start 300 s) where
   first-verdict : verdict_on s first_block ≡ one
@@ -81,8 +80,7 @@ module _ (s : Drive) (start : Start 300 s) where
   pub information-says : (step after_first information_request).reply ≡ 0x00 ∷ 0x20 ∷ 0x05 ∷ 1 ∷ 1 ∷ 1 ∷ 1 ∷ replicate 27 0
   unfolding step carried_out
   information-says =
-      ap (λ (v : Verdict). sent_bytes v.plan.transfer (reply_bytes after_first.disc v.reply) after_first.medium after_first.pending) second-verdict
-      ∙ computed.2 after_first.disc after_first.medium after_first.pending
+      ap (λ (v : Verdict). sent_bytes v.plan.transfer v.reply after_first.medium after_first.pending) second-verdict ∙ computed.2 after_first.medium after_first.pending
 
   abbrev after-second : Drive
   after-second = (step after_first information_request).after

@@ -15,7 +15,7 @@ use Rattle.protocol.specs.Command.{decode}
 use Rattle.commands.specs.Write.{write}
 use Rattle.outcomes.proofs.Laws.Accepts.{Takes, takes-accepted}
 use Rattle.disc.proofs.Laws.Blank.{range_least, blank-allowed, blank_capacity}
-use Rattle.commands.proofs.Laws.Judge.{allowed-ready}
+use Rattle.commands.proofs.Laws.Judge.{allowed_ready}
 use Rattle.disc.proofs.Laws.Rules.{sound-rules}
 use Rattle.fragments.proofs.Laws.Bool.{and_left, and_right, and_both, by_cases, cond_yes, cond_no}
 use Rattle.drive.specs.Bytes.{zeros}
@@ -24,7 +24,7 @@ use Rattle.drive.specs.Alike.{recorded_byte}
 use Rattle.drive.specs.Requests.{WriteOf}
 use Rattle.drive.proofs.Laws.Bytes.{length-zeros}
 use Rattle.drive.proofs.Laws.Cut.{write_verdict}
-use Rattle.history.specs.Types.{Lba, Disc, Verdict, Answer, Accepted, Link, Drive as by_drive, Command, TestUnitReady, RequestSense, Inquiry, ReadCapacity, Read, Write, SynchronizeCache, ReserveTrack, CloseTrackSession, ReadToc, GetConfiguration, ReadDiscInformation, ReadTrackInformation, Unlisted}
+use Rattle.history.specs.Types.{Lba, Disc, Verdict, Answer, Accepted, Link, Drive as by_drive, Command, TestUnitReady, RequestSense, Inquiry, ReadCapacity, Read, Write, SynchronizeCache, ReserveTrack, CloseTrackSession, GetConfiguration, ReadDiscInformation, ReadTrackInformation, Unlisted}
 use Rattle.history.specs.Sequence.{Start, Turn, result, final}
 use Rattle.history.specs.Forms.{longest, addresses, write_cdb}
 use Rattle.history.specs.Cut.{Parts, none, part, CutOf, Again, ends, same, cut}
@@ -147,7 +147,6 @@ recut_command_lem ks q (Read a n) is = inl refl
 recut_command_lem ks q SynchronizeCache is = inl refl
 recut_command_lem ks q (ReserveTrack size) is = inl refl
 recut_command_lem ks q (CloseTrackSession function n) is = inl refl
-recut_command_lem ks q (ReadToc form time start allocation) is = inl refl
 recut_command_lem ks q (GetConfiguration request_type start allocation) is = inl refl
 recut_command_lem ks q (ReadDiscInformation dataType allocation) is = inl refl
 recut_command_lem ks q (ReadTrackInformation addressType n allocation) is = inl refl
@@ -268,7 +267,7 @@ blank-takes : (c n : ℕ) → in_range c ≡ true → n ≤ 16 * c → Takes (bl
 unfolding blank
 blank-takes c n range fits =
     let least = range_least c range in
-    let s = sound-rules (blank c) (allowed-ready (blank c) range (blank-allowed c range)).sound in
+    let s = sound-rules (blank c) (allowed_ready (blank c) range (blank-allowed c range)).sound in
     record {
       number = 1;
       here = record { from = omega arith; listed = s.some; incomplete = ne_eqb 0 (c - 0) (λ z. omega (arith, z, least)); here = refl };
@@ -280,7 +279,7 @@ unfolding step carried_out
 blank-accepted c s start q n w fits =
     let range = start.range in
     let taken : (write (blank c) (lba 0) n).answer ≡ Accepted =
-    takes-accepted (blank c) (lba 0) n (allowed-ready (blank c) (ap in_range (blank_capacity c) ∙ range) (blank-allowed c range)) (blank-takes c n range fits) in
+    takes-accepted (blank c) (lba 0) n (allowed_ready (blank c) (ap in_range (blank_capacity c) ∙ range) (blank-allowed c range)) (blank-takes c n range fits) in
     ap (λ (v : Verdict). v.answer) (write_verdict s q (lba 0) n w (start-served c s start))
     ∙ (ap (λ (d : Disc). (write d (lba 0) n).answer) start.disc ∙ taken)
 

@@ -11,7 +11,6 @@ use Rattle.protocol.specs.Command.{decode}
 use Rattle.fragments.specs.List.{listed, some, every, find, sum_recorded}
 use Rattle.disc.specs.Sound.{used_first, first_at_zero, follows_from, in_order, ends_within, recorded_within, zeroed_within, incomplete_last, tail_last, tail_or_full, pending_named, finalized_complete, sound, allowed_state}
 use Rattle.protocol.specs.Lengths.{data_length, reply_room, lengths_fit}
-use Rattle.commands.specs.Toc.{contents_asked}
 use Rattle.commands.specs.Flush.{flush, flush_plan, synchronize_cache}
 use Rattle.commands.specs.Read.{all_readable, read}
 use Rattle.commands.specs.Write.{flush_others, flush_others_plan, gather, write_to, write_found, write}
@@ -86,7 +85,7 @@ again_prefix (p ∷ ps) s e ts us w =
 computed :
     ((judge (disc_after before (blank 300)) (write_cdb ten 84 2) 4096 0).answer ≡ Accepted)
     × (judged (before ++ (shape (write_cdb ten 84 2) 4096 0 ∷ rest)) (blank 300) ≡ 1 ∷ 4 ∷ 0x052000 ∷ 0 ∷ 0 ∷ 0 ∷ 0 ∷ 0 ∷ 0 ∷ 0 ∷ [])
-unfolding disc_after judged decode write_opcode fields listed some every find sum_recorded used_first first_at_zero follows_from in_order ends_within recorded_within zeroed_within incomplete_last tail_last tail_or_full pending_named finalized_complete sound allowed_state is_refusal_sense allowed_sense blank data_length reply_room contents_asked lengths_fit accepted accept refuse refuse_link flush flush_plan all_readable read flush_others flush_others_plan gather write_to write_found write split_tail reserve append_tail close_incomplete close_fragment close synchronize_cache perform judge_command judge
+unfolding disc_after judged decode write_opcode fields listed some every find sum_recorded used_first first_at_zero follows_from in_order ends_within recorded_within zeroed_within incomplete_last tail_last tail_or_full pending_named finalized_complete sound allowed_state is_refusal_sense allowed_sense blank data_length reply_room lengths_fit accepted accept refuse refuse_link flush flush_plan all_readable read flush_others flush_others_plan gather write_to write_found write split_tail reserve append_tail close_incomplete close_fragment close synchronize_cache perform judge_command judge
 computed = (refl, refl)
 
 -- the whole example by its shapes

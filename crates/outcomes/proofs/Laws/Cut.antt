@@ -27,7 +27,7 @@ use Rattle.commands.proofs.Laws.Flush.{flush_none}
 use Rattle.disc.proofs.Laws.Grow.{grown-used}
 use Rattle.outcomes.proofs.Laws.Keep.{gather_grows, write_room}
 use Rattle.commands.specs.Flush.{flush_count, flush_plan}
-use Rattle.outcomes.proofs.Laws.Outcome.{outcome-ready, write-outcome}
+use Rattle.outcomes.proofs.Laws.Outcome.{outcome_ready, write-outcome}
 use Rattle.outcomes.proofs.Laws.Accepts.{Takes, takes-accepted}
 
 -- the fragment and its pending sectors after gathering
@@ -210,7 +210,7 @@ module _ (d : Disc) (a : Lba) (n m : ℕ) (r : Ready d) (z : n ≡ 0 → ⊥) (y
   between_is = write-disc d a n r z first-takes
 
   between-ready : Ready between
-  between-ready = rw between_is at (outcome-ready d (Write a n) (write d a n) r (write-outcome d a n r))
+  between-ready = rw between_is at (outcome_ready d (Write a n) (write d a n) r (write-outcome d a n r))
 
   sum-some : n + m ≡ 0 → ⊥
   sum-some e = z (omega arith)
@@ -327,7 +327,7 @@ module _ (d : Disc) (a : Lba) (n m : ℕ) (r : Ready d) (z : n ≡ 0 → ⊥) (t
   pub parts-takes : Takes (write d a n).disc (lba (a.0 + n)) m → Takes d a (n + m)
   parts-takes u =
       let e = (write d a n).disc in
-      let ready = outcome-ready d (Write a n) (write d a n) r (write-outcome d a n r) in
+      let ready = outcome_ready d (Write a n) (write d a n) r (write-outcome d a n r) in
       let s = sound-rules e ready.sound in
       let w = t.here in
       let v = u.here in

@@ -8,7 +8,7 @@ use borrow.Author.Tests.{not-false, eq-eqb, le-leb, ne_eqb}
 use native.Mathlib.Nat.{le_refl}
 use lib.ListN.{length, replicate, length-append}
 use lib.Dec.{eqb}
-use Rattle.outcomes.specs.Types.{Lba, Disc, Verdict, Found, Number, Nowhere, Command, TestUnitReady, RequestSense, Inquiry, ReadCapacity, Read, Write, SynchronizeCache, ReserveTrack, CloseTrackSession, ReadToc, GetConfiguration, ReadDiscInformation, ReadTrackInformation, Unlisted, InvalidOperationCode, InvalidFieldInCommand, AddressOutOfRange, BlankCheck, DriveRefusal, LinkRefusal, Accepted, Link, Drive, CommandBlockLength, MediumSize, UnsoundState, TransferLength, WriteProtected, InvalidAddressForWrite, IncompleteTrackInSession, EmptyTrack, NoMoreReservations, EndOfUserArea, Send}
+use Rattle.outcomes.specs.Types.{Lba, Disc, Verdict, Found, Number, Nowhere, Command, TestUnitReady, RequestSense, Inquiry, ReadCapacity, Read, Write, SynchronizeCache, ReserveTrack, CloseTrackSession, GetConfiguration, ReadDiscInformation, ReadTrackInformation, Unlisted, InvalidOperationCode, InvalidFieldInCommand, AddressOutOfRange, BlankCheck, DriveRefusal, LinkRefusal, Accepted, Link, Drive, CommandBlockLength, MediumSize, UnsoundState, TransferLength, WriteProtected, InvalidAddressForWrite, IncompleteTrackInSession, EmptyTrack, NoMoreReservations, EndOfUserArea, Send}
 use Rattle.fragments.specs.Address.{lba}
 use Rattle.protocol.specs.Answer.{allowed_sense, no_sense, refusal_sense, is_refusal_sense}
 use Rattle.protocol.specs.Command.{decode}
@@ -21,10 +21,7 @@ use Rattle.protocol.specs.Lengths.{lengths_fit, reply_room, inquiry_room, config
 use Rattle.decisions.specs.Plan.{no_plan}
 use Rattle.disc.specs.Verdict.{refuse_link, refuse, accepted, accept, rise}
 use Rattle.protocol.specs.Inquiry.{inquiry_bytes}
-use Rattle.protocol.specs.Reply.{report, configuration_reply, contents_reply}
-use Rattle.commands.specs.Toc.{contents_asked, longest_contents}
-use Rattle.reporting.specs.Contents.{disc_contents, has_contents, contents_length, read_toc}
-use Rattle.reporting.specs.Reply.{said}
+use Rattle.protocol.specs.Reply.{report, configuration_reply, said}
 use Rattle.commands.specs.Read.{read}
 use Rattle.reporting.specs.Identity.{inquiry, get_configuration}
 use Rattle.reporting.specs.Reports.{request_sense, read_capacity, disc_report, read_disc_information, track_report, track_verdict, track_found, track_numbered, read_track_information}
@@ -33,9 +30,7 @@ use Rattle.commands.specs.Judge.{judge_as_asked, test_unit_ready, perform, judge
 use mathlib.Core.Logic.{⊎_elim, ◌⊎◌, inl, inr}
 use Rattle.outcomes.specs.Recorded.{records_block, flushes, transfers}
 use Rattle.commands.specs.Write.{write}
-use Rattle.reporting.proofs.Laws.Contents.{closed_sessions_lem, contents-most, served}
-use Rattle.commands.proofs.Laws.Toc.{room_more}
-use Rattle.commands.proofs.Laws.Judge.{allowed-ready}
+use Rattle.commands.proofs.Laws.Judge.{allowed_ready}
 use Rattle.outcomes.proofs.Laws.Pending.{Pending, pending_same}
 use Rattle.fragments.proofs.Laws.Bool.{cond_cases, and_both, same_test, or_left, or_right, or_cases, contradiction, by_cases}
 use Rattle.disc.proofs.Laws.Rules.{sound-rules}
@@ -45,7 +40,7 @@ use Rattle.outcomes.proofs.Laws.Plan.{Placed, placed_none, placed_fresh, moved_s
 use Rattle.disc.proofs.Laws.Readable.{recorded_onward, recorded_held, held_recorded}
 use Rattle.commands.proofs.Laws.Read.{Shared, read_cases}
 use Rattle.outcomes.proofs.Laws.Accepts.{write_most}
-use Rattle.outcomes.proofs.Laws.Outcome.{Outcome, refused, same_outcome, sent-outcome, unchanged-outcome, outcome-rise, synchronize_outcome, write-outcome, reserve-outcome, close-outcome, outcome-ready, outcome_answer, outcome-refused, outcome-accepted, outcome_capacity, outcome-onward, outcome_placed, done, outcome_pending}
+use Rattle.outcomes.proofs.Laws.Outcome.{Outcome, refused, same_outcome, sent-outcome, unchanged-outcome, outcome-rise, synchronize_outcome, write-outcome, reserve-outcome, close-outcome, outcome_ready, outcome_answer, outcome-refused, outcome-accepted, outcome_capacity, outcome-onward, outcome_placed, done, outcome_pending}
 
 -- READ and the reports leave the list alone
 read-outcome : (d : Disc) (a : Lba) (n : ℕ) → Ready d → Outcome d (Read a n) (read d a n)
@@ -53,12 +48,12 @@ read-outcome d a n r =
     read_cases (Outcome d (Read a n)) d a n (unchanged-outcome d (Read a n) r) refused (λ z h t. sent-outcome d a n z h t r)
 
 report-outcome :
-    (d : Disc) (c : Command) (bytes : List ℕ) (n : ℕ) → min (length bytes) n ≤ reply_room (contents_asked d c) c → Ready d
+    (d : Disc) (c : Command) (bytes : List ℕ) (n : ℕ) → min (length bytes) n ≤ reply_room c → Ready d
     → Outcome d c (accept d d (report bytes n) no_plan)
 unfolding said
 report-outcome d c bytes n m r =
     same_outcome d c (report bytes n)
-    (record { fits = m; whole = omega (arith, length-append bytes (replicate (36 - length bytes) 0)); still = λ f t s e. refl; asked = λ f t s e. absurd (let z : ◌≡◌ {A = ℕ} 0 1 = cc in omega arith) }) r
+    (record { fits = m; whole = omega (arith, length-append bytes (replicate (36 - length bytes) 0)) }) r
 
 sense-outcome : (d : Disc) (n : ℕ) → Ready d → Outcome d (RequestSense n) (request_sense d n)
 unfolding request_sense sense_bytes reply_room
@@ -79,17 +74,7 @@ unfolding get_configuration reply_room configuration_room said
 configuration_outcome d t s n r =
     let c = GetConfiguration t s n in
     cond_cases (Outcome d c) (eqb t 3) _ _ (λ e. refused InvalidFieldInCommand)
-    (λ e. same_outcome d c (configuration_reply t s n) (record { fits = rw e (le_refl _); whole = omega arith; still = λ f k l q. refl; asked = λ f k l q. absurd (let z : ◌≡◌ {A = ℕ} 0 1 = cc in omega arith) }) r)
-
-toc-outcome : (d : Disc) (f t s n : ℕ) → Ready d → Outcome d (ReadToc f t s n) (read_toc d f t s n)
-unfolding read_toc contents_asked reply_room said
-toc-outcome d f t s n r =
-    let c = ReadToc f t s n in
-    cond_cases (Outcome d c) (has_contents d f s) _ _
-    (λ e.
-    same_outcome d c (contents_reply f t s (length (disc_contents d f t s)) n)
-    (record { fits = omega (arith, served d f t s n e); whole = omega arith; still = λ g k l q. refl; asked = λ g k l q. refl }) r)
-    (λ e. refused InvalidFieldInCommand)
+    (λ e. same_outcome d c (configuration_reply t s n) (record { fits = rw e (le_refl _); whole = omega arith }) r)
 
 disc-outcome : (d : Disc) (t n : ℕ) → Ready d → Outcome d (ReadDiscInformation t n) (read_disc_information d t n)
 unfolding read_disc_information disc_bytes reply_room
@@ -120,14 +105,14 @@ module _ (d : Disc) (t n m : ℕ) (r : Ready d) where
       (λ f. cond_cases (Outcome d c) (is_listed d n) _ _ (λ a. track-report n) (λ a. refused InvalidFieldInCommand)))
       (λ h. refused InvalidFieldInCommand))
 
-ready-outcome : (d : Disc) → Ready d → Outcome d TestUnitReady (test_unit_ready d)
+ready_outcome : (d : Disc) → Ready d → Outcome d TestUnitReady (test_unit_ready d)
 unfolding test_unit_ready
-ready-outcome d r = unchanged-outcome d TestUnitReady r
+ready_outcome d r = unchanged-outcome d TestUnitReady r
 
 -- every command keeps the list sound and the capacity, or changes the sense alone
 pub perform-outcome : (d : Disc) (c : Command) → Ready d → Outcome d c (perform d c)
 unfolding perform
-perform-outcome d TestUnitReady r = ready-outcome d r
+perform-outcome d TestUnitReady r = ready_outcome d r
 perform-outcome d (RequestSense n) r = sense-outcome d n r
 perform-outcome d (Inquiry p n) r = inquiry-outcome d p n r
 perform-outcome d ReadCapacity r = capacity_outcome d r
@@ -136,7 +121,6 @@ perform-outcome d (Write a n) r = write-outcome d a n r
 perform-outcome d SynchronizeCache r = synchronize_outcome d SynchronizeCache r
 perform-outcome d (ReserveTrack n) r = reserve-outcome d (ReserveTrack n) n r
 perform-outcome d (CloseTrackSession f n) r = close-outcome d (CloseTrackSession f n) f n r
-perform-outcome d (ReadToc f t s n) r = toc-outcome d f t s n r
 perform-outcome d (GetConfiguration t s n) r = configuration_outcome d t s n r
 perform-outcome d (ReadDiscInformation t n) r = disc-outcome d t n r
 perform-outcome d (ReadTrackInformation t n m) r = track-outcome d t n m r
@@ -145,7 +129,7 @@ perform-outcome d Unlisted r = refused InvalidOperationCode
 -- a decision is a link refusal, or what the drive makes of a disc that is ready: of any state, block and lengths
 pub data Decided (d : Disc) (c : Command) (n m : ℕ) : Verdict → Type 0 where
   on_link : (q : LinkRefusal) → Decided d c n m (refuse_link d q)
-  by_drive : in_range d.capacity ≡ true → allowed_state d ≡ true → lengths_fit (contents_asked d c) c n m ≡ true → Decided d c n m (perform d c)
+  by_drive : in_range d.capacity ≡ true → allowed_state d ≡ true → lengths_fit c n m ≡ true → Decided d c n m (perform d c)
 
 pub judge-decided : (d : Disc) (b : List ℕ) (n m : ℕ) → Decided d (decode b) n m (judge d b n m)
 unfolding judge judge_command
@@ -157,7 +141,7 @@ judge-decided d b n m =
     (λ h.
     cond_cases (Decided d c n m) (not (allowed_state d)) _ _ (λ a. on_link UnsoundState)
     (λ a.
-    cond_cases (Decided d c n m) (not (lengths_fit (contents_asked d c) c n m)) _ _ (λ l. on_link TransferLength)
+    cond_cases (Decided d c n m) (not (lengths_fit c n m)) _ _ (λ l. on_link TransferLength)
     (λ l. by_drive (not-false _ h) (not-false _ a) (not-false _ l)))))
 
 -- the sense that an outcome leaves is allowed
@@ -181,7 +165,7 @@ outcome-sense d c v (refused q) = refusal_allowed q
 
 -- what the drive makes of a command whose state the link let through
 pub allowed-outcome : (d : Disc) (c : Command) → in_range d.capacity ≡ true → allowed_state d ≡ true → Outcome d c (perform d c)
-allowed-outcome d c r a = perform-outcome d c (allowed-ready d r a)
+allowed-outcome d c r a = perform-outcome d c (allowed_ready d r a)
 
 -- a decision's laws, of any state, command and lengths
 module _ {c : Command} {n m : ℕ} (d : Disc) where
@@ -217,14 +201,14 @@ module _ {c : Command} {n m : ℕ} (d : Disc) where
   pub decided-ready : (v : Verdict) → Ready d → Decided d c n m v → Ready v.disc
   unfolding refuse_link
   decided-ready v k (on_link x) = k
-  decided-ready v k (by_drive r a l) = outcome-ready d c _ k (allowed-outcome d c r a)
+  decided-ready v k (by_drive r a l) = outcome_ready d c _ k (allowed-outcome d c r a)
 
   -- and a state that L3 lets through is let through again: its sense is none or a drive refusal's
   pub decided-allowed : (v : Verdict) → allowed_state d ≡ true → Decided d c n m v → allowed_state v.disc ≡ true
   unfolding refuse_link allowed_state
   decided-allowed v t (on_link x) = t
   decided-allowed v t (by_drive r a l) =
-      let o = allowed-outcome d c r a in and_both (outcome-ready d c _ (allowed-ready d r a) o).sound (outcome-sense d c _ o)
+      let o = allowed-outcome d c r a in and_both (outcome_ready d c _ (allowed_ready d r a) o).sound (outcome-sense d c _ o)
 
   pub decided-capacity : (v : Verdict) → Decided d c n m v → v.disc.capacity ≡ d.capacity
   unfolding refuse_link
@@ -246,13 +230,13 @@ module _ {c : Command} {n m : ℕ} (d : Disc) where
   unfolding refuse_link
   decided-sum v (on_link x) = omega arith
   decided-sum v (by_drive r a l) =
-      onward-sum d (perform d c).disc _ (sound-rules d (allowed-ready d r a).sound) (outcome-onward d c _ (allowed-outcome d c r a))
+      onward-sum d (perform d c).disc _ (sound-rules d (allowed_ready d r a).sound) (outcome-onward d c _ (allowed-outcome d c r a))
 
   -- of a WRITE of k sectors it is 1 + k/16 at most
   pub decided-most : (v : Verdict) (a : Lba) (k : ℕ) → c ≡ Write a k → Decided d c n m v → v.recorded ≤ 1 + k / 16
   unfolding refuse_link perform
   decided-most v a k e (on_link x) = omega arith
-  decided-most v a k e (by_drive r s l) = rw e (write_most d a k (allowed-ready d r s))
+  decided-most v a k e (by_drive r s l) = rw e (write_most d a k (allowed_ready d r s))
 
   -- the blocks that its plan records were unrecorded before, inside the medium, each time of one fragment
   pub decided-placed : (v : Verdict) → Decided d c n m v → Placed d c v.plan
@@ -279,7 +263,7 @@ module _ {c : Command} {n m : ℕ} (d : Disc) where
   unfolding refuse_link records_block flushes transfers
   decided-fresh v a (on_link x) t r = contradiction t refl
   decided-fresh v a (by_drive r s l) t k =
-      placed_fresh d c (perform d c).plan a (sound-rules d (allowed-ready d r s).sound) (outcome_placed d c _ (allowed-outcome d c r s)) t k
+      placed_fresh d c (perform d c).plan a (sound-rules d (allowed_ready d r s).sound) (outcome_placed d c _ (allowed-outcome d c r s)) t k
 
   -- only a READ sends, sectors that are all readable: recorded ones of the medium, pending ones of the pending buffer
   pub decided-sends :
@@ -298,50 +282,30 @@ module _ {c : Command} {n m : ℕ} (d : Disc) where
 -- a command that the link lets through is performed
 pub judge_performs :
     (d : Disc) (b : List ℕ) (n m : ℕ) (c : Command) → length b ≡ 12 → decode b ≡ c → in_range d.capacity ≡ true → allowed_state d ≡ true
-    → lengths_fit (contents_asked d c) c n m ≡ true → judge d b n m ≡ perform d c
+    → lengths_fit c n m ≡ true → judge d b n m ≡ perform d c
 unfolding judge judge_command
 judge_performs d b n m c l e r a f = rw (eq-eqb (length b) 12 l, e, r, a, f)
 
--- on a disc that is ready no table of contents is longer than the longest
-asked_most : (d : Disc) (c : Command) → Ready d → contents_asked d c ≤ longest_contents
-unfolding contents_asked
-asked_most d TestUnitReady r = omega arith
-asked_most d (RequestSense n) r = omega arith
-asked_most d (Inquiry p n) r = omega arith
-asked_most d ReadCapacity r = omega arith
-asked_most d (Read a n) r = omega arith
-asked_most d (Write a n) r = omega arith
-asked_most d SynchronizeCache r = omega arith
-asked_most d (ReserveTrack n) r = omega arith
-asked_most d (CloseTrackSession f n) r = omega arith
-asked_most d (ReadToc f t s n) r = contents-most d (closed_sessions_lem d r.sound) f t s
-asked_most d (GetConfiguration t s n) r = omega arith
-asked_most d (ReadDiscInformation t n) r = omega arith
-asked_most d (ReadTrackInformation t n m) r = omega arith
-asked_most d Unlisted r = omega arith
-
 -- with the lengths that it asks for L4 cannot come up
-pub asked_fit : (d : Disc) (c : Command) → Ready d → lengths_fit (contents_asked d c) c (data_length c) (reply_room longest_contents c) ≡ true
+pub asked_fit : (c : Command) → lengths_fit c (data_length c) (reply_room c) ≡ true
 unfolding lengths_fit
-asked_fit d c r =
-    and_both (eq-eqb (data_length c) (data_length c) refl) (le-leb _ _ (room_more (contents_asked d c) longest_contents c (asked_most d c r)))
+asked_fit c = and_both (eq-eqb (data_length c) (data_length c) refl) (le-leb (reply_room c) (reply_room c) (omega arith))
 
 pub as_asked_performs :
     (d : Disc) (b : List ℕ) → length b ≡ 12 → in_range d.capacity ≡ true → allowed_state d ≡ true → judge_as_asked d b ≡ perform d (decode b)
-as_asked_performs d b l r a =
-    judge_performs d b (data_length (decode b)) (reply_room longest_contents (decode b)) (decode b) l refl r a (asked_fit d (decode b) (allowed-ready d r a))
+as_asked_performs d b l r a = judge_performs d b (data_length (decode b)) (reply_room (decode b)) (decode b) l refl r a (asked_fit (decode b))
 
 pub judge-writes :
     (d : Disc) (b : List ℕ) (n m : ℕ) (a : Lba) (k : ℕ) → length b ≡ 12 → decode b ≡ Write a k → in_range d.capacity ≡ true
     → allowed_state d ≡ true → n ≡ 2048 * k → judge d b n m ≡ write d a k
-unfolding perform lengths_fit data_length reply_room contents_asked
+unfolding perform lengths_fit data_length reply_room
 judge-writes d b n m a k l e r s f =
     judge_performs d b n m (Write a k) l e r s (and_both (eq-eqb n (2048 * k) f) (le-leb 0 m (omega arith)))
 
 pub judge_reads :
     (d : Disc) (b : List ℕ) (m : ℕ) (a : Lba) (k : ℕ) → length b ≡ 12 → decode b ≡ Read a k → in_range d.capacity ≡ true
     → allowed_state d ≡ true → 2048 * k ≤ m → judge d b 0 m ≡ read d a k
-unfolding perform lengths_fit data_length reply_room contents_asked
+unfolding perform lengths_fit data_length reply_room
 judge_reads d b m a k l e r s f = judge_performs d b 0 m (Read a k) l e r s (and_both refl (le-leb (2048 * k) m f))
 
 pub perform-read : (d : Disc) (a : Lba) (k : ℕ) → perform d (Read a k) ≡ read d a k
@@ -363,7 +327,7 @@ unfolding judge judge_command refuse_link
 judge_link d b n m x r a e =
     by_cases (eqb (length b) 12)
     (λ w.
-    by_cases (lengths_fit (contents_asked d (decode b)) (decode b) n m)
+    by_cases (lengths_fit (decode b) n m)
     (λ l. absurd (outcome_answer d (decode b) (perform d (decode b)) x (allowed-outcome d (decode b) r a) (rw (w, r, a, l) at e)))
     (λ l. let q : Link TransferLength ≡ Link x = rw (w, r, a, l) at e in inr (link_same q)))
     (λ w. let q : Link CommandBlockLength ≡ Link x = rw w at e in inl (link_same q))

@@ -116,7 +116,7 @@ module _
   unfolding split_tail
   split-onward =
       onward-before d reservedDisc _ NoBlock
-      (replace_onward d reserved s reserved-size refl refl (blank_recorded d t))
+      (replace_onward d reserved s reserved-size refl (blank_recorded d t))
       (rw (ap (λ j. with_record reservedDisc (j + 1) rest) reserved-used) at (extend_onward reservedDisc reserved-ordered rest reserved-extends))
 
 -- CLOSE 001 of a reserved fragment
@@ -222,7 +222,7 @@ module _ (d : Disc) (s : Sound d) (p : d.pending ≡ 0) (w : (last_record d).rec
       omega (arith, ap (λ h. (end h).0) (ap (λ j. numbered shortened j) shortened-used))))))))
 
   shortened-onward : Onward d shortened NoBlock
-  shortened-onward = replace_onward d (shortened_record (last_record d)) s w refl refl refl
+  shortened-onward = replace_onward d (shortened_record (last_record d)) s w refl refl
 
   pub shorten-onward : Onward d (append_tail shortened (used d)) NoBlock
   unfolding append_tail
@@ -332,7 +332,7 @@ close_tail-onward d s p =
     (λ b. rw (kept-blank d b) (drop-onward d s (blank_recorded d b)))
     (λ b.
     by_cases (has_tail d)
-    (λ t. rw (kept-tail d b t) (replace_onward d (shortened_record (last_record d)) s (tail_written d p t b) refl refl refl))
+    (λ t. rw (kept-tail d b t) (replace_onward d (shortened_record (last_record d)) s (tail_written d p t b) refl refl))
     (λ t. rw (kept_same d t) (same_onward d)))
 
 -- CLOSE 010: a tail of the next session

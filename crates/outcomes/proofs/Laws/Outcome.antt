@@ -1,12 +1,12 @@
 -- What a command does to the list: accepted, it leaves a sound list and the capacity; refused, the disc but for the sense.
 use Prim.Native.Nat.{ℕ, ◌+◌, ◌-◌, ◌≤◌, ◌<◌, ◌/◌}
 use mathlib.Core.Path.{◌≡◌, refl, sym, ◌∙◌, ap}
-use mathlib.Core.Bool.{Bool, true, false, not, ◌&&◌, ◌||◌}
+use mathlib.Core.Bool.{true, false, not, ◌&&◌, ◌||◌}
 use native.Mathlib.Omega.{arith}
 use borrow.Author.Tests.{eq-eqb, eqb-false, ltb-false, not-false}
 use lib.Dec.{eqb, ltb}
 use lib.ListN.{length, set}
-use Rattle.outcomes.specs.Types.{Sense, Accepted, Drive, Lba, Kind, Reserved, Appended, Disc, Found, Number, Nowhere, Reply, Plan, Verdict, DriveRefusal, LinkRefusal, Link, Nothing, TableOfContents, Command, TestUnitReady, RequestSense, Inquiry, ReadCapacity, SynchronizeCache, ReserveTrack, CloseTrackSession, ReadToc, GetConfiguration, ReadDiscInformation, ReadTrackInformation, Unlisted, Write, WriteProtected, InvalidFieldInCommand, InvalidAddressForWrite, IncompleteTrackInSession, EmptyTrack, NoMoreReservations, EndOfUserArea, Skip, Read, Gather, Fill}
+use Rattle.outcomes.specs.Types.{Sense, Accepted, Drive, Lba, Kind, Reserved, Appended, Disc, Found, Number, Nowhere, Reply, Plan, Verdict, DriveRefusal, LinkRefusal, Link, Nothing, Command, Write, WriteProtected, InvalidFieldInCommand, InvalidAddressForWrite, IncompleteTrackInSession, EmptyTrack, NoMoreReservations, EndOfUserArea, Skip, Read, Gather, Fill}
 use Rattle.fragments.specs.Address.{first_sector, sectors_in}
 use Rattle.protocol.specs.Answer.{no_sense, refusal_sense}
 use Rattle.fragments.specs.Fragment.{end, complete, next_fragment_start, next_session_start, first_unrecorded, shortened_record}
@@ -17,9 +17,7 @@ use Rattle.disc.specs.Ready.{Ready}
 use Rattle.protocol.specs.Lengths.{reply_room}
 use Rattle.decisions.specs.Plan.{no_plan, plan}
 use Rattle.disc.specs.Verdict.{rise, accepted, accept, refuse}
-use Rattle.protocol.specs.Reply.{no_reply}
-use Rattle.commands.specs.Toc.{contents_asked}
-use Rattle.reporting.specs.Reply.{said}
+use Rattle.protocol.specs.Reply.{no_reply, said}
 use Rattle.commands.specs.Flush.{flush, flush_plan, synchronize_cache}
 use Rattle.commands.specs.Write.{flush_others, gather, write_to, write_found, write, Writable, flush_others_plan, grown_record}
 use Rattle.commands.specs.Reserve.{split_tail, reserve}
@@ -41,44 +39,25 @@ use Rattle.disc.proofs.Laws.Onward.{Onward, same_onward, onward-on, NoBlock, onw
 use Rattle.outcomes.proofs.Laws.Plan.{Placed, placed_none, placed_flush, placed_gather, placed_fill, placed_send}
 use Rattle.outcomes.proofs.Laws.Keep.{split-onward, fill_grows, shorten-onward, close_tail-onward, open-session-onward, gather_grows, split-sound, fill_sound, shorten-sound, close-tail-closed, open-session-sound, finalize-sound, only_blank, gather-sound, write_room}
 
--- the command that asks for a table of contents
-abbrev pub asks_contents : Command → Bool
-asks_contents TestUnitReady = false
-asks_contents (RequestSense n) = false
-asks_contents (Inquiry p n) = false
-asks_contents ReadCapacity = false
-asks_contents (Read a n) = false
-asks_contents (Write a n) = false
-asks_contents SynchronizeCache = false
-asks_contents (ReserveTrack n) = false
-asks_contents (CloseTrackSession f n) = false
-asks_contents (ReadToc f t s n) = true
-asks_contents (GetConfiguration t s n) = false
-asks_contents (ReadDiscInformation t n) = false
-asks_contents (ReadTrackInformation t n m) = false
-asks_contents Unlisted = false
-
--- a reply's bytes are there, and the command asks for room for them; where they are a table of contents, nothing is moved, and the command is READ TOC
-pub record Room (d : Disc) (c : Command) (r : Reply) (p : Plan) : Type 0 where
-  pub fits : r.length ≤ reply_room (contents_asked d c) c
-  pub whole : r.length ≤ length (said d r.content r.bytes)
-  pub still : (f t s : ℕ) → r.content ≡ TableOfContents f t s → p ≡ no_plan
-  pub asked : (f t s : ℕ) → r.content ≡ TableOfContents f t s → asks_contents c ≡ true
+-- a reply's bytes are there, and the command asks for room for them
+pub record Room (c : Command) (r : Reply) : Type 0 where
+  pub fits : r.length ≤ reply_room c
+  pub whole : r.length ≤ length (said r.content r.bytes)
 
 pub data Outcome (d : Disc) (c : Command) : Verdict → Type 0 where
   done :
       (after : Disc) (r : Reply) (p : Plan) → Sound after → after.capacity ≡ d.capacity → Onward d after (Records p)
-      → Placed d c p → Pending d p after → Room d c r p → Outcome d c (accept d after r p)
+      → Placed d c p → Pending d p after → Room c r → Outcome d c (accept d after r p)
   refused : (r : DriveRefusal) → Outcome d c (refuse d r)
 
 -- no reply has room everywhere
-pub no_room : (d : Disc) (c : Command) (p : Plan) → Room d c no_reply p
+pub no_room : (c : Command) → Room c no_reply
 unfolding said
-no_room d c p = record { fits = omega arith; whole = omega arith; still = λ f t s e. absurd (let z : ◌≡◌ {A = ℕ} 0 1 = cc in omega arith); asked = λ f t s e. absurd (let z : ◌≡◌ {A = ℕ} 0 1 = cc in omega arith) }
+no_room c = record { fits = omega arith; whole = omega arith }
 
 -- an accepted command that leaves the list alone
 pub same_outcome :
-    (d : Disc) (c : Command) (r : Reply) → Room d c r no_plan → Ready d → Outcome d c (accept d d r no_plan)
+    (d : Disc) (c : Command) (r : Reply) → Room c r → Ready d → Outcome d c (accept d d r no_plan)
 same_outcome d c r m k =
     done d r no_plan (sound-rules d k.sound) refl (nothing_records d d (same_onward d)) (placed_none d c) (pending_same d d refl (λ z. refl)) m
 
@@ -89,16 +68,16 @@ pub sent-outcome :
 unfolding sending
 sent-outcome d a n z h t k =
     let s = sound-rules d k.sound in
-    done d no_reply (plan Skip (sending d a n)) s refl (sent-records d a _ _ _) (placed_send d a n s z h t) (pending_sent d a _ _ _) (no_room d (Read a n) _)
+    done d no_reply (plan Skip (sending d a n)) s refl (sent-records d a _ _ _) (placed_send d a n s z h t) (pending_sent d a _ _ _) (no_room (Read a n))
 
 -- and moves no byte
 pub unchanged-outcome : (d : Disc) (c : Command) → Ready d → Outcome d c (accept d d no_reply no_plan)
-unchanged-outcome d c r = same_outcome d c no_reply (no_room d c _) r
+unchanged-outcome d c r = same_outcome d c no_reply (no_room c) r
 
 flush_done : (d : Disc) (c : Command) → Ready d → Outcome d c (accept d (flush d) no_reply (plan (flush_plan d) Nothing))
 flush_done d c r =
     done (flush d) no_reply (plan (flush_plan d) Nothing) (flush-sound d r) (flush_capacity d)
-    (flush-records d (flush d) (flush_plan d) (flush-onward d r)) (placed_flush d c r) (pending_none d (flush d) (flush_pending d)) (no_room d c _)
+    (flush-records d (flush d) (flush_plan d) (flush-onward d r)) (placed_flush d c r) (pending_none d (flush d) (flush_pending d)) (no_room c)
 
 pub synchronize_outcome : (d : Disc) (c : Command) → Ready d → Outcome d c (synchronize_cache d)
 unfolding synchronize_cache
@@ -144,7 +123,7 @@ found-outcome d a n r (Number number) e =
     (gather-sound (flush_others d number) number n (others_sound d number r) (write_room d a number n r w (ltb-false _ _ h)))
     (gather_capacity d number n)
     (write-onward d a number n r w (ltb-false _ _ h)) (placed_gather d a number n r w (ltb-false _ _ h))
-    (pending-gathered d number n r w.from (omega (arith, w.listed, used-limit d r))) (no_room d (Write a n) _))
+    (pending-gathered d number n r w.from (omega (arith, w.listed, used-limit d r))) (no_room (Write a n)))
 found-outcome d a n r Nowhere e = refused InvalidAddressForWrite
 
 pub write-outcome : (d : Disc) (a : Lba) (n : ℕ) → Ready d → Outcome d (Write a n) (write d a n)
@@ -165,7 +144,7 @@ reserve-outcome d c size r =
     (λ b some f t w.
     done (split_tail d b) _ _ (split-sound d b s t w.free some w.start f) (split_capacity d b)
     (nothing_records d (split_tail d b) (split-onward d b s t w.free some w.start))
-    (placed_none d c) (pending_split d b r t) (no_room d c _))
+    (placed_none d c) (pending_split d b r t) (no_room c))
 
 -- CLOSE 001
 append_capacity : (d : Disc) (n : ℕ) → (append_tail d n).capacity ≡ d.capacity
@@ -208,7 +187,7 @@ incomplete_outcome d c n r from to b i Reserved e =
     done (with_record (flush d) n (filled_record (numbered (flush d) n))) _ _
     (fill_sound (flush d) n (flush-sound d r) (flush_pending d) from to) (flush_capacity d)
     (fill_records d n r from to)
-    (placed_fill d c n r from to) (pending_filled d _ _ _ (flush_pending d)) (no_room d c _)
+    (placed_fill d c n r from to) (pending_filled d _ _ _ (flush_pending d)) (no_room c)
 incomplete_outcome d c n r from to b i Appended e =
     let s = flush-sound d r in
     let last = appended_last (flush d) n s from to i e in
@@ -221,7 +200,7 @@ incomplete_outcome d c n r from to b i Appended e =
     (append_capacity (with_record (flush d) n g) n ∙ flush_capacity d)
     (flush-records d _ (flush_plan d)
     (onward-after d (flush d) _ _ (flush-onward d r) (rw same at (shorten-onward (flush d) s (flush_pending d) written))))
-    (placed_flush d c r) (pending_none d _ (append_pending (with_record (flush d) n g) n ∙ flush_pending d)) (no_room d c _)
+    (placed_flush d c r) (pending_none d _ (append_pending (with_record (flush d) n g) n ∙ flush_pending d)) (no_room c)
 
 pub close_fragment-outcome : (d : Disc) (c : Command) (n : ℕ) → Ready d → Outcome d c (close_fragment d n)
 unfolding close_fragment
@@ -276,7 +255,7 @@ close_session-outcome d c r =
     (open_capacity k ∙ same)
     (flush-records d _ (flush_plan d)
     (onward-after d e _ _ (flush-onward d r) (onward-before e k _ NoBlock (close_tail-onward e s p) (open-session-onward k t few start))))
-    (placed_flush d c r) (pending_none d _ (open_pending k ∙ (kept_pending_lem e ∙ p))) (no_room d c _)))))
+    (placed_flush d c r) (pending_none d _ (open_pending k ∙ (kept_pending_lem e ∙ p))) (no_room c)))))
 
 pub finalize-outcome : (d : Disc) (c : Command) → Ready d → Outcome d c (finalize d)
 unfolding finalize
@@ -294,7 +273,7 @@ finalize-outcome d c r =
     let t = close-tail-closed e s p i (two_kept d r (λ t q. contradiction (and_both t (eq-eqb _ _ q)) b)) in
     done (finalized k) _ _ (finalize-sound k t (kept_pending_lem e ∙ p)) (kept_capacity e ∙ flush_capacity d)
     (flush-records d _ (flush_plan d) (list-onward d k (finalized k) _ refl (onward-after d e k _ (flush-onward d r) (close_tail-onward e s p))))
-    (placed_flush d c r) (pending_none d _ (kept_pending_lem e ∙ p)) (no_room d c _))))
+    (placed_flush d c r) (pending_none d _ (kept_pending_lem e ∙ p)) (no_room c))))
 
 pub close-outcome : (d : Disc) (c : Command) (function n : ℕ) → Ready d → Outcome d c (close d function n)
 unfolding close
@@ -329,11 +308,11 @@ sense-sound d q s =
     }
 
 -- so every command keeps the list sound and the capacity
-pub outcome-ready : (d : Disc) (c : Command) (v : Verdict) → Ready d → Outcome d c v → Ready v.disc
+pub outcome_ready : (d : Disc) (c : Command) (v : Verdict) → Ready d → Outcome d c v → Ready v.disc
 unfolding accept accepted refuse
-outcome-ready d c v r (done after q p s k o l g m) =
+outcome_ready d c v r (done after q p s k o l g m) =
     record { sound = rules-sound (with_sense after no_sense) (sense-sound after no_sense s); range = rw k r.range }
-outcome-ready d c v r (refused q) =
+outcome_ready d c v r (refused q) =
     record { sound = rules-sound (with_sense d (refusal_sense q)) (sense-sound d (refusal_sense q) (sound-rules d r.sound)); range = r.range }
 
 pub outcome_capacity : (d : Disc) (c : Command) (v : Verdict) → Outcome d c v → v.disc.capacity ≡ d.capacity
@@ -376,10 +355,10 @@ unfolding accept accepted refuse
 outcome-rise d c v (done after q p s k o l g m) = refl
 outcome-rise d c v (refused q) = omega arith
 
-pub outcome_room : (d : Disc) (c : Command) (v : Verdict) → Outcome d c v → Room d c v.reply v.plan
+pub outcome_room : (d : Disc) (c : Command) (v : Verdict) → Outcome d c v → Room c v.reply
 unfolding accept accepted refuse
 outcome_room d c v (done after q p s k o l g m) = m
-outcome_room d c v (refused q) = no_room d c no_plan
+outcome_room d c v (refused q) = no_room c
 
 -- what is pending afterwards
 pub outcome_pending : (d : Disc) (c : Command) (v : Verdict) → Outcome d c v → Pending d v.plan v.disc

@@ -72,8 +72,8 @@ set-onward d e k n g s l grown same start count =
 among_one : (b x : ℕ) → among b 1 x ≡ true → eqb x b ≡ true
 among_one b x t = eq-eqb x b (omega (arith, among-from b 1 x t, among_below b 1 x t))
 
-one-among : (b x : ℕ) → eqb x b ≡ true → among b 1 x ≡ true
-one-among b x t = let e = eqb-true x b t in among_between b 1 x (omega arith) (omega arith)
+one_among : (b x : ℕ) → eqb x b ≡ true → among b 1 x ≡ true
+one_among b x t = let e = eqb-true x b t in among_between b 1 x (omega arith) (omega arith)
 
 no_block : (d e : Disc) (P : ℕ → Bool) → ((x : ℕ) → P x ≡ false) → Onward d e NoBlock → Onward d e (λ x. P x ≡ true)
 no_block d e P f o = onward_as d e NoBlock (λ x. P x ≡ true) (λ x b. absurd b) (λ x t. contradiction t (f x)) o
@@ -90,7 +90,7 @@ flush-onward d r =
     let f = numbered d d.owner in
     let w : Grown d (flush d) = flush_grows d r in
     rw z
-    (onward_as d _ _ (λ x. eqb x (first_unrecorded f).0 ≡ true) (λ x t. among_one (first_unrecorded f).0 x t) (λ x t. one-among (first_unrecorded f).0 x t)
+    (onward_as d _ _ (λ x. eqb x (first_unrecorded f).0 ≡ true) (λ x t. among_one (first_unrecorded f).0 x t) (λ x t. one_among (first_unrecorded f).0 x t)
     (set-onward d _ (d.owner - 1) 1 (flushed_record d.pending f) s (omega (arith, o.number, o.listed)) (rw z at w) refl refl refl)))
 
 pub others_onward :

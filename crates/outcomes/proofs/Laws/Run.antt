@@ -16,7 +16,7 @@ use Rattle.commands.specs.Read.{medium_share, sending, read}
 use Rattle.disc.specs.Verdict.{accepted, accept, refuse, refuse_link}
 use Rattle.protocol.specs.Command.{decode}
 use Rattle.commands.specs.Judge.{perform, judge_command, judge, judge_as_asked}
-use Rattle.commands.proofs.Laws.Judge.{allowed-ready}
+use Rattle.commands.proofs.Laws.Judge.{allowed_ready}
 use Rattle.outcomes.proofs.Laws.Outcome.{outcome_placed}
 use Rattle.outcomes.proofs.Laws.Judge.{perform-outcome, asked_fit}
 use Rattle.decisions.specs.Run.{stretch, sent, sent_within}
@@ -92,8 +92,8 @@ asked-run d b medium l =
     by_cases (allowed_state d)
     (λ a.
     let c = decode b in
-    let o = perform-outcome d c (allowed-ready d r a) in
-    rw (w, r, a, eq-eqb _ _ l, asked_fit d c (allowed-ready d r a)) (moved_within d c (perform d c).plan.transfer medium l (outcome_placed d c (perform d c) o).moved))
+    let o = perform-outcome d c (allowed_ready d r a) in
+    rw (w, r, a, eq-eqb _ _ l, asked_fit c) (moved_within d c (perform d c).plan.transfer medium l (outcome_placed d c (perform d c) o).moved))
     (λ a. rw (w, r, a, eq-eqb _ _ l)))
     (λ r. rw (w, r)))
     (λ w. rw w)

@@ -4,10 +4,9 @@ use Rattle.protocol.specs.Command.{decode}
 use Rattle.disc.specs.Sound.{allowed_state}
 use Rattle.disc.specs.Blank.{in_range}
 use Rattle.protocol.specs.Lengths.{data_length, reply_room}
-use Rattle.commands.specs.Toc.{longest_contents}
 use Rattle.commands.specs.Judge.{perform, judge_as_asked}
 use Rattle.disc.proofs.Laws.Blank.{blank-allowed, blank_capacity}
-use Rattle.commands.proofs.Laws.Judge.{allowed-ready}
+use Rattle.commands.proofs.Laws.Judge.{allowed_ready}
 use Rattle.outcomes.proofs.Laws.Judge.{judge-decided, decided-ready, decided-allowed, as_asked_performs}
 use Rattle.playback.specs.Types.{Disc, Replay}
 use Rattle.playback.specs.Replay.{start, after, onward, replayed}
@@ -22,9 +21,9 @@ start-served = record { range = rw (blank_capacity 300); allowed = blank-allowed
 
 after-served : (d : Disc) (b : List ℕ) → Served d → Served (after d b)
 after-served d b s =
-    let v = judge-decided d b (data_length (decode b)) (reply_room longest_contents (decode b)) in
+    let v = judge-decided d b (data_length (decode b)) (reply_room (decode b)) in
     record {
-      range = (decided-ready d (judge_as_asked d b) (allowed-ready d s.range s.allowed) v).range;
+      range = (decided-ready d (judge_as_asked d b) (allowed_ready d s.range s.allowed) v).range;
       allowed = decided-allowed d (judge_as_asked d b) s.allowed v;
     }
 

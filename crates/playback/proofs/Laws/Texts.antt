@@ -22,9 +22,9 @@ pub decimal_more : (n : ℕ) → n < 2 ^ 64 → 10 ≤ n → decimal n ≡ decim
 unfolding digits
 decimal_more n h k = rw (le-ltb n 10 k) (ap (λ (x : List ℕ). x ++ (digit (n % 10) ∷ [])) (digits_more 18 (n / 10) (omega arith)))
 
-pub decimal-one : (n : ℕ) → n < 10 → decimal n ≡ digit n ∷ []
+pub decimal_one : (n : ℕ) → n < 10 → decimal n ≡ digit n ∷ []
 unfolding digits
-decimal-one n h = rw (lt-ltb n 10 h)
+decimal_one n h = rw (lt-ltb n 10 h)
 
 -- no more digits than places
 digits-length : (k n : ℕ) → length (digits k n) ≤ k

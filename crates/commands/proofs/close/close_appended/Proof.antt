@@ -6,7 +6,7 @@ use Rattle.commands.specs.Flush.{flush, flush_plan, flush_count}
 use Rattle.commands.specs.Close.{close_incomplete}
 use Rattle.fragments.specs.Fragment.{shortened_record}
 use Rattle.disc.specs.Records.{numbered}
-use Rattle.commands.proofs.Laws.Flush.{used-limit, flush-ready, flush-sound}
+use Rattle.commands.proofs.Laws.Flush.{used-limit, flush_ready, flush-sound}
 use Rattle.disc.proofs.Laws.Verdict.{accept_count}
 use Rattle.commands.proofs.Laws.Close.{shorten_count}
 use Rattle.disc.proofs.Laws.Apply.{accepted_verdict}
@@ -46,7 +46,7 @@ returns c =
     let u = c.before.before.before.before.before.before.before.requires.1.1.0 in
     let g = shortened_record (numbered (flush d) n) in
     rw (c.accepted.ensures, accepted_verdict, c.before.none.ensures, c.before.before.tail-after.ensures, c.before.before.before.new2.ensures, c.before.before.before.before.before.shortened.ensures, c.before.before.before.before.before.before.new.ensures, f, first)
-    (ap (λ x. accepted x (flush_count d) no_reply (plan (flush_plan d) Nothing)) (affected_shortened d n g r (omega (arith, u, (flush-sound d r).some)) (omega (arith, u, used-limit (flush d) (flush-ready d r))))
+    (ap (λ x. accepted x (flush_count d) no_reply (plan (flush_plan d) Nothing)) (affected_shortened d n g r (omega (arith, u, (flush-sound d r).some)) (omega (arith, u, used-limit (flush d) (flush_ready d r))))
     ∙ sym (accept_count d _ _ _ _ (shorten_count d n r u)))
 
 pub close-appended-spec : {M : Type 1} → statement M

@@ -7,7 +7,7 @@ use Rattle.fragments.specs.Fragment.{first_unrecorded}
 use Rattle.commands.specs.Flush.{flush, flush_plan, flush_count}
 use Rattle.commands.specs.Close.{close_incomplete, filled_record}
 use Rattle.disc.specs.Records.{numbered}
-use Rattle.commands.proofs.Laws.Flush.{numbers, flush-ready}
+use Rattle.commands.proofs.Laws.Flush.{numbers, flush_ready}
 use Rattle.disc.proofs.Laws.Verdict.{accept_count}
 use Rattle.commands.proofs.Laws.Write.{flush_count_most}
 use Rattle.commands.proofs.Laws.Close.{fill_count}
@@ -26,7 +26,7 @@ sub-blocks c =
     let r = c.before.requires.0 in
     let first = c.before.requires.1.0 in
     let f = c.before.requires.1.1.1 in
-    let m = numbers (flush d) n (flush-ready d r) c.before.requires.1.1.0.0 c.before.requires.1.1.0.1 in
+    let m = numbers (flush d) n (flush_ready d r) c.before.requires.1.1.0.0 c.before.requires.1.1.0.1 in
     rw f m.recorded
 
 first-unrecorded-requires : tie.Need-first-unrecorded-requires
@@ -36,7 +36,7 @@ first-unrecorded-requires c κs =
     let r = c.before.requires.0 in
     let first = c.before.requires.1.0 in
     let f = c.before.requires.1.1.1 in
-    let m = numbers (flush d) n (flush-ready d r) c.before.requires.1.1.0.0 c.before.requires.1.1.0.1 in
+    let m = numbers (flush d) n (flush_ready d r) c.before.requires.1.1.0.0 c.before.requires.1.1.0.1 in
     rw f (omega (arith, m.ends, m.recorded))
 
 new-requires : tie.Need-new-requires
@@ -49,7 +49,7 @@ filled-requires c κs =
     let r = c.before.before.before.before.requires.0 in
     let first = c.before.before.before.before.requires.1.0 in
     let f = c.before.before.before.before.requires.1.1.1 in
-    let m = numbers (flush d) n (flush-ready d r) c.before.before.before.before.requires.1.1.0.0 c.before.before.before.before.requires.1.1.0.1 in
+    let m = numbers (flush d) n (flush_ready d r) c.before.before.before.before.requires.1.1.0.0 c.before.before.before.before.requires.1.1.0.1 in
     rw f (m.recorded, omega (arith, m.ends), m.zeroed)
 
 new-requires-2 : tie.Need-new-requires-2
@@ -65,7 +65,7 @@ add-accepted c =
     let r = c.before.before.before.before.before.before.before.before.requires.0 in
     let first = c.before.before.before.before.before.before.before.before.requires.1.0 in
     let f = c.before.before.before.before.before.before.before.before.requires.1.1.1 in
-    let m = numbers (flush d) n (flush-ready d r) c.before.before.before.before.before.before.before.before.requires.1.1.0.0 c.before.before.before.before.before.before.before.before.requires.1.1.0.1 in
+    let m = numbers (flush d) n (flush_ready d r) c.before.before.before.before.before.before.before.before.requires.1.1.0.0 c.before.before.before.before.before.before.before.before.requires.1.1.0.1 in
     rw (f, first) (omega (arith, m.ends, flush_count_most d))
 
 none-requires-2 : tie.Need-none-requires-2
@@ -82,7 +82,7 @@ returns c =
     let r = c.before.before.before.before.before.before.before.before.before.before.requires.0 in
     let first = c.before.before.before.before.before.before.before.before.before.before.requires.1.0 in
     let f = c.before.before.before.before.before.before.before.before.before.before.requires.1.1.1 in
-    let m = numbers (flush d) n (flush-ready d r) c.before.before.before.before.before.before.before.before.before.before.requires.1.1.0.0 c.before.before.before.before.before.before.before.before.before.before.requires.1.1.0.1 in
+    let m = numbers (flush d) n (flush_ready d r) c.before.before.before.before.before.before.before.before.before.before.requires.1.1.0.0 c.before.before.before.before.before.before.before.before.before.before.requires.1.1.0.1 in
     let g = numbered (flush d) n in
     rw (c.accepted.ensures, accepted_verdict, c.before.none2.ensures, c.before.before.before.none.ensures, c.before.before.before.before.new2.ensures, c.before.before.before.before.before.filled.ensures, c.before.before.before.before.before.before.before.new.ensures, c.before.before.before.before.before.before.before.before.first-unrecorded.ensures, f, first)
     (ap (λ x. accepted x (flush_count d + (g.length - g.recorded)) no_reply (plan (flush_plan d) (Fill (first_unrecorded g) (g.length - g.recorded)))) (affected-filled d n (filled_record g) r c.before.before.before.before.before.before.before.before.before.before.requires.1.1.0.0)

@@ -1,7 +1,5 @@
 use Rattle.disc.proofs.Laws.Apply.{refused_verdict, unchanged_verdict}
 use Rattle.commands.specs.Judge.{perform, test_unit_ready}
-use mathlib.Core.Path.{◌≡◌, refl, sym, ◌∙◌, ap}
-use native.Mathlib.Omega.{arith}
 use borrow.Author.Rules.{rules}
 use Rattle.commands.proofs.perform.perform.Statement.{statement}
 use Rattle.commands.proofs.perform.perform.Tie as tie
@@ -69,23 +67,17 @@ close-track-session-requires c κs = search rules
 enum-known-command-7 : tie.Need-enum-known-command-7
 enum-known-command-7 c = search rules
 
-read-toc-requires : tie.Need-read-toc-requires
-read-toc-requires c κs = search rules
+get-configuration-requires : tie.Need-get-configuration-requires
+get-configuration-requires c κs = search rules
 
 enum-known-command-8 : tie.Need-enum-known-command-8
 enum-known-command-8 c = search rules
 
-get-configuration-requires : tie.Need-get-configuration-requires
-get-configuration-requires c κs = search rules
-
-enum-known-command-9 : tie.Need-enum-known-command-9
-enum-known-command-9 c = search rules
-
 read-disc-information-requires : tie.Need-read-disc-information-requires
 read-disc-information-requires c κs = search rules
 
-enum-known-command-10 : tie.Need-enum-known-command-10
-enum-known-command-10 c = search rules
+enum-known-command-9 : tie.Need-enum-known-command-9
+enum-known-command-9 c = search rules
 
 read-track-information-requires : tie.Need-read-track-information-requires
 read-track-information-requires c κs = search rules
@@ -134,23 +126,19 @@ returns-9 c = simp (c.close-track-session.ensures, c.before.before.command6.give
 
 returns-10 : tie.Need-returns-10
 unfolding perform test_unit_ready
-returns-10 c = simp (c.read-toc.ensures, c.before.before.command7.given.1)
+returns-10 c = simp (c.get-configuration.ensures, c.before.before.command7.given.1)
 
 returns-11 : tie.Need-returns-11
 unfolding perform test_unit_ready
-returns-11 c = simp (c.get-configuration.ensures, c.before.before.command8.given.1)
+returns-11 c = simp (c.read-disc-information.ensures, c.before.before.command8.given.1)
 
 returns-12 : tie.Need-returns-12
 unfolding perform test_unit_ready
-returns-12 c = simp (c.read-disc-information.ensures, c.before.before.command9.given.1)
+returns-12 c = simp (c.read-track-information.ensures, c.before.before.command9.given.1)
 
 returns-13 : tie.Need-returns-13
 unfolding perform test_unit_ready
-returns-13 c = simp (c.read-track-information.ensures, c.before.before.command10.given.1)
-
-returns-14 : tie.Need-returns-14
-unfolding perform test_unit_ready
-returns-14 c = simp (c.refused.ensures, refused_verdict, c.before.enum-told4.given.1)
+returns-13 c = simp (c.refused.ensures, refused_verdict, c.before.enum-told4.given.1)
 
 pub perform-spec : {M : Type 1} → statement M
 perform-spec =
@@ -177,12 +165,10 @@ perform-spec =
     cast-close-track-session
     close-track-session-requires
     enum-known-command-7
-    read-toc-requires
-    enum-known-command-8
     get-configuration-requires
-    enum-known-command-9
+    enum-known-command-8
     read-disc-information-requires
-    enum-known-command-10
+    enum-known-command-9
     read-track-information-requires
     enum-told-4
     refused-requires
@@ -198,5 +184,4 @@ perform-spec =
     returns-10
     returns-11
     returns-12
-    returns-13
-    returns-14)
+    returns-13)

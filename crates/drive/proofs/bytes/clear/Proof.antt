@@ -8,6 +8,8 @@ use Rattle.drive.proofs.Laws.Bytes.{zeros_none, zeros_more}
 use borrow.Author.Rules.{rules}
 use Rattle.drive.proofs.bytes.clear.Statement.{statement}
 use Rattle.drive.proofs.bytes.clear.Tie as tie
+use Rattle.drive.proofs.bytes.clear.Reads as reads
+use Rattle.drive.proofs.bytes.clear.Lts as lts
 
 abbrev invariant-loop : tie.invariant-loop
 invariant-loop target₀ i₀ target i = (i ≤ length target₀) × (length target ≡ length target₀) × (target ≡ zeros i ++ drop i target₀)

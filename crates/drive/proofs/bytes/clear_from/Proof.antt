@@ -3,6 +3,9 @@ use Rattle.drive.proofs.Laws.Bytes.{clear_end}
 use borrow.Author.Rules.{rules}
 use Rattle.drive.proofs.bytes.clear_from.Statement.{statement}
 use Rattle.drive.proofs.bytes.clear_from.Tie as tie
+use Rattle.drive.proofs.bytes.clear_from.Reads as reads
+use Rattle.drive.proofs.bytes.clear_from.Lts as lts
+use Rattle.drive.proofs.bytes.clear.Reads as clear_reads
 
 sub-clear : tie.Need-overflow-sub-clear
 sub-clear c = search rules

@@ -8,6 +8,8 @@ use Rattle.drive.proofs.Laws.Bytes.{copy_more}
 use borrow.Author.Rules.{rules}
 use Rattle.drive.proofs.bytes.copy.Statement.{statement}
 use Rattle.drive.proofs.bytes.copy.Tie as tie
+use Rattle.drive.proofs.bytes.copy.Reads as reads
+use Rattle.drive.proofs.bytes.copy.Lts as lts
 
 abbrev invariant-loop : tie.invariant-loop
 invariant-loop target₀ source i₀ target i = (i ≤ length source) × (length target ≡ length target₀) × (target ≡ take i source ++ drop i target₀)

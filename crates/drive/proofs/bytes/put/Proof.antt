@@ -5,6 +5,9 @@ use Rattle.drive.proofs.Laws.Bytes.{put-splice}
 use borrow.Author.Rules.{rules}
 use Rattle.drive.proofs.bytes.put.Statement.{statement}
 use Rattle.drive.proofs.bytes.put.Tie as tie
+use Rattle.drive.proofs.bytes.put.Reads as reads
+use Rattle.drive.proofs.bytes.put.Lts as lts
+use Rattle.drive.proofs.bytes.copy.Reads as copy-reads
 
 add-end : tie.Need-overflow-add-end
 add-end c = search rules

@@ -6,6 +6,10 @@ use lib.ListN.{length}
 use borrow.Author.Rules.{rules}
 use Rattle.drive.proofs.gather.gather.Statement.{statement}
 use Rattle.drive.proofs.gather.gather.Tie as tie
+use Rattle.drive.proofs.bytes.clear_from.Reads as clear-from-reads
+use Rattle.drive.proofs.gather.gather_next.Reads as gather-next-reads
+use Rattle.fragments.proofs.left_over.Reads as left-over-reads
+use Rattle.fragments.proofs.whole_blocks.Reads as whole-blocks-reads
 
 abbrev invariant-loop : tie.invariant-loop
 invariant-loop medium₀ pending₀ held sectors «data» first count before end i₀ medium pending i =

@@ -8,6 +8,9 @@ use Rattle.drive.proofs.Laws.Gather.{few_medium, few_pending, full_medium, full_
 use borrow.Author.Rules.{rules}
 use Rattle.drive.proofs.gather.gather_next.Statement.{statement}
 use Rattle.drive.proofs.gather.gather_next.Tie as tie
+use Rattle.drive.proofs.bytes.put.Reads as put_reads
+use Rattle.drive.proofs.medium.record_parts.Reads as record-parts-reads
+use Rattle.fragments.proofs.missing.Reads as missing-reads
 
 mul-held-end : tie.Need-overflow-mul-held-end
 mul-held-end c = search rules

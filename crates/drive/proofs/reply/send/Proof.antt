@@ -1,6 +1,6 @@
 use lib.ListN.{length}
 use Rattle.drive.specs.Bytes.{splice}
-use Rattle.drive.proofs.Laws.Reply.{run-sent, run_length, report-sent, report-length}
+use Rattle.drive.proofs.Laws.Reply.{run-sent, report-sent}
 use mathlib.Core.Path.{◌∙◌, ap}
 use native.Mathlib.Omega.{arith}
 use borrow.Author.Rules.{rules}
@@ -24,7 +24,7 @@ same_length c = search rules
 returns : tie.Need-returns
 returns c =
     let e = run-sent c.before.before.before.before.before.before.before.before.before.args.medium.now c.before.before.before.before.before.before.before.before.before.args.pending.now c.before.before.before.before.before.before.before.before.before.args.transfer c.before.before.before.before.before.before.before.before.before.args.report (length c.before.before.before.before.before.before.before.before.before.args.reply.now) c.before.before.before.before.before.before.before.before.before.requires _ _ _ _ c.before.before.before.before.enum_told.given.1 in
-    (c.before.before.send-run.ensures.0 ∙ run_length c.before.before.before.before.before.before.before.before.before.args.medium.now c.before.before.before.before.before.before.before.before.before.args.pending.now c.before.before.before.before.before.before.before.before.before.args.transfer c.before.before.before.before.before.before.before.before.before.args.report (length c.before.before.before.before.before.before.before.before.before.args.reply.now) c.before.before.before.before.before.before.before.before.before.requires _ _ _ _ c.before.before.before.before.enum_told.given.1, c.before.before.send-run.ensures.1 ∙ ap (splice c.before.before.before.before.before.before.before.before.before.args.reply.now 0) e)
+    (c.before.before.send-run.ensures.0 ∙ ap length e, c.before.before.send-run.ensures.1 ∙ ap (splice c.before.before.before.before.before.before.before.before.before.args.reply.now 0) e)
 
 same-length-2 : tie.Need-same-length-2
 same-length-2 c = search rules
@@ -32,7 +32,7 @@ same-length-2 c = search rules
 returns-2 : tie.Need-returns-2
 returns-2 c =
     let e = report-sent c.before.before.before.before.before.before.before.before.args.transfer c.before.before.before.before.before.before.before.before.args.report c.before.before.before.before.before.before.before.before.args.medium.now c.before.before.before.before.before.before.before.before.args.pending.now c.before.before.before.before.match.keys2 in
-    (c.before.before.send-report.ensures.0 ∙ report-length c.before.before.before.before.before.before.before.before.args.transfer c.before.before.before.before.before.before.before.before.args.report c.before.before.before.before.before.before.before.before.args.medium.now c.before.before.before.before.before.before.before.before.args.pending.now c.before.before.before.before.match.keys2, c.before.before.send-report.ensures.1 ∙ ap (splice c.before.before.before.before.before.before.before.before.args.reply.now 0) e)
+    (c.before.before.send-report.ensures.0 ∙ ap length e, c.before.before.send-report.ensures.1 ∙ ap (splice c.before.before.before.before.before.before.before.before.args.reply.now 0) e)
 
 pub send-spec : {M : Type 1} → statement M
 send-spec =

@@ -1,6 +1,6 @@
 use Rattle.fragments.proofs.Laws.List.{array_length}
 use Rattle.drive.proofs.Laws.Bytes.{put-splice}
-use Rattle.gladhamre.proofs.Laws.Image.{write-both}
+use Rattle.gladhamre.proofs.Laws.Image.{write_both}
 use mathlib.Core.Path.{refl}
 use native.Mathlib.Omega.{arith}
 use borrow.Author.Rules.{rules}
@@ -27,7 +27,7 @@ same_length c = search rules
 
 returns : tie.Need-returns
 returns c =
-    write-both c.before.before.before.before.before.before.before.before.before.args.words.now c.before.before.before.before.before.before.before.before.before.args.disc _ c.before.before.write-list.new.0 (omega arith) (search array_length) (put-splice c.before.before.before.before.before.before.before.before.before.args.words.now 0 7 c.before.before.before.before.before.before.write-head.ensures refl) c.before.before.write-list.ensures
+    write_both c.before.before.before.before.before.before.before.before.before.args.words.now c.before.before.before.before.before.before.before.before.before.args.disc _ c.before.before.write-list.new.0 (omega arith) (search array_length) (put-splice c.before.before.before.before.before.before.before.before.before.args.words.now 0 7 c.before.before.before.before.before.before.write-head.ensures refl) c.before.before.write-list.ensures
 
 pub write_spec : {M : Type 1} → statement M
 write_spec =

@@ -1,5 +1,5 @@
 use Rattle.playback.specs.Line.{append}
-use Rattle.playback.proofs.Laws.Texts.{decimal-one, decimal_more}
+use Rattle.playback.proofs.Laws.Texts.{decimal_one, decimal_more}
 use Rattle.playback.proofs.Laws.Lines.{append-push}
 use Rattle.std.proofs.Common.{ℕ, ◌<◌, rules}
 use borrow.Fn.Kinds.{In}
@@ -60,7 +60,7 @@ decimal-returns : (t : ℕ) → decimal-lts.Need-returns (
   decimal.Post,
 ) (decimal-at t) decimal.Post
 unfolding append
-decimal-returns t c = rw (c.push.ensures, c.before.sign.ensures, decimal-one _ c.before.before.if1.true)
+decimal-returns t c = rw (c.push.ensures, c.before.sign.ensures, decimal_one _ c.before.before.if1.true)
 
 decimal-decimal-requires : (t : ℕ) → decimal-lts.Need-decimal-requires (
   sign_reads.Asked,

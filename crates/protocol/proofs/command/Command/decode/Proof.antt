@@ -1,7 +1,5 @@
 use borrow.Author.Tests.{ne_eqb}
 use Rattle.protocol.specs.Command.{decode}
-use mathlib.Core.Path.{◌≡◌, refl, sym, ◌∙◌, ap}
-use native.Mathlib.Omega.{arith}
 use borrow.Author.Rules.{rules}
 use Rattle.protocol.proofs.command.Command.decode.Statement.{statement}
 use Rattle.protocol.proofs.command.Command.decode.Tie as tie
@@ -45,53 +43,41 @@ cast-t17 c = search rules
 byte-at-requires-4 : tie.Need-byte-at-requires-4
 byte-at-requires-4 c κs = search rules
 
-byte-at-requires-5 : tie.Need-byte-at-requires-5
-byte-at-requires-5 c κs = search rules
-
-byte-at-requires-6 : tie.Need-byte-at-requires-6
-byte-at-requires-6 c κs = search rules
-
 word16-requires-4 : tie.Need-word16-requires-4
 word16-requires-4 c κs = search rules
-
-byte-at-requires-7 : tie.Need-byte-at-requires-7
-byte-at-requires-7 c κs = search rules
 
 word16-requires-5 : tie.Need-word16-requires-5
 word16-requires-5 c κs = search rules
 
-word16-requires-6 : tie.Need-word16-requires-6
-word16-requires-6 c κs = search rules
-
 word32-requires-3 : tie.Need-word32-requires-3
 word32-requires-3 c κs = search rules
 
-byte-at-requires-8 : tie.Need-byte-at-requires-8
-byte-at-requires-8 c κs = search rules
+byte-at-requires-5 : tie.Need-byte-at-requires-5
+byte-at-requires-5 c κs = search rules
+
+word16-requires-6 : tie.Need-word16-requires-6
+word16-requires-6 c κs = search rules
+
+byte-at-requires-6 : tie.Need-byte-at-requires-6
+byte-at-requires-6 c κs = search rules
 
 word16-requires-7 : tie.Need-word16-requires-7
 word16-requires-7 c κs = search rules
 
-byte-at-requires-9 : tie.Need-byte-at-requires-9
-byte-at-requires-9 c κs = search rules
-
-word16-requires-8 : tie.Need-word16-requires-8
-word16-requires-8 c κs = search rules
-
-byte-at-requires-10 : tie.Need-byte-at-requires-10
-byte-at-requires-10 c κs = search rules
+byte-at-requires-7 : tie.Need-byte-at-requires-7
+byte-at-requires-7 c κs = search rules
 
 word32-requires-4 : tie.Need-word32-requires-4
 word32-requires-4 c κs = search rules
 
-word16-requires-9 : tie.Need-word16-requires-9
-word16-requires-9 c κs = search rules
+word16-requires-8 : tie.Need-word16-requires-8
+word16-requires-8 c κs = search rules
 
 word32-requires-5 : tie.Need-word32-requires-5
 word32-requires-5 c κs = search rules
 
-cast-t41 : tie.Need-overflow-cast-t41
-cast-t41 c = search rules
+cast-t34 : tie.Need-overflow-cast-t34
+cast-t34 c = search rules
 
 word32-requires-6 : tie.Need-word32-requires-6
 word32-requires-6 c κs = search rules
@@ -99,8 +85,8 @@ word32-requires-6 c κs = search rules
 word32-requires-7 : tie.Need-word32-requires-7
 word32-requires-7 c κs = search rules
 
-cast-t45 : tie.Need-overflow-cast-t45
-cast-t45 c = search rules
+cast-t38 : tie.Need-overflow-cast-t38
+cast-t38 c = search rules
 
 word32-requires-8 : tie.Need-word32-requires-8
 word32-requires-8 c κs = search rules
@@ -135,39 +121,35 @@ returns-7 c = rw (← c.before.byte_at.ensures, c.match.keys7)
 
 returns-8 : tie.Need-returns-8
 unfolding decode
-returns-8 c = rw (c.word164.ensures, c.before.byte-at6.ensures, c.before.before.byte-at5.ensures, c.before.before.before.byte-at4.ensures, ← c.before.before.before.before.before.byte_at.ensures, c.before.before.before.before.match.keys8)
+returns-8 c = rw (c.word165.ensures, c.before.word164.ensures, c.before.before.byte-at4.ensures, ← c.before.before.before.before.byte_at.ensures, c.before.before.before.match.keys8)
 
 returns-9 : tie.Need-returns-9
 unfolding decode
-returns-9 c = rw (c.word166.ensures, c.before.word165.ensures, c.before.before.byte-at7.ensures, ← c.before.before.before.before.byte_at.ensures, c.before.before.before.match.keys9)
+returns-9 c = rw (c.word323.ensures, ← c.before.before.byte_at.ensures, c.before.match.keys9)
 
 returns-10 : tie.Need-returns-10
 unfolding decode
-returns-10 c = rw (c.word323.ensures, ← c.before.before.byte_at.ensures, c.before.match.keys10)
+returns-10 c = rw (c.word166.ensures, c.before.byte-at5.ensures, ← c.before.before.before.byte_at.ensures, c.before.before.match.keys10)
 
 returns-11 : tie.Need-returns-11
 unfolding decode
-returns-11 c = rw (c.word167.ensures, c.before.byte-at8.ensures, ← c.before.before.before.byte_at.ensures, c.before.before.match.keys11)
+returns-11 c = rw (c.word167.ensures, c.before.byte-at6.ensures, ← c.before.before.before.byte_at.ensures, c.before.before.match.keys11)
 
 returns-12 : tie.Need-returns-12
 unfolding decode
-returns-12 c = rw (c.word168.ensures, c.before.byte-at9.ensures, ← c.before.before.before.byte_at.ensures, c.before.before.match.keys12)
+returns-12 c = rw (c.word168.ensures, c.before.word324.ensures, c.before.before.byte-at7.ensures, ← c.before.before.before.before.byte_at.ensures, c.before.before.before.match.keys12)
 
 returns-13 : tie.Need-returns-13
 unfolding decode
-returns-13 c = rw (c.word169.ensures, c.before.word324.ensures, c.before.before.byte-at10.ensures, ← c.before.before.before.before.byte_at.ensures, c.before.before.before.match.keys13)
+returns-13 c = rw (c.word326.ensures, c.before.word325.ensures, ← c.before.before.before.byte_at.ensures, c.before.before.match.keys13)
 
 returns-14 : tie.Need-returns-14
 unfolding decode
-returns-14 c = rw (c.word326.ensures, c.before.word325.ensures, ← c.before.before.before.byte_at.ensures, c.before.before.match.keys14)
+returns-14 c = rw (c.word328.ensures, c.before.word327.ensures, ← c.before.before.before.byte_at.ensures, c.before.before.match.keys14)
 
 returns-15 : tie.Need-returns-15
 unfolding decode
-returns-15 c = rw (c.word328.ensures, c.before.word327.ensures, ← c.before.before.before.byte_at.ensures, c.before.before.match.keys15)
-
-returns-16 : tie.Need-returns-16
-unfolding decode
-returns-16 c = rw (← c.before.byte_at.ensures, ne_eqb _ _ c.match.rest.0.0.0.0.0.0.0.0.0.0.0.0.0.0.1, ne_eqb _ _ c.match.rest.0.0.0.0.0.0.0.0.0.0.0.0.0.1, ne_eqb _ _ c.match.rest.0.0.0.0.0.0.0.0.0.0.0.0.1, ne_eqb _ _ c.match.rest.0.0.0.0.0.0.0.0.0.0.0.1, ne_eqb _ _ c.match.rest.0.0.0.0.0.0.0.0.0.0.1, ne_eqb _ _ c.match.rest.0.0.0.0.0.0.0.0.0.1, ne_eqb _ _ c.match.rest.0.0.0.0.0.0.0.0.1, ne_eqb _ _ c.match.rest.0.0.0.0.0.0.0.1, ne_eqb _ _ c.match.rest.0.0.0.0.0.0.1, ne_eqb _ _ c.match.rest.0.0.0.0.0.1, ne_eqb _ _ c.match.rest.0.0.0.0.1, ne_eqb _ _ c.match.rest.0.0.0.1, ne_eqb _ _ c.match.rest.0.0.1, ne_eqb _ _ c.match.rest.0.1, ne_eqb _ _ c.match.rest.1)
+returns-15 c = rw (← c.before.byte_at.ensures, ne_eqb _ _ c.match.rest.0.0.0.0.0.0.0.0.0.0.0.0.0.1, ne_eqb _ _ c.match.rest.0.0.0.0.0.0.0.0.0.0.0.0.1, ne_eqb _ _ c.match.rest.0.0.0.0.0.0.0.0.0.0.0.1, ne_eqb _ _ c.match.rest.0.0.0.0.0.0.0.0.0.0.1, ne_eqb _ _ c.match.rest.0.0.0.0.0.0.0.0.0.1, ne_eqb _ _ c.match.rest.0.0.0.0.0.0.0.0.1, ne_eqb _ _ c.match.rest.0.0.0.0.0.0.0.1, ne_eqb _ _ c.match.rest.0.0.0.0.0.0.1, ne_eqb _ _ c.match.rest.0.0.0.0.0.1, ne_eqb _ _ c.match.rest.0.0.0.0.1, ne_eqb _ _ c.match.rest.0.0.0.1, ne_eqb _ _ c.match.rest.0.0.1, ne_eqb _ _ c.match.rest.0.1, ne_eqb _ _ c.match.rest.1)
 
 pub decode-spec : {M : Type 1} → statement M
 decode-spec =
@@ -186,25 +168,21 @@ decode-spec =
     word16-requires-3
     cast-t17
     byte-at-requires-4
-    byte-at-requires-5
-    byte-at-requires-6
     word16-requires-4
-    byte-at-requires-7
     word16-requires-5
-    word16-requires-6
     word32-requires-3
-    byte-at-requires-8
+    byte-at-requires-5
+    word16-requires-6
+    byte-at-requires-6
     word16-requires-7
-    byte-at-requires-9
-    word16-requires-8
-    byte-at-requires-10
+    byte-at-requires-7
     word32-requires-4
-    word16-requires-9
+    word16-requires-8
     word32-requires-5
-    cast-t41
+    cast-t34
     word32-requires-6
     word32-requires-7
-    cast-t45
+    cast-t38
     word32-requires-8
     returns
     returns-2
@@ -220,5 +198,4 @@ decode-spec =
     returns-12
     returns-13
     returns-14
-    returns-15
-    returns-16)
+    returns-15)

@@ -1,7 +1,6 @@
 use Rattle.protocol.specs.Lengths.{reply_room}
+use mathlib.Core.Path.{sym}
 use Rattle.protocol.proofs.Laws.Lengths.{no_reply_lem}
-use mathlib.Core.Path.{◌≡◌, refl, sym, ◌∙◌, ap}
-use native.Mathlib.Omega.{arith}
 use borrow.Author.Rules.{rules}
 use Rattle.protocol.proofs.command.Command.reply_room.Statement.{statement}
 use Rattle.protocol.proofs.command.Command.reply_room.Tie as tie
@@ -39,20 +38,20 @@ mul-result c = search rules
 enum-known-self-4 : tie.Need-enum-known-self-4
 enum-known-self-4 c = search rules
 
-cast-cut-2 : tie.Need-overflow-cast-cut-2
-cast-cut-2 c = search rules
-
-cut-requires-2 : tie.Need-cut-requires-2
-cut-requires-2 c κs = search rules
-
-enum-known-self-5 : tie.Need-enum-known-self-5
-enum-known-self-5 c = search rules
-
 cast-configuration-room : tie.Need-overflow-cast-configuration-room
 cast-configuration-room c = search rules
 
 configuration-room-requires : tie.Need-configuration-room-requires
 configuration-room-requires c κs = search rules
+
+enum-known-self-5 : tie.Need-enum-known-self-5
+enum-known-self-5 c = search rules
+
+cast-cut-2 : tie.Need-overflow-cast-cut-2
+cast-cut-2 c = search rules
+
+cut-requires-2 : tie.Need-cut-requires-2
+cut-requires-2 c κs = search rules
 
 enum-known-self-6 : tie.Need-enum-known-self-6
 enum-known-self-6 c = search rules
@@ -62,15 +61,6 @@ cast-cut-3 c = search rules
 
 cut-requires-3 : tie.Need-cut-requires-3
 cut-requires-3 c κs = search rules
-
-enum-known-self-7 : tie.Need-enum-known-self-7
-enum-known-self-7 c = search rules
-
-cast-cut-4 : tie.Need-overflow-cast-cut-4
-cast-cut-4 c = search rules
-
-cut-requires-4 : tie.Need-cut-requires-4
-cut-requires-4 c κs = search rules
 
 returns : tie.Need-returns
 unfolding reply_room
@@ -90,22 +80,18 @@ returns-4 c = simp c.before.self3.given.1
 
 returns-5 : tie.Need-returns-5
 unfolding reply_room
-returns-5 c = simp (c.cut2.ensures, c.before.before.self4.given.1)
+returns-5 c = simp (c.configuration-room.ensures, c.before.before.self4.given.1)
 
 returns-6 : tie.Need-returns-6
 unfolding reply_room
-returns-6 c = simp (c.configuration-room.ensures, c.before.before.self5.given.1)
+returns-6 c = simp (c.cut2.ensures, c.before.before.self5.given.1)
 
 returns-7 : tie.Need-returns-7
 unfolding reply_room
 returns-7 c = simp (c.cut3.ensures, c.before.before.self6.given.1)
 
 returns-8 : tie.Need-returns-8
-unfolding reply_room
-returns-8 c = simp (c.cut4.ensures, c.before.before.self7.given.1)
-
-returns-9 : tie.Need-returns-9
-returns-9 c = sym (no_reply_lem c.before.args.contents c.before.args.self c.match.keys9)
+returns-8 c = sym (no_reply_lem c.before.args.self c.match.keys8)
 
 pub reply-room-spec : {M : Type 1} → statement M
 reply-room-spec =
@@ -122,17 +108,14 @@ reply-room-spec =
     cast-result
     mul-result
     enum-known-self-4
-    cast-cut-2
-    cut-requires-2
-    enum-known-self-5
     cast-configuration-room
     configuration-room-requires
+    enum-known-self-5
+    cast-cut-2
+    cut-requires-2
     enum-known-self-6
     cast-cut-3
     cut-requires-3
-    enum-known-self-7
-    cast-cut-4
-    cut-requires-4
     returns
     returns-2
     returns-3
@@ -140,5 +123,4 @@ reply-room-spec =
     returns-5
     returns-6
     returns-7
-    returns-8
-    returns-9)
+    returns-8)

@@ -1,3 +1,0 @@
--- One file a topic, named as in specs/.
-pub mod Sessions
-pub mod Contents

@@ -6,7 +6,7 @@ ghost use Rattle.configuration.specs.Reading.{refused, reading, same_bytes, read
 ghost use Rattle.configuration.specs.First.{first_feature};
 
 // What is read of a reply: the current profile, and the numbers of its features in order, zeros after them. All zero where it is refused.
-#[derive(Drop)]
+#[derive(Clone, Copy)]
 pub struct Reading {
     pub accepted: bool,
     pub profile: u32,

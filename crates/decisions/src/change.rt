@@ -6,14 +6,14 @@ use fragments::{Fragment, Last};
 use protocol::Sense;
 
 // A record put under a number of the list; under the number 0 none is put.
-#[derive(Drop)]
+#[derive(Clone, Copy)]
 pub struct Entry {
     pub number: usize,
     pub fragment: Fragment,
 }
 
 // What becomes of the list, of the pending sectors and of the flag of a finalized disc.
-#[derive(Drop)]
+#[derive(Clone, Copy)]
 pub enum Effect {
     // Nothing: all stays.
     Keep,
@@ -43,7 +43,7 @@ pub enum Effect {
 }
 
 // What a command changes of the disc.
-#[derive(Drop)]
+#[derive(Clone, Copy)]
 pub struct Change {
     pub sense: Sense,
     pub effect: Effect,

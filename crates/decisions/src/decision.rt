@@ -9,7 +9,7 @@ use crate::plan::Plan;
 use protocol::{Answer, DriveRefusal, LinkRefusal, Reply, Sense};
 
 // The answer, the change, a report's bytes, the number of blocks recorded and what to do to the bytes.
-#[derive(Drop)]
+#[derive(Clone, Copy)]
 pub struct Decision {
     pub answer: Answer,
     pub change: Change,

@@ -9,7 +9,7 @@ use fragments::Last;
 use protocol::Reply;
 
 // The record that a flush leaves, what it does to the bytes, and how many blocks it records.
-#[derive(Drop)]
+#[derive(Clone, Copy)]
 pub struct Flushing {
     pub entry: Entry,
     pub plan: Flush,

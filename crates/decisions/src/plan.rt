@@ -5,14 +5,14 @@ ghost use Rattle.decisions.specs.Plan.{plan, no_plan};
 use fragments::{Block, Lba};
 
 // Whether the pending block is recorded before anything else, its missing sectors zero.
-#[derive(Drop)]
+#[derive(Clone, Copy)]
 pub enum Flush {
     Skip,
     Record { block: Block, sectors: u8 },
 }
 
 // What moves after the flush.
-#[derive(Drop)]
+#[derive(Clone, Copy)]
 pub enum Transfer {
     Nothing,
     // Readable sectors go to the reply: recorded ones from the medium, then pending ones from a place in the pending buffer on.
@@ -35,7 +35,7 @@ pub enum Transfer {
     },
 }
 
-#[derive(Drop)]
+#[derive(Clone, Copy)]
 pub struct Plan {
     pub flush: Flush,
     pub transfer: Transfer,

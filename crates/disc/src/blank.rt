@@ -7,7 +7,7 @@ use fragments::{Block, Fragment, Kind};
 use protocol::{Answer, LinkRefusal, Sense};
 
 // A new disc with the answer beside it.
-#[derive(Drop)]
+#[derive(Clone, Copy)]
 pub struct Blank {
     pub answer: Answer,
     pub disc: Disc,

@@ -5,7 +5,7 @@ ghost use Rattle.disc.specs.Records.{with_sense};
 use fragments::{Fragment, Lba};
 use protocol::Sense;
 
-#[derive(Drop)]
+#[derive(Clone, Copy)]
 pub struct Disc {
     // The records in use first; the others are all zero.
     pub fragments: [Fragment; Disc::LIMIT],
@@ -39,7 +39,7 @@ impl Disc {
 }
 
 // The next writable address of the tail, or that there is no tail.
-#[derive(Drop)]
+#[derive(Clone, Copy)]
 pub enum TailNext {
     Address(Lba),
     NoTail,

@@ -4,7 +4,7 @@ use decisions::Plan;
 use protocol::{Answer, Reply};
 
 // The answer, the disc after it, a report's bytes, the number of blocks recorded and what to do to the bytes.
-#[derive(Drop)]
+#[derive(Clone, Copy)]
 pub struct Verdict {
     pub answer: Answer,
     pub disc: Disc,

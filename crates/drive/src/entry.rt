@@ -8,7 +8,7 @@ use disc::Disc;
 use protocol::{Answer, BLOCK_LENGTH, CDB_LENGTH, LinkRefusal, Sense};
 
 // The answer to a command: how it ended, the disc afterwards, the reply's length and the number of blocks recorded.
-#[derive(Drop)]
+#[derive(Clone, Copy)]
 pub struct Response {
     pub answer: Answer,
     pub disc: Disc,
@@ -17,7 +17,7 @@ pub struct Response {
 }
 
 // The same with what the command changes of the disc in place of the disc.
-#[derive(Drop)]
+#[derive(Clone, Copy)]
 pub struct Outcome {
     pub answer: Answer,
     pub change: Change,

@@ -14,7 +14,7 @@ pub const ONE_FEATURE: u8 = 2;
 pub const COUNT: usize = 10;
 
 // A feature: its number, its version, and the length of its feature dependent data with those, as two numbers of four bytes.
-#[derive(Drop)]
+#[derive(Clone, Copy)]
 pub struct Feature {
     pub number: u16,
     pub version: u8,

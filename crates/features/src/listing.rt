@@ -8,14 +8,14 @@ use crate::feature;
 use crate::feature::Feature;
 
 // A reply's bytes, zeros after them, and how many there are.
-#[derive(Drop)]
+#[derive(Clone, Copy)]
 pub struct Listing {
     pub bytes: [u8; Listing::LIMIT],
     pub length: usize,
 }
 
 // The numbers of features in order, zeros after them, and how many there are.
-#[derive(Drop)]
+#[derive(Clone, Copy)]
 pub struct Asked {
     pub numbers: [u32; feature::COUNT],
     pub count: usize,

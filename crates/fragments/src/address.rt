@@ -3,15 +3,15 @@ ghost use Rattle.std.specs.Prelude.{◌≡◌, ◌+◌, eqb};
 ghost use Rattle.fragments.specs.Address.{sectors_in, whole_blocks, left_over, missing, block, lba, first_sector, passes, sectors_before};
 
 // The number of an ECC block, from 0. A disc's block numbers fit 32 bits.
-#[derive(Drop)]
+#[derive(Clone, Copy)]
 pub struct Block(pub u32);
 
 // A block number computed from the fields of a record, which may hold any numbers: it has 64 bits, so that no sum wraps.
-#[derive(Drop)]
+#[derive(Clone, Copy)]
 pub struct WideBlock(pub u64);
 
 // A sector's logical block address. It has 64 bits, so that an address of a command block and a length add up without wrapping.
-#[derive(Drop)]
+#[derive(Clone, Copy)]
 pub struct Lba(pub u64);
 
 // Sectors in an ECC block.

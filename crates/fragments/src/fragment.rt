@@ -13,13 +13,13 @@ const CLOSURE: u64 = 64;
 const INTRO: u64 = 64;
 
 // Reserved stands first: it is the kind of an unused record, which is all zero.
-#[derive(Drop)]
+#[derive(Clone, Copy)]
 pub enum Kind {
     Reserved,
     Appended,
 }
 
-#[derive(Drop)]
+#[derive(Clone, Copy)]
 pub struct Fragment {
     // The first block.
     pub start: Block,

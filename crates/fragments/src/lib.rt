@@ -1,6 +1,8 @@
 // Fragments: block numbers and sector addresses, one record of the fragment list, and walks along the records.
 // Everything here is total: the fields of a record may hold any numbers, and what is pending is given as two. Which command makes what of
 // a record stands in the crates above.
+#![tactic(auto)]
+
 mod address;
 mod check;
 mod fragment;

@@ -11,21 +11,21 @@ use crate::fragment::Fragment;
 pub const LIMIT: usize = 160;
 
 // What a search along the list finds: a fragment's number, from 1, or that there is none.
-#[derive(Drop)]
+#[derive(Clone, Copy)]
 pub enum Found {
     Number(usize),
     Nowhere,
 }
 
 // The last record in use and its number.
-#[derive(Drop)]
+#[derive(Clone, Copy)]
 pub struct Last {
     pub number: usize,
     pub fragment: Fragment,
 }
 
 // Where a fragment's recorded sectors end, and where its readable ones do.
-#[derive(Drop)]
+#[derive(Clone, Copy)]
 pub struct Reach {
     // The address after the last recorded sector.
     pub recorded: Lba,

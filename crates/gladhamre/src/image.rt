@@ -21,7 +21,7 @@ const RECORD: usize = 6;
 pub(crate) const LENGTH: usize = HEAD + RECORD * Disc::LIMIT;
 
 // What the words of an image are.
-#[derive(Drop)]
+#[derive(Clone, Copy)]
 pub(crate) enum Words {
     // A state's, with so many records in use and zeros alone after them.
     State(usize),

@@ -1,6 +1,8 @@
 // The C face: functions that firmware in C or Rust links, on numbers and slices of numbers. include/gladhamre.h declares them.
 // A state travels as an image of words, which the caller keeps. Every function is total: what it cannot work with it refuses by its
 // number.
+#![tactic(auto)]
+
 mod image;
 
 ghost use Rattle.std.specs.Prelude.{◌≡◌};

@@ -9,7 +9,7 @@ use libc::{STDERR_FILENO, STDOUT_FILENO};
 use trace::Reading;
 
 // Where the records of the bytes held end: the replay after them, the position, and what stands there.
-#[derive(Drop)]
+#[derive(Clone, Copy)]
 struct Stop {
     replay: Replay,
     at: usize,
@@ -17,14 +17,14 @@ struct Stop {
 }
 
 // What a read brought: libc's answer, and how many bytes are held then.
-#[derive(Drop)]
+#[derive(Clone, Copy)]
 struct Input {
     got: isize,
     filled: usize,
 }
 
 // A replay between two reads: how many bytes are held, whether the last line is printed, and whether the trace was whole then.
-#[derive(Drop)]
+#[derive(Clone, Copy)]
 struct Progress {
     replay: Replay,
     filled: usize,
@@ -157,7 +157,7 @@ fn go_on(fd: i32, buffer: &mut [u8], progress: Progress) -> Progress
 }
 
 // Where a replay led, and whether its trace was whole and could be read.
-#[derive(Drop)]
+#[derive(Clone, Copy)]
 pub struct Ending {
     pub replay: Replay,
     pub whole: bool,

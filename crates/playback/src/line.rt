@@ -7,7 +7,7 @@ use disc::TailNext;
 use protocol::Sense;
 
 // A line's bytes, zeros after them, and how many there are.
-#[derive(Drop)]
+#[derive(Clone, Copy)]
 pub struct Line {
     pub bytes: [u8; Line::LIMIT],
     pub length: usize,

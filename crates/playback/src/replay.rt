@@ -8,14 +8,14 @@ use disc::Disc;
 use trace::Reading;
 
 // The disc, and the number of the record to come, from 1.
-#[derive(Drop)]
+#[derive(Clone, Copy)]
 pub struct Replay {
     pub disc: Disc,
     pub number: u64,
 }
 
 // A record's line, and the replay after it.
-#[derive(Drop)]
+#[derive(Clone, Copy)]
 pub struct Played {
     pub line: Line,
     pub replay: Replay,

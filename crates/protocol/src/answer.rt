@@ -3,7 +3,7 @@ ghost use Rattle.std.specs.Prelude.{◌≡◌};
 ghost use Rattle.protocol.specs.Answer.{sense, no_sense, same_sense, refusal_sense, allowed_sense, link_number, sense_number, number};
 
 // Sense key, additional sense code and its qualifier, as a command left them.
-#[derive(Drop)]
+#[derive(Clone, Copy)]
 pub struct Sense {
     pub key: u8,
     pub asc: u8,
@@ -57,7 +57,7 @@ impl Sense {
 }
 
 // The link refusals L1 to L4: the command never reaches the drive, and nothing changes.
-#[derive(Drop)]
+#[derive(Clone, Copy)]
 pub enum LinkRefusal {
     CommandBlockLength,
     MediumSize,
@@ -66,7 +66,7 @@ pub enum LinkRefusal {
 }
 
 // The drive refusals, in the order of document 01's table and by the names of their sense codes: only the sense changes.
-#[derive(Drop)]
+#[derive(Clone, Copy)]
 pub enum DriveRefusal {
     InvalidOperationCode,
     WriteProtected,
@@ -80,7 +80,7 @@ pub enum DriveRefusal {
     EndOfUserArea,
 }
 
-#[derive(Drop)]
+#[derive(Clone, Copy)]
 pub enum Answer {
     Accepted,
     Link(LinkRefusal),

@@ -4,7 +4,7 @@ ghost use Rattle.protocol.specs.Command.{byte_at, word16, word32, decode};
 
 use fragments::Lba;
 
-#[derive(Drop)]
+#[derive(Clone, Copy)]
 pub enum Command {
     TestUnitReady,
     RequestSense {

@@ -1,5 +1,7 @@
 // What the drive is told and what it says: command blocks, the lengths that go with them, sense, answers and their numbers, reports.
 // Nothing here needs a disc.
+#![tactic(auto)]
+
 mod answer;
 mod command;
 mod inquiry;

@@ -7,14 +7,14 @@ use crate::lengths;
 
 // What a reply says: the bytes that it holds itself, or what GET CONFIGURATION says, which is longer than any other report and is written
 // only where it is sent.
-#[derive(Drop)]
+#[derive(Clone, Copy)]
 pub enum Content {
     Own,
     Configuration { request_type: u8, start: u16 },
 }
 
 // A reply by value: its own bytes, zeros after them, what it says, and how many bytes of that are sent.
-#[derive(Drop)]
+#[derive(Clone, Copy)]
 pub struct Reply {
     pub bytes: [u8; Reply::LIMIT],
     pub content: Content,

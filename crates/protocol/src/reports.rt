@@ -12,7 +12,7 @@ use fragments::Lba;
 
 // What READ DISC INFORMATION says: the states of the last session and of the disc in one byte, how many sessions there are, and the
 // numbers of the last one's first and last fragment.
-#[derive(Drop)]
+#[derive(Clone, Copy)]
 pub struct DiscReport {
     pub states: u8,
     pub sessions: usize,
@@ -21,7 +21,7 @@ pub struct DiscReport {
 }
 
 // What READ TRACK INFORMATION says of a fragment.
-#[derive(Drop)]
+#[derive(Clone, Copy)]
 pub struct TrackReport {
     pub number: usize,
     pub session: usize,

@@ -2,6 +2,8 @@
 // a row for a refusal by the drive.
 // A program has no room for a medium. So the entry is called on tiny buffers, which end at L1 or L2, and what is decided after them is
 // asked of `commands`, on lengths alone.
+#![tactic(auto)]
+
 use disc::Disc;
 use libc::STDOUT_FILENO;
 use protocol::{Answer, BLOCK_LENGTH, CDB_LENGTH, SECTOR_LENGTH};

@@ -1,4 +1,6 @@
 // Replays the trace on standard input.
+#![tactic(auto)]
+
 use libc::STDIN_FILENO;
 
 fn main() {

@@ -1,4 +1,6 @@
 // Replays the traces that its arguments name: of each the name, and then what `replay` prints for it.
+#![tactic(auto)]
+
 use libc::{STDERR_FILENO, STDOUT_FILENO};
 
 // The trace that an argument names, or why it cannot be opened.

@@ -8,21 +8,21 @@ use fragments::{Fragment, LIMIT, Lba};
 const LOOKS: usize = 8;
 
 // The fragment that an address lies in, with its number; number 0 and an unused record where there is none.
-#[derive(Drop)]
+#[derive(Clone, Copy)]
 pub struct Holder {
     pub number: usize,
     pub fragment: Fragment,
 }
 
 // What a search comes to: what it has found, and how many records it has looked at.
-#[derive(Drop)]
+#[derive(Clone, Copy)]
 pub struct Sought {
     pub holder: Holder,
     pub looks: usize,
 }
 
 // What one look at one record tells of the fragment that an address lies in.
-#[derive(Drop)]
+#[derive(Clone, Copy)]
 pub enum Side {
     // It can only stand on the left, among the records before this one.
     Left,

@@ -6,7 +6,7 @@ ghost use Rattle.trace.specs.Record.{step_at};
 use crate::record;
 use crate::record::Step;
 
-#[derive(Drop)]
+#[derive(Clone, Copy)]
 pub struct RecordReader<'a> {
     pub trace: &'a [u8],
     pub at: usize,

@@ -16,7 +16,7 @@ pub const CDB_LENGTH: usize = 12;
 const RECORD_LENGTH: usize = MARK_LENGTH + CDB_LENGTH;
 
 // What stands at a position.
-#[derive(Drop)]
+#[derive(Clone, Copy)]
 pub enum Reading {
     Record,
     // A mark byte that is there is wrong.
@@ -28,7 +28,7 @@ pub enum Reading {
 }
 
 // What stands at a position, the command block of a record, else zeros, and the position to go on from: after a record, else the same.
-#[derive(Drop)]
+#[derive(Clone, Copy)]
 pub struct Step {
     pub reading: Reading,
     pub cdb: [u8; CDB_LENGTH],

@@ -1,0 +1,7 @@
+use Rattle.fragments.specs.Check.{within}
+use borrow.Author.Rules.{rules}
+use Rattle.fragments.proofs.fragment.Fragment.is_within.Goals as goal
+
+pub returns : goal.returns
+unfolding within
+returns c = rw (c.sectors_in.ensures, c.end.ensures)

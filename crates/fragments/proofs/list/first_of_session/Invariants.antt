@@ -1,0 +1,16 @@
+use lib.ListN.{drop, length}
+use Rattle.fragments.specs.List.{limit, listed, first_of_session}
+use Rattle.fragments.proofs.Laws.List.{array_length, session-off, session-here, session-on, session_end}
+use borrow.Author.Rules.{rules}
+use mathlib.Core.Path.{◌≡◌, refl, sym, ◌∙◌}
+use native.Mathlib.Omega.{arith}
+use Prim.Native.Nat.{◌+◌, ◌-◌, ◌≤◌}
+use Rattle.fragments.proofs.list.first_of_session.Given as goal
+
+abbrev pub invariant-loop-i : goal.invariant-loop-i
+invariant-loop-i l =
+    (l.i ≤ limit) × (length l.fragments ≡ limit)
+    × (first_of_session l.session 1 (listed l.fragments) ≡ first_of_session l.session (l.i + 1) (listed (drop l.i l.fragments)))
+
+abbrev pub decreases-loop-i : goal.decreases-loop-i
+decreases-loop-i l = limit - l.i

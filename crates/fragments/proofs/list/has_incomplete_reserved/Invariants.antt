@@ -1,0 +1,17 @@
+use lib.ListN.{length, drop}
+use Rattle.fragments.specs.Fragment.{is_incomplete_reserved}
+use Rattle.fragments.specs.List.{limit, listed, some}
+use Rattle.fragments.proofs.Laws.List.{array_length, some-off, some-here, some-on, some_end}
+use borrow.Author.Rules.{rules}
+use mathlib.Core.Path.{◌≡◌, refl, sym, ◌∙◌}
+use native.Mathlib.Omega.{arith}
+use Prim.Native.Nat.{◌-◌, ◌≤◌}
+use Rattle.fragments.proofs.list.has_incomplete_reserved.Given as goal
+
+abbrev pub invariant-loop-i : goal.invariant-loop-i
+invariant-loop-i l =
+    (l.i ≤ limit) × (length l.fragments ≡ limit)
+    × (some is_incomplete_reserved (listed l.fragments) ≡ some is_incomplete_reserved (listed (drop l.i l.fragments)))
+
+abbrev pub decreases-loop-i : goal.decreases-loop-i
+decreases-loop-i l = limit - l.i

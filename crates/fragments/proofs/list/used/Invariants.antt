@@ -1,0 +1,15 @@
+use lib.ListN.{drop, length}
+use Rattle.fragments.specs.List.{limit, listed}
+use Rattle.fragments.proofs.Laws.List.{array_length, listed-drop-off, listed-drop-on, listed-drop-end}
+use borrow.Author.Rules.{rules}
+use mathlib.Core.Path.{◌≡◌, ap}
+use native.Mathlib.Omega.{arith}
+use Prim.Native.Nat.{◌+◌, ◌-◌, ◌≤◌}
+use Rattle.fragments.proofs.list.used.Given as goal
+
+abbrev pub invariant-loop-i : goal.invariant-loop-i
+invariant-loop-i l =
+    (l.i ≤ limit) × (length l.fragments ≡ limit) × (length (listed l.fragments) ≡ l.i + length (listed (drop l.i l.fragments)))
+
+abbrev pub decreases-loop-i : goal.decreases-loop-i
+decreases-loop-i l = limit - l.i

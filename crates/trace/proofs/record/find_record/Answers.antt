@@ -28,4 +28,4 @@ returns-in_default c =
     let s = c.args in
     let left = drop s.at s.trace.now in
     let e = c.classify-reading.ensures ∙ ap reading_of (rest_part s.trace.now s.at) in
-    c.stopped-in_default.ensures ∙ sym (no_record _ left s.at c.in_default.not-Record) ∙ rw e
+    c.stopped-in_default.ensures ∙ sym (no_record _ left s.at (assumption c.in_default)) ∙ rw e

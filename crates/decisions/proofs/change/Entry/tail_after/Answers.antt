@@ -1,0 +1,12 @@
+use borrow.Author.Tests.{lt-ltb, le-ltb}
+use Rattle.decisions.specs.Tail.{tail_after}
+use borrow.Author.Rules.{rules}
+use Rattle.decisions.proofs.change.Entry.tail_after.Goals as goal
+
+pub returns-then-number-ge-LIMIT : goal.returns-then-number-ge-LIMIT
+unfolding tail_after
+returns-then-number-ge-LIMIT c = rw (c.none.ensures, le-ltb _ _ c.if-number-ge-LIMIT.true)
+
+pub returns : goal.returns
+unfolding tail_after
+returns c = rw (c.tail.ensures, c.next_start.ensures, lt-ltb _ _ c.if-number-ge-LIMIT.false)

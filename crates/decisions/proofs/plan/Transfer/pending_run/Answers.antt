@@ -1,0 +1,12 @@
+use Rattle.decisions.specs.Run.{pending_within}
+use Rattle.decisions.proofs.Laws.Run.{no_sectors}
+use mathlib.Core.Path.{sym, ◌∙◌, ap}
+use borrow.Author.Rules.{rules}
+use Rattle.decisions.proofs.plan.Transfer.pending_run.Goals as goal
+
+pub returns-in-Send : goal.returns-in-Send
+unfolding pending_within
+returns-in-Send c = c.stretch_within.ensures ∙ ap (λ t. pending_within t c.args.buffer.now) (sym c.in-Send.is)
+
+pub returns-in_default : goal.returns-in_default
+returns-in_default c = sym (no_sectors c.args.self c.args.buffer.now (assumption c.in_default)).1

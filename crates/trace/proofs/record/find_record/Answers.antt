@@ -1,3 +1,4 @@
+use borrow.Author.Rules.{rules}
 use mathlib.Core.Path.{◌≡◌, sym, ap, ◌∙◌}
 use lib.ListN.{drop}
 use Rattle.trace.specs.Types.{Record}
@@ -28,4 +29,4 @@ returns-in_default c =
     let s = c.args in
     let left = drop s.at s.trace.now in
     let e = c.classify-reading.ensures ∙ ap reading_of (rest_part s.trace.now s.at) in
-    c.stopped-in_default.ensures ∙ sym (no_record _ left s.at (assumption c.in_default)) ∙ rw e
+    c.stopped-in_default.ensures ∙ sym (no_record _ left s.at (search rules)) ∙ rw e

@@ -9,4 +9,4 @@ unfolding pending_within
 returns-in-Send c = c.stretch_within.ensures ∙ ap (λ t. pending_within t c.args.buffer.now) (sym c.in-Send.is)
 
 pub returns-in_default : goal.returns-in_default
-returns-in_default c = sym (no_sectors c.args.self c.args.buffer.now (assumption c.in_default)).1
+returns-in_default c = sym (no_sectors c.args.self c.args.buffer.now (search rules)).1

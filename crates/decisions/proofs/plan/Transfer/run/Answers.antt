@@ -9,4 +9,4 @@ unfolding sent_within
 returns-in-Send c = c.stretch_within.ensures ∙ ap (λ t. sent_within t c.args.medium.now) (sym c.in-Send.is)
 
 pub returns-in_default : goal.returns-in_default
-returns-in_default c = sym (no_sectors c.args.self c.args.medium.now (assumption c.in_default)).0
+returns-in_default c = sym (no_sectors c.args.self c.args.medium.now (search rules)).0

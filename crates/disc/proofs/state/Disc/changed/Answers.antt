@@ -1,0 +1,7 @@
+use Rattle.disc.specs.Apply.{changed}
+use borrow.Author.Rules.{rules}
+use Rattle.disc.proofs.state.Disc.changed.Goals as goal
+
+pub returns : goal.returns
+unfolding changed
+returns c = rw (c.with_sense.ensures, c.affected.ensures)

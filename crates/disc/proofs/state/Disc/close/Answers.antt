@@ -1,0 +1,7 @@
+use Rattle.disc.specs.Apply.{affected}
+use borrow.Author.Rules.{rules}
+use Rattle.disc.proofs.state.Disc.close.Goals as goal
+
+pub returns : goal.returns
+unfolding affected
+returns c = rw (c.with_entry-disc.ensures, c.with_entry.ensures, c.flush.ensures)

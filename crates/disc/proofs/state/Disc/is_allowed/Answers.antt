@@ -1,0 +1,7 @@
+use Rattle.disc.specs.Sound.{allowed_state}
+use borrow.Author.Rules.{rules}
+use Rattle.disc.proofs.state.Disc.is_allowed.Goals as goal
+
+pub returns : goal.returns
+unfolding allowed_state
+returns c = rw (c.is_sound.ensures, c.is_allowed.ensures)

@@ -1,0 +1,12 @@
+use borrow.Author.Tests.{eq-eqb, ne_eqb}
+use Rattle.commands.specs.Write.{flush_others_entry, flush_others_plan, flush_others_count}
+use borrow.Author.Rules.{rules}
+use Rattle.commands.proofs.flush.flushing_others.Goals as goal
+
+pub returns-then-disc-number : goal.returns-then-disc-number
+unfolding flush_others_entry flush_others_plan flush_others_count
+returns-then-disc-number c = rw (c.none.ensures, eq-eqb _ _ c.if-disc-number.true)
+
+pub returns : goal.returns
+unfolding flush_others_entry flush_others_plan flush_others_count
+returns c = rw (c.flushing.ensures, ne_eqb _ _ c.if-disc-number.false)

@@ -1,0 +1,12 @@
+use mathlib.Core.Path.{◌∙◌, ap}
+use Rattle.commands.specs.Types.{Sought}
+use Rattle.disc.proofs.Laws.Rules.{sound-rules}
+use Rattle.commands.proofs.Laws.Holder.{holder-found}
+use borrow.Author.Rules.{rules}
+use Rattle.commands.proofs.holder.holder_at.Goals as goal
+
+pub returns : goal.returns
+returns c =
+    let d = c.args.disc in
+    ap (λ (s : Sought). s.holder) c.halving-sought.ensures
+    ∙ holder-found d (sound-rules d c.requires.sound) c.args.address

@@ -1,0 +1,13 @@
+use Prim.Native.Nat.{◌+◌}
+use native.Mathlib.Omega.{arith}
+use lib.ListN.{length}
+use Rattle.drive.proofs.Laws.Bytes.{put-splice}
+use borrow.Author.Rules.{rules}
+use Rattle.drive.proofs.bytes.put.Reads as reads
+use Rattle.drive.proofs.bytes.put.Lts as lts
+use Rattle.drive.proofs.bytes.copy.Reads as copy-reads
+use Rattle.drive.proofs.bytes.put.Goals as goal
+
+pub returns : goal.returns
+returns c =
+    put-splice c.args.target.now c.args.at (c.args.at + length c.args.source.now) c.copy.ensures (omega arith)

@@ -1,0 +1,8 @@
+use native.Mathlib.Omega.{arith}
+use Rattle.drive.proofs.Laws.Bytes.{padded_parts}
+use borrow.Author.Rules.{rules}
+use Rattle.drive.proofs.medium.write_block.Goals as goal
+
+pub returns : goal.returns
+returns c =
+    padded_parts c.args.stretch.now c.args.front.now c.args.rest.now c.put.new.0 c.put-2.new.0 c.clear_from.new.0 (omega arith) (omega arith) c.put.ensures c.put-2.ensures c.clear_from.ensures

@@ -1,0 +1,22 @@
+use lib.ListN.{length}
+use Rattle.drive.specs.Bytes.{splice}
+use Rattle.drive.proofs.Laws.Reply.{run-sent, report-sent}
+use mathlib.Core.Path.{◌∙◌, ap}
+use native.Mathlib.Omega.{arith}
+use borrow.Author.Rules.{rules}
+use Rattle.drive.proofs.reply.send.Goals as goal
+
+pub send_run-requires : goal.send_run-requires
+send_run-requires c =
+    let e = run-sent c.args.medium.now c.args.pending.now c.args.transfer c.args.report (length c.args.reply.now) c.requires _ _ _ _ c.in-Send.is in
+    omega (arith, ap length e, c.requires.room)
+
+pub returns-in-Send : goal.returns-in-Send
+returns-in-Send c =
+    let e = run-sent c.args.medium.now c.args.pending.now c.args.transfer c.args.report (length c.args.reply.now) c.requires _ _ _ _ c.in-Send.is in
+    (c.send_run.ensures.0 ∙ ap length e, c.send_run.ensures.1 ∙ ap (splice c.args.reply.now 0) e)
+
+pub returns-in_default : goal.returns-in_default
+returns-in_default c =
+    let e = report-sent c.args.transfer c.args.report c.args.medium.now c.args.pending.now (search rules) in
+    (c.send_report.ensures.0 ∙ ap length e, c.send_report.ensures.1 ∙ ap (splice c.args.reply.now 0) e)

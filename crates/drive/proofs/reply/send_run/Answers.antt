@@ -1,0 +1,13 @@
+use mathlib.Core.Path.{ap}
+use lib.ListN.{length, length-append}
+use Rattle.decisions.specs.Run.{sent_within, pending_within}
+use Rattle.drive.proofs.Laws.Reply.{second-room, both-put}
+use native.Mathlib.Omega.{arith}
+use borrow.Author.Rules.{rules}
+use Rattle.drive.proofs.reply.send_run.Goals as goal
+
+pub returns : goal.returns
+returns c =
+    let x = sent_within c.args.transfer c.args.medium.now in
+    let y = pending_within c.args.transfer c.args.pending.now in
+    both-put c.args.reply.now c.put.new.0 x y _ _ c.run-recorded.ensures c.pending_run-held.ensures c.put.ensures c.requires c.put-2.new.0 c.put-2.ensures

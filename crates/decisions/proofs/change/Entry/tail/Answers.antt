@@ -1,6 +1,5 @@
 use borrow.Author.Tests.{lt-ltb, le-ltb}
 use Rattle.decisions.specs.Tail.{tail_entry}
-use borrow.Author.Rules.{rules}
 use Rattle.decisions.proofs.change.Entry.tail.Goals as goal
 
 pub returns-then-start-capacity : goal.returns-then-start-capacity

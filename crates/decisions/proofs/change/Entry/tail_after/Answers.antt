@@ -1,6 +1,5 @@
 use borrow.Author.Tests.{lt-ltb, le-ltb}
 use Rattle.decisions.specs.Tail.{tail_after}
-use borrow.Author.Rules.{rules}
 use Rattle.decisions.proofs.change.Entry.tail_after.Goals as goal
 
 pub returns-then-number-ge-LIMIT : goal.returns-then-number-ge-LIMIT

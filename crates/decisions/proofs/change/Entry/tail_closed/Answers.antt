@@ -1,7 +1,6 @@
-use borrow.Author.Tests.{eq-eqb, ne_eqb, not-true, not-false}
+use borrow.Author.Tests.{eq-eqb, ne_eqb}
 use Rattle.decisions.specs.Tail.{tail_closed}
 use mathlib.Core.Path.{sym, ◌∙◌}
-use borrow.Author.Rules.{rules}
 use Rattle.decisions.proofs.change.Entry.tail_closed.Goals as goal
 
 pub returns-then-not-is_tail : goal.returns-then-not-is_tail

@@ -1,5 +1,4 @@
 use Rattle.decisions.specs.Decision.{accepting}
-use borrow.Author.Rules.{rules}
 use Rattle.decisions.proofs.decision.Decision.accepted.Goals as goal
 
 pub returns : goal.returns

@@ -1,5 +1,4 @@
 use Rattle.decisions.specs.Decision.{refusing}
-use borrow.Author.Rules.{rules}
 use Rattle.decisions.proofs.decision.Decision.refused.Goals as goal
 
 pub returns : goal.returns

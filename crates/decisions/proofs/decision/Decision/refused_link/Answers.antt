@@ -1,5 +1,4 @@
 use Rattle.decisions.specs.Decision.{refusing_link}
-use borrow.Author.Rules.{rules}
 use Rattle.decisions.proofs.decision.Decision.refused_link.Goals as goal
 
 pub returns : goal.returns

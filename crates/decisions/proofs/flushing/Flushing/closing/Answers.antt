@@ -1,5 +1,4 @@
 use Rattle.decisions.specs.Flushing.{closing_last}
-use borrow.Author.Rules.{rules}
 use Rattle.decisions.proofs.flushing.Flushing.closing.Goals as goal
 
 pub returns : goal.returns

@@ -9,7 +9,7 @@ use borrow.Author.Tests.{eq-eqb, ne_eqb, eqb-true, eqb-false, le-leb, leb-true, 
 use lib.Dec.{eqb, leb, ltb}
 use lib.ListN.{length, get_or}
 use Rattle.disc.specs.Types.{Fragment, Disc, Kind, Reserved, Appended}
-use Rattle.fragments.specs.Fragment.{unused_record, unused, end, complete, is_reserved, is_tail, next_fragment_start, next_session_start, is_zero}
+use Rattle.fragments.specs.Fragment.{unused_record, end, complete, is_reserved, is_tail, next_fragment_start, next_session_start, is_zero}
 use Rattle.fragments.specs.List.{limit, listed, every}
 use Rattle.disc.specs.Records.{records, used, is_listed, numbered, last_record, has_tail}
 use Rattle.disc.specs.Sound.{used_first, first_at_zero, follows, follows_from, in_order, ends_within, recorded_within, zeroed_within, incomplete_last, tail_last, tail_or_full, pending_named, finalized_complete, is_array, sound}

@@ -10,7 +10,6 @@ use Rattle.outcomes.specs.Types.{Lba, Disc, Found, Number, Nowhere, Verdict, Acc
 use Rattle.fragments.specs.Address.{first_sector, lba, sectors_in}
 use Rattle.fragments.specs.Fragment.{end}
 use Rattle.disc.specs.Records.{pending_in, numbered, writable_at, is_readable}
-use Rattle.disc.specs.Rules.{at}
 use Rattle.disc.specs.Ready.{Ready}
 use Rattle.decisions.specs.Plan.{plan}
 use Rattle.disc.specs.Verdict.{accepted, accept, refuse}

@@ -14,7 +14,7 @@ use Rattle.protocol.specs.Answer.{allowed_sense, no_sense, refusal_sense, is_ref
 use Rattle.protocol.specs.Command.{decode}
 use Rattle.fragments.specs.List.{sum_recorded}
 use Rattle.disc.specs.Records.{used, is_listed, has_tail, at_address, is_recorded, last_readable}
-use Rattle.disc.specs.Sound.{sound, allowed_state}
+use Rattle.disc.specs.Sound.{allowed_state}
 use Rattle.disc.specs.Blank.{in_range}
 use Rattle.disc.specs.Ready.{Ready}
 use Rattle.protocol.specs.Lengths.{lengths_fit, reply_room, inquiry_room, configuration_room, capacity_length, data_length}

@@ -13,7 +13,7 @@ use Rattle.outcomes.specs.Types.{Block, Lba, Fragment, Disc}
 use Rattle.fragments.specs.Address.{first_sector}
 use Rattle.fragments.specs.Fragment.{unused_record, end, complete, is_reserved, is_tail, is_incomplete_reserved, next_fragment_start, next_session_start, tail_from, reserved_at, shortened_record}
 use Rattle.disc.specs.Records.{pending_in, is_blank, records, used, numbered, last_record, with_record, has_tail, has_blank_tail, blank_tail_only}
-use Rattle.fragments.specs.List.{limit, listed, some, first_of_session}
+use Rattle.fragments.specs.List.{limit, some, first_of_session}
 use Rattle.disc.specs.Rules.{at, Sound}
 use Rattle.disc.specs.Ready.{Ready}
 use Rattle.commands.specs.Flush.{flush}

@@ -14,7 +14,7 @@ use Rattle.fragments.specs.List.{limit}
 use Rattle.disc.specs.Ready.{Ready}
 use Rattle.decisions.specs.Plan.{plan, no_plan}
 use Rattle.outcomes.specs.Recorded.{flushed_count, transferred_count, pending_block, transferred_block}
-use Rattle.commands.specs.Flush.{flush, flush_plan}
+use Rattle.commands.specs.Flush.{flush_plan}
 use Rattle.commands.specs.Write.{flush_others, flush_others_plan, grown_record, gather}
 use Rattle.commands.specs.Reserve.{split_tail}
 use Rattle.fragments.proofs.Laws.Bool.{by_cases, cond_no, and_right}

@@ -13,7 +13,6 @@ use Rattle.disc.proofs.Laws.Apply.{accepted_verdict}
 use Rattle.commands.proofs.Laws.Effect.{affected_shortened}
 use mathlib.Core.Path.{sym, ◌∙◌, ap}
 use native.Mathlib.Omega.{arith}
-use borrow.Author.Rules.{rules}
 use Rattle.commands.proofs.close.close_appended.Goals as goal
 
 pub returns : goal.returns

@@ -1,4 +1,3 @@
-use borrow.Author.Tests.{not-false}
 use Rattle.commands.specs.Types.{Reserved, Appended}
 use Rattle.commands.specs.Flush.{flush}
 use Rattle.commands.specs.Close.{close_fragment}
@@ -9,7 +8,6 @@ use Rattle.disc.proofs.Laws.Apply.{refused_verdict}
 use Rattle.commands.proofs.Laws.Effect.{flush-numbered}
 use mathlib.Core.Path.{sym, ◌∙◌}
 use native.Mathlib.Omega.{arith}
-use borrow.Author.Rules.{rules}
 use Rattle.commands.proofs.close.close_fragment.Goals as goal
 
 pub returns-then-not-is_listed : goal.returns-then-not-is_listed

@@ -15,7 +15,6 @@ use Rattle.disc.proofs.Laws.Apply.{accepted_verdict}
 use Rattle.commands.proofs.Laws.Effect.{affected-filled}
 use mathlib.Core.Path.{sym, ◌∙◌, ap}
 use native.Mathlib.Omega.{arith}
-use borrow.Author.Rules.{rules}
 use Rattle.commands.proofs.close.close_reserved.Goals as goal
 
 pub overflow_sub-blocks : goal.overflow_sub-blocks

@@ -2,7 +2,6 @@ use native.Mathlib.Omega.{arith}
 use borrow.Author.Tests.{ne_eqb}
 use Rattle.commands.specs.Close.{close}
 use Rattle.disc.proofs.Laws.Apply.{refused_verdict}
-use borrow.Author.Rules.{rules}
 use Rattle.commands.proofs.close.close_track_session.Goals as goal
 
 pub returns-in-1 : goal.returns-in-1

@@ -1,8 +1,7 @@
-use borrow.Author.Tests.{eq-eqb, ne_eqb, not-false}
+use borrow.Author.Tests.{eq-eqb, ne_eqb}
 use Rattle.commands.specs.Judge.{judge, judge_command}
 use Rattle.commands.proofs.Laws.Judge.{judged, allowed_ready}
 use Rattle.disc.proofs.Laws.Apply.{link_verdict}
-use borrow.Author.Rules.{rules}
 use mathlib.Core.Path.{sym, ◌∙◌}
 use Rattle.commands.proofs.entry.decide.Goals as goal
 

@@ -2,7 +2,6 @@ use borrow.Author.Tests.{eq-eqb, ne_eqb}
 use Rattle.commands.specs.Flush.{flush_entry, flush_plan, flush_count}
 use Rattle.commands.proofs.Laws.Flush.{owner}
 use native.Mathlib.Omega.{arith}
-use borrow.Author.Rules.{rules}
 use Rattle.commands.proofs.flush.flushing.Goals as goal
 
 pub returns-then-pending-eq0 : goal.returns-then-pending-eq0

@@ -1,6 +1,5 @@
 use borrow.Author.Tests.{eq-eqb, ne_eqb}
 use Rattle.commands.specs.Write.{flush_others_entry, flush_others_plan, flush_others_count}
-use borrow.Author.Rules.{rules}
 use Rattle.commands.proofs.flush.flushing_others.Goals as goal
 
 pub returns-then-disc-number : goal.returns-then-disc-number

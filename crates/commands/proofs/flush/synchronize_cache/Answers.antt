@@ -8,7 +8,6 @@ use Rattle.disc.proofs.Laws.Verdict.{accept_count}
 use Rattle.disc.proofs.Laws.Apply.{accepted_verdict}
 use Rattle.commands.proofs.Laws.Effect.{affected-settled}
 use mathlib.Core.Path.{sym, ◌∙◌, ap}
-use borrow.Author.Rules.{rules}
 use Rattle.commands.proofs.flush.synchronize_cache.Goals as goal
 
 pub returns : goal.returns

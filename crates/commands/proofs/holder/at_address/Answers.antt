@@ -1,6 +1,4 @@
-use Rattle.disc.specs.Records.{at_address}
-use Rattle.commands.proofs.Laws.Holder.{held-nowhere, held_number}
-use borrow.Author.Rules.{rules}
+use Rattle.commands.proofs.Laws.Holder.{held-nowhere}
 use Rattle.commands.proofs.holder.at_address.Goals as goal
 
 pub returns-then-holder-eq0 : goal.returns-then-holder-eq0

@@ -2,7 +2,6 @@ use mathlib.Core.Path.{◌∙◌, ap}
 use Rattle.commands.specs.Types.{Sought}
 use Rattle.disc.proofs.Laws.Rules.{sound-rules}
 use Rattle.commands.proofs.Laws.Holder.{holder-found}
-use borrow.Author.Rules.{rules}
 use Rattle.commands.proofs.holder.holder_at.Goals as goal
 
 pub returns : goal.returns

@@ -1,7 +1,6 @@
 use Rattle.disc.specs.Records.{at_address}
 use Rattle.disc.proofs.Laws.Rules.{sound-rules}
 use Rattle.commands.proofs.Laws.Holder.{held-reaches}
-use borrow.Author.Rules.{rules}
 use Rattle.commands.proofs.holder.reach_around.Goals as goal
 
 pub returns : goal.returns

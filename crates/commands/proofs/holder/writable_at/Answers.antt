@@ -4,7 +4,6 @@ use Rattle.fragments.specs.Fragment.{takes}
 use Rattle.search.specs.Search.{held}
 use Rattle.disc.specs.Records.{pending_in, at_address}
 use Rattle.commands.proofs.Laws.Holder.{held-takes, held-refuses}
-use borrow.Author.Rules.{rules}
 use Rattle.commands.proofs.holder.writable_at.Goals as goal
 
 pub returns-then-takes : goal.returns-then-takes

@@ -1,6 +1,5 @@
 use Rattle.disc.proofs.Laws.Apply.{refused_verdict, unchanged_verdict}
 use Rattle.commands.specs.Judge.{perform, test_unit_ready}
-use borrow.Author.Rules.{rules}
 use Rattle.commands.proofs.perform.perform.Goals as goal
 
 pub returns-in-TestUnitReady : goal.returns-in-TestUnitReady

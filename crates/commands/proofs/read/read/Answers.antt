@@ -8,7 +8,6 @@ use Rattle.disc.proofs.Laws.Apply.{refused_verdict, unchanged_verdict}
 use Rattle.disc.proofs.Laws.Rules.{sound-rules}
 use Rattle.commands.specs.Read.{read}
 use Rattle.commands.proofs.Laws.Read.{read_short, read_found}
-use borrow.Author.Rules.{rules}
 use Rattle.commands.proofs.read.read.Goals as goal
 
 pub returns-then-sectors-eq0 : goal.returns-then-sectors-eq0

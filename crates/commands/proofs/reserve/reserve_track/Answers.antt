@@ -1,4 +1,3 @@
-use borrow.Author.Tests.{not-true, not-false}
 use Rattle.fragments.proofs.Laws.Address.{wide-number}
 use Rattle.commands.specs.Reserve.{reserve}
 use Rattle.fragments.specs.List.{limit}
@@ -7,7 +6,6 @@ use Rattle.disc.proofs.Laws.Rules.{sound-rules}
 use Rattle.commands.proofs.Laws.Reserve.{reserve-full, reserve-past, reserve-done, splitting}
 use Rattle.disc.proofs.Laws.Apply.{refused_verdict, accepted_verdict}
 use mathlib.Core.Path.{◌≡◌, sym, ◌∙◌, ap}
-use borrow.Author.Rules.{rules}
 use Rattle.commands.proofs.reserve.reserve_track.Goals as goal
 
 pub returns-then-disc : goal.returns-then-disc

@@ -1,8 +1,6 @@
 use Rattle.decisions.proofs.Laws.Tail.{tail_left}
 use Rattle.commands.proofs.Laws.Effect.{affected_split}
 use mathlib.Core.Path.{refl, ap}
-use native.Mathlib.Omega.{arith}
-use borrow.Author.Rules.{rules}
 use Rattle.commands.proofs.reserve.split_tail.Goals as goal
 
 pub returns : goal.returns

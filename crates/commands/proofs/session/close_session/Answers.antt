@@ -17,7 +17,6 @@ use Rattle.commands.proofs.Laws.Effect.{last-flushed, affected-session}
 use Prim.Native.Nat.{◌<◌}
 use mathlib.Core.Path.{◌≡◌, refl, sym, ◌∙◌, ap}
 use native.Mathlib.Omega.{arith}
-use borrow.Author.Rules.{rules}
 use Rattle.commands.proofs.session.close_session.Goals as goal
 
 pub returns-then-disc-is_only_tail : goal.returns-then-disc-is_only_tail

@@ -8,7 +8,6 @@ use Rattle.commands.proofs.Laws.Session.{finalize-idle, finalize-incomplete, fin
 use Rattle.disc.proofs.Laws.Apply.{refused_verdict, accepted_verdict, unchanged_verdict}
 use Rattle.commands.proofs.Laws.Effect.{last-flushed, affected-finalized}
 use mathlib.Core.Path.{sym, ◌∙◌, ap}
-use borrow.Author.Rules.{rules}
 use Rattle.commands.proofs.session.finalize.Goals as goal
 
 pub returns-then-disc : goal.returns-then-disc

@@ -1,4 +1,3 @@
-use borrow.Author.Tests.{not-true, not-false}
 use mathlib.Core.Bool.{true}
 use Prim.Native.Nat.{◌-◌}
 use Rattle.fragments.specs.List.{last_of}
@@ -8,7 +7,6 @@ use Rattle.commands.proofs.Laws.Flush.{flush-sound, flush_pending}
 use Rattle.commands.proofs.Laws.Effect.{flush-numbered, kept-last-same, kept-last-written, kept-last-none, kept-last-before}
 use mathlib.Core.Path.{◌≡◌, sym, ◌∙◌, ap}
 use native.Mathlib.Omega.{arith}
-use borrow.Author.Rules.{rules}
 use Rattle.commands.proofs.session.last_kept.Goals as goal
 
 pub returns-then-not-is_tail : goal.returns-then-not-is_tail

@@ -1,5 +1,4 @@
 use Rattle.commands.proofs.Laws.Effect.{flush-fragments}
-use borrow.Author.Rules.{rules}
 use Rattle.commands.proofs.session.stays_incomplete.Goals as goal
 
 pub returns : goal.returns

@@ -1,7 +1,6 @@
 use Rattle.disc.proofs.Laws.Apply.{refused_verdict}
 use Rattle.reporting.specs.Reports.{read_track_information}
 use borrow.Author.Tests.{eq-eqb, ne_eqb}
-use borrow.Author.Rules.{rules}
 use Rattle.commands.proofs.track_information.read_track_information.Goals as goal
 
 pub returns-then-address_type-eq0 : goal.returns-then-address_type-eq0

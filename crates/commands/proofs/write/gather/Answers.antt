@@ -1,6 +1,4 @@
 use Rattle.commands.proofs.Laws.Effect.{affected-gathered}
-use native.Mathlib.Omega.{arith}
-use borrow.Author.Rules.{rules}
 use Rattle.commands.proofs.write.gather.Goals as goal
 
 pub returns : goal.returns

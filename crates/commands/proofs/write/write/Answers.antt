@@ -9,7 +9,6 @@ use Rattle.disc.proofs.Laws.Apply.{refused_verdict, unchanged_verdict}
 use Rattle.commands.specs.Types.{Number, Nowhere, Holder}
 use Rattle.commands.specs.Write.{write, write_found, write_to}
 use Rattle.commands.proofs.Laws.Holder.{held-unwritable, held_number, held-record, held-writable}
-use borrow.Author.Rules.{rules}
 use Rattle.commands.proofs.write.write.Goals as goal
 
 pub returns-then-sectors-eq0 : goal.returns-then-sectors-eq0

@@ -10,7 +10,6 @@ use Rattle.commands.proofs.Laws.Write.{place, fit, gathering, write_count, other
 use Rattle.disc.proofs.Laws.Apply.{refused_verdict, accepted_verdict}
 use mathlib.Core.Path.{sym, ◌∙◌, ap}
 use native.Mathlib.Omega.{arith}
-use borrow.Author.Rules.{rules}
 use Rattle.commands.proofs.write.write_to.Goals as goal
 
 pub returns-then-passes : goal.returns-then-passes

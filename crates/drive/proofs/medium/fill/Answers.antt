@@ -12,4 +12,4 @@ loop-i-init c = (search rules, refl, fill_none c.args.medium.now (32768 * c.args
 
 pub loop-i-preserved : goal.loop-i-preserved
 loop-i-preserved c =
-    (omega arith, omega arith, fill_more c.args.medium.now c.loop-i.medium c.record_block.new.0 c.args.block.0 c.loop-i.i (omega arith) c.loop-i.invariant.2 c.record_block.ensures)
+    (omega arith, omega arith, fill_more c.args.medium.now c.loop-i.medium c.record_block.new.medium c.args.block.0 c.loop-i.i (omega arith) c.loop-i.invariant.2 c.record_block.ensures)

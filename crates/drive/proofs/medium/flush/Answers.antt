@@ -9,8 +9,9 @@ use Rattle.drive.proofs.medium.flush.Goals as goal
 
 pub returns-in-Skip : goal.returns-in-Skip
 unfolding flushed_medium flushed_pending
-returns-in-Skip c = rw c.in-Skip.is (refl, refl)
+returns-in-Skip c = rw c.in-Skip.is record { medium = refl; pending = refl }
 
 pub returns-in-Record : goal.returns-in-Record
 returns-in-Record c =
-    flushed_record_lem start.args.flush c.flush-1.given.0.0 c.flush-1.given.0.1.0 start.args.medium.now start.args.pending.now c.record_block.new.0 c.clear.new.0 c.in-Record.is (omega arith) c.record_block.ensures c.clear.ensures
+    let b = flushed_record_lem c.args.flush c.in-Record.block c.in-Record.sectors c.args.medium.now c.args.pending.now c.record_block.new.medium c.clear.new.target c.in-Record.is (omega arith) c.record_block.ensures c.clear.ensures in
+    record { medium = b.0; pending = b.1 }

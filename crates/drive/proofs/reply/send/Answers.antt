@@ -14,9 +14,9 @@ send_run-requires c =
 pub returns-in-Send : goal.returns-in-Send
 returns-in-Send c =
     let e = run-sent c.args.medium.now c.args.pending.now c.args.transfer c.args.report (length c.args.reply.now) c.requires _ _ _ _ c.in-Send.is in
-    (c.send_run.ensures.0 ∙ ap length e, c.send_run.ensures.1 ∙ ap (splice c.args.reply.now 0) e)
+    record { value = c.send_run.ensures.value ∙ ap length e; reply = c.send_run.ensures.reply ∙ ap (splice c.args.reply.now 0) e }
 
 pub returns-in_default : goal.returns-in_default
 returns-in_default c =
     let e = report-sent c.args.transfer c.args.report c.args.medium.now c.args.pending.now (search rules) in
-    (c.send_report.ensures.0 ∙ ap length e, c.send_report.ensures.1 ∙ ap (splice c.args.reply.now 0) e)
+    record { value = c.send_report.ensures.value ∙ ap length e; reply = c.send_report.ensures.reply ∙ ap (splice c.args.reply.now 0) e }

@@ -14,9 +14,11 @@ send_configuration-requires c = rw c.in-Configuration.is at c.requires
 pub returns-in-Own : goal.returns-in-Own
 unfolding said
 returns-in-Own c =
-    report-put c.args.report c.args.reply.now _ c.requires.0 (rw c.in-Own.is c.send_own.ensures)
+    let b = report-put c.args.report c.args.reply.now c.send_own.new.reply c.requires.0 (rw c.in-Own.is c.send_own.ensures) in
+    record { value = b.0; reply = b.1 }
 
 pub returns-in-Configuration : goal.returns-in-Configuration
 unfolding said
 returns-in-Configuration c =
-    report-put c.args.report c.args.reply.now _ c.requires.0 (rw c.in-Configuration.is c.send_configuration.ensures)
+    let b = report-put c.args.report c.args.reply.now c.send_configuration.new.reply c.requires.0 (rw c.in-Configuration.is c.send_configuration.ensures) in
+    record { value = b.0; reply = b.1 }

@@ -10,4 +10,5 @@ pub returns : goal.returns
 returns c =
     let x = sent_within c.args.transfer c.args.medium.now in
     let y = pending_within c.args.transfer c.args.pending.now in
-    both-put c.args.reply.now c.put.new.0 x y _ _ c.run-recorded.ensures c.pending_run-held.ensures c.put.ensures c.requires c.put-2.new.0 c.put-2.ensures
+    let b = both-put c.args.reply.now c.put.new.target x y _ _ c.run-recorded.ensures c.pending_run-held.ensures c.put.ensures c.requires c.put-2.new.target c.put-2.ensures in
+    record { value = b.0; reply = b.1 }

@@ -2,7 +2,6 @@ use Rattle.disc.specs.Apply.{decided}
 use Rattle.decisions.specs.Run.{sent_within}
 use Rattle.outcomes.proofs.Laws.Run.{run_of, other_medium, asked-run}
 use mathlib.Core.Path.{◌∙◌, ap}
-use borrow.Author.Rules.{rules}
 use Rattle.outcomes.proofs.run.recorded_run.Goals as goal
 
 pub returns-then-medium-disc : goal.returns-then-medium-disc

@@ -1,6 +1,5 @@
 use Rattle.disc.proofs.Laws.Apply.{unchanged_verdict}
 use Rattle.reporting.specs.Reports.{read_capacity}
-use borrow.Author.Rules.{rules}
 use Rattle.reporting.proofs.capacity.read_capacity.Goals as goal
 
 pub returns : goal.returns

@@ -1,9 +1,4 @@
-use mathlib.Core.Bool.{◌&&◌}
-use lib.Dec.{eqb}
-use native.Mathlib.Omega.{arith}
 use Rattle.reporting.specs.Reports.{session_state, disc_status}
-use Rattle.reporting.proofs.Laws.Reports.{last_session_most, status_most}
-use borrow.Author.Rules.{rules}
 use Rattle.reporting.proofs.disc_information.disc_report.Goals as goal
 
 pub returns : goal.returns

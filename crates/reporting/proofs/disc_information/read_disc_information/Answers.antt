@@ -1,7 +1,6 @@
 use Rattle.disc.proofs.Laws.Apply.{refused_verdict, unchanged_verdict}
 use borrow.Author.Tests.{eq-eqb, ne_eqb}
 use Rattle.reporting.specs.Reports.{read_disc_information}
-use borrow.Author.Rules.{rules}
 use Rattle.reporting.proofs.disc_information.read_disc_information.Goals as goal
 
 pub returns-then-data_type-eq0 : goal.returns-then-data_type-eq0

@@ -1,7 +1,6 @@
 use Rattle.disc.proofs.Laws.Apply.{refused_verdict, unchanged_verdict}
 use borrow.Author.Tests.{eq-eqb, ne_eqb}
 use Rattle.reporting.specs.Identity.{get_configuration}
-use borrow.Author.Rules.{rules}
 use Rattle.reporting.proofs.identity.get_configuration.Goals as goal
 
 pub returns-then-request_type-eq3 : goal.returns-then-request_type-eq3

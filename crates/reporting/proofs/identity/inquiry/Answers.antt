@@ -1,7 +1,6 @@
 use Rattle.disc.proofs.Laws.Apply.{refused_verdict, unchanged_verdict}
 use borrow.Author.Tests.{eq-eqb, ne_eqb}
 use Rattle.reporting.specs.Identity.{inquiry}
-use borrow.Author.Rules.{rules}
 use Rattle.reporting.proofs.identity.inquiry.Goals as goal
 
 pub returns-then-page_bit-eq0 : goal.returns-then-page_bit-eq0

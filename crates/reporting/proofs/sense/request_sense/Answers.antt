@@ -1,6 +1,5 @@
 use Rattle.disc.proofs.Laws.Apply.{unchanged_verdict}
 use Rattle.reporting.specs.Reports.{request_sense}
-use borrow.Author.Rules.{rules}
 use Rattle.reporting.proofs.sense.request_sense.Goals as goal
 
 pub returns : goal.returns

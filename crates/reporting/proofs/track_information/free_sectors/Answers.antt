@@ -2,7 +2,6 @@ use Prim.Native.Nat.{ℕ, ◌-◌, ◌≤◌}
 use mathlib.Core.Path.{◌≡◌}
 use native.Mathlib.Omega.{arith}
 use Rattle.reporting.specs.Reports.{free_sectors}
-use borrow.Author.Rules.{rules}
 use Rattle.reporting.proofs.track_information.free_sectors.Goals as goal
 
 -- nothing is left from the end on

@@ -1,5 +1,4 @@
 use Rattle.reporting.specs.Reports.{next_writable_or_zero}
-use borrow.Author.Rules.{rules}
 use Rattle.reporting.proofs.track_information.next_writable_or_zero.Goals as goal
 
 pub returns-then-is_complete : goal.returns-then-is_complete

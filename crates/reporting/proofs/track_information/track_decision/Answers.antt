@@ -1,6 +1,5 @@
 use Rattle.reporting.specs.Reports.{track_verdict}
 use Rattle.disc.proofs.Laws.Apply.{unchanged_verdict}
-use borrow.Author.Rules.{rules}
 use Rattle.reporting.proofs.track_information.track_decision.Goals as goal
 
 pub returns : goal.returns

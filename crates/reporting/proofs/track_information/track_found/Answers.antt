@@ -1,6 +1,5 @@
 use Rattle.disc.proofs.Laws.Apply.{refused_verdict}
 use Rattle.reporting.specs.Reports.{track_found}
-use borrow.Author.Rules.{rules}
 use Rattle.reporting.proofs.track_information.track_found.Goals as goal
 
 pub returns-in-Number : goal.returns-in-Number

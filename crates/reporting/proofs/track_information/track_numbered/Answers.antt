@@ -4,7 +4,6 @@ use mathlib.Core.Path.{◌≡◌, sym, ◌∙◌}
 use Rattle.disc.specs.Records.{has_tail}
 use Rattle.reporting.specs.Reports.{track_numbered}
 use borrow.Author.Tests.{eq-eqb, ne_eqb}
-use borrow.Author.Rules.{rules}
 use Rattle.reporting.proofs.track_information.track_numbered.Goals as goal
 
 pub returns-then-is_tail : goal.returns-then-is_tail

@@ -1,5 +1,4 @@
 use Rattle.disc.specs.Apply.{affected}
-use borrow.Author.Rules.{rules}
 use Rattle.disc.proofs.state.Disc.affected.Goals as goal
 
 pub returns-in-Keep : goal.returns-in-Keep

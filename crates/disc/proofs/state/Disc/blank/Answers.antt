@@ -1,6 +1,5 @@
 use Rattle.disc.proofs.Laws.Blank.{blanked, not_blanked}
 use mathlib.Core.Path.{sym, ◌∙◌}
-use borrow.Author.Rules.{rules}
 use Rattle.disc.proofs.state.Disc.blank.Goals as goal
 
 pub returns-then-in_range : goal.returns-then-in_range

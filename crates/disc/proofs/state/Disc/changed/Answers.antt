@@ -1,5 +1,4 @@
 use Rattle.disc.specs.Apply.{changed}
-use borrow.Author.Rules.{rules}
 use Rattle.disc.proofs.state.Disc.changed.Goals as goal
 
 pub returns : goal.returns

@@ -1,5 +1,4 @@
 use Rattle.disc.specs.Apply.{affected}
-use borrow.Author.Rules.{rules}
 use Rattle.disc.proofs.state.Disc.close.Goals as goal
 
 pub returns : goal.returns

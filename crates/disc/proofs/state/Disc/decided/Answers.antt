@@ -1,5 +1,4 @@
 use Rattle.disc.specs.Apply.{decided}
-use borrow.Author.Rules.{rules}
 use Rattle.disc.proofs.state.Disc.decided.Goals as goal
 
 pub returns : goal.returns

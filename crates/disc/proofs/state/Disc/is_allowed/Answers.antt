@@ -1,5 +1,4 @@
 use Rattle.disc.specs.Sound.{allowed_state}
-use borrow.Author.Rules.{rules}
 use Rattle.disc.proofs.state.Disc.is_allowed.Goals as goal
 
 pub returns : goal.returns

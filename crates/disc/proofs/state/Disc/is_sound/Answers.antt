@@ -3,7 +3,6 @@ use Rattle.fragments.specs.List.{limit}
 use Rattle.fragments.proofs.Laws.List.{array_length}
 use Rattle.disc.proofs.Laws.Check.{check_sound}
 use mathlib.Core.Path.{◌≡◌}
-use borrow.Author.Rules.{rules}
 use Rattle.disc.proofs.state.Disc.is_sound.Goals as goal
 
 pub returns : goal.returns

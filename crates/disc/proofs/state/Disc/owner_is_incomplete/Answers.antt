@@ -4,7 +4,6 @@ use lib.Dec.{ltb}
 use Rattle.disc.specs.Sound.{owner_incomplete}
 use mathlib.Core.Path.{◌≡◌}
 use native.Mathlib.Omega.{arith}
-use borrow.Author.Rules.{rules}
 use Rattle.disc.proofs.state.Disc.owner_is_incomplete.Goals as goal
 
 pub returns-then-self-eq0 : goal.returns-then-self-eq0

@@ -1,5 +1,4 @@
 use Rattle.disc.proofs.Laws.Apply.{put-entry}
-use borrow.Author.Rules.{rules}
 use Rattle.disc.proofs.state.Disc.with_entry.Goals as goal
 
 pub returns : goal.returns

@@ -1,0 +1,37 @@
+use borrow.Author.Tests.{not-true, not-false}
+use mathlib.Core.Bool.{true, false}
+use lib.ListN.{length}
+use Rattle.drive.specs.Types.{CommandBlockLength, MediumSize}
+use Rattle.drive.specs.Step.{drive, request, lent}
+use Rattle.drive.proofs.Laws.Step.{verdict-block, verdict-lent, verdict-judge, decided_feasible, decision_served, declined-served}
+use mathlib.Core.Path.{◌≡◌, sym, ◌∙◌}
+use borrow.Author.Rules.{rules}
+use Rattle.drive.proofs.entry.serve.Goals as goal
+
+pub returns-then-cdb-ne-CDB_LENGTH : goal.returns-then-cdb-ne-CDB_LENGTH
+returns-then-cdb-ne-CDB_LENGTH c =
+    let s = drive c.args.disc c.args.medium.now c.args.pending.now in
+    let q = request c.args.cdb.now c.args.«data».now c.args.reply.now in
+    declined-served s q CommandBlockLength c.refused.result (verdict-block s q c.if-cdb-ne-CDB_LENGTH.true) c.refused.ensures
+
+pub returns-then-not-is_lent : goal.returns-then-not-is_lent
+returns-then-not-is_lent c =
+    let s = drive c.args.disc c.args.medium.now c.args.pending.now in
+    let q = request c.args.cdb.now c.args.«data».now c.args.reply.now in
+    let l : lent s.disc (length s.medium) (length s.pending) ≡ false = sym c.is_lent.ensures ∙ c.if-not-is_lent.true in
+    declined-served s q MediumSize c.refused-then-not-is_lent.result (verdict-lent s q c.if-cdb-ne-CDB_LENGTH.false l) c.refused-then-not-is_lent.ensures
+
+pub carry_out-requires : goal.carry_out-requires
+carry_out-requires c =
+    let s = drive c.args.disc c.args.medium.now c.args.pending.now in
+    let q = request c.args.cdb.now c.args.«data».now c.args.reply.now in
+    let l : lent s.disc (length s.medium) (length s.pending) ≡ true = sym c.is_lent.ensures ∙ c.if-not-is_lent.false in
+    decided_feasible s q c.decide-decision.result l c.decide-decision.ensures.verdict
+
+pub returns : goal.returns
+returns c =
+    let s = drive c.args.disc c.args.medium.now c.args.pending.now in
+    let q = request c.args.cdb.now c.args.«data».now c.args.reply.now in
+    let l : lent s.disc (length s.medium) (length s.pending) ≡ true = sym c.is_lent.ensures ∙ c.if-not-is_lent.false in
+    let same = c.decide-decision.ensures.verdict ∙ verdict-judge s q c.if-cdb-ne-CDB_LENGTH.false l in
+    decision_served s q c.decide-decision.result c.carry_out.result c.carry_out.new.medium c.carry_out.new.pending c.carry_out.new.reply same c.carry_out.ensures

@@ -1,0 +1,7 @@
+use Rattle.gladhamre.specs.Image.{decode}
+use borrow.Author.Rules.{rules}
+use Rattle.gladhamre.proofs.image.read.Goals as goal
+
+pub returns : goal.returns
+unfolding decode
+returns c = rw c.read_list-fragments.ensures

@@ -1,0 +1,19 @@
+use borrow.Author.Rules.{rules}
+use mathlib.Core.Path.{◌≡◌, refl, ap}
+use native.Mathlib.Omega.{arith}
+use Prim.Native.Nat.{◌-◌, ◌≤◌}
+use mathlib.Core.List.{◌++◌}
+use lib.ListN.{length, drop, replicate, length-take, length-drop, length-set}
+use Rattle.fragments.specs.Fragment.{unused_record}
+use Rattle.fragments.specs.List.{limit}
+use Rattle.gladhamre.specs.Image.{list_of}
+use Rattle.gladhamre.proofs.Laws.Image.{lent_record, read_more}
+use Rattle.gladhamre.proofs.Laws.Used.{taken-most, taken-fits, taken-list}
+use Rattle.gladhamre.proofs.image.read_list.Given as goal
+
+abbrev pub invariant-loop-i : goal.invariant-loop-i
+invariant-loop-i l =
+    (l.i ≤ l.used) × (l.used ≤ limit) × (l.initial.fragments ≡ replicate limit unused_record) × (length l.fragments ≡ limit) × (l.fragments ≡ list_of l.i (drop 7 l.words) ++ drop l.i l.initial.fragments)
+
+abbrev pub decreases-loop-i : goal.decreases-loop-i
+decreases-loop-i l = l.used - l.i

@@ -1,4 +1,4 @@
-//! Links the archive that `rt staticlib gladhamre` leaves under the repository's target/.
+//! Links the archive that `tools/build gladhamre` leaves under the repository's target/.
 
 use std::path::PathBuf;
 
@@ -10,7 +10,7 @@ fn main() {
     println!("cargo:rerun-if-changed={}", archive.display());
     assert!(
         archive.is_file(),
-        "{} is missing: run `rt staticlib gladhamre` at the root of the repository first",
+        "{} is missing: run `tools/build gladhamre` at the root of the repository first",
         archive.display()
     );
     println!("cargo:rustc-link-search=native={}", folder.display());

@@ -1,4 +1,4 @@
-// The C face: what is read of a reply, in words.
+// What is read of a reply, in words, as the C face hands it out: crate configuration_c exports the public function.
 ghost use Rattle.std.specs.Prelude.{◌≡◌, ◌≤◌, length};
 ghost use Rattle.configuration.specs.Face.{words_of, Faced};
 
@@ -25,8 +25,7 @@ fn write(words: &mut [u32], reading: Reading)
 
 // Reads a reply into twelve words: 0. It is 1 where the reply is no uncut one of the drive, and 2 where there are not twelve words; then
 // the words stay.
-#[unsafe(no_mangle)]
-pub extern "C" fn gladhamre_configuration(reply: &[u8], words: &mut [u32]) -> u32
+pub fn gladhamre_configuration(reply: &[u8], words: &mut [u32]) -> u32
     ensures { Faced reply.now words.old result words.new }
 {
     if words.len() != WORDS {

@@ -1,5 +1,5 @@
-// The reader of GET CONFIGURATION's replies, for the host's side: it needs no drive and no disc. include/gladhamre_configuration.h declares
-// its C face. Every function is total.
+// The reader of GET CONFIGURATION's replies, for the host's side: it needs no drive and no disc. Crate configuration_c exports its words
+// for C. Every function is total.
 #![tactic(auto)]
 
 mod face;

@@ -375,7 +375,7 @@ fn definitions_are_there() {
     let mut named = 0;
     for line in prose {
         for name in line.split('`').skip(1).step_by(2) {
-            let is_name = name.chars().all(char::is_alphanumeric);
+            let is_name = name.chars().all(|sign| sign.is_alphanumeric() || sign == '_');
             assert!(!is_name || definitions.contains(name), "{name} is no definition: {line}");
             named += usize::from(is_name);
         }

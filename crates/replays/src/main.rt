@@ -3,9 +3,8 @@
 
 use std::env::{Env, FillError};
 use std::fs::File;
-use std::io;
 use std::io::Write;
-use std::str;
+use std::{io, str};
 
 // Bytes that hold any path.
 const PATH_LENGTH: usize = 4096;

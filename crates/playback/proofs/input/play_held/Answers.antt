@@ -1,0 +1,20 @@
+use Rattle.playback.proofs.Laws.Replays.{playing-next, playing-less, playing-stop}
+use Rattle.playback.proofs.input.play_held.Goals as goal
+
+pub returns-in_default : goal.returns-in_default
+returns-in_default g c =
+    let a = c.args in
+    playing-stop a.held.now a.replay c.loop-played.replay c.loop-played.at c.read_at-step.result c.read_at-step.ensures
+    c.in_default.not-Record c.loop-played.invariant
+
+pub loop-played-smaller : goal.loop-played-smaller
+loop-played-smaller g c =
+    let a = c.args in
+    playing-less a.held.now a.replay c.loop-played.replay c.loop-played.at c.read_at-step.result c.read_at-step.ensures
+    c.in-Record.is
+
+pub loop-played-preserved : goal.loop-played-preserved
+loop-played-preserved g c =
+    let a = c.args in
+    playing-next a.held.now a.replay c.loop-played.replay c.loop-played.at c.read_at-step.result c.read_at-step.ensures
+    c.play-played.result c.in-Record.is c.play-played.ensures c.loop-played.invariant

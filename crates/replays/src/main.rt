@@ -17,13 +17,18 @@ fn open(rt: &HostRuntime, name: &[u8]) -> io::Result<File> {
     }
 }
 
-// Tells why a file cannot be opened, without the number that an error prints after the system's words.
+// The system's words for an error, without the number that an error prints after them.
+fn words(text: &str) -> &str {
+    match text.split_once(" (os error ") {
+        Some((words, _)) => words,
+        None => text,
+    }
+}
+
+// Tells why a file cannot be opened.
 fn tell(rt: &HostRuntime, name: &[u8], error: io::Error) -> io::Result<()> {
     let text = format!(in rt.alloc(); "{error}")?;
-    let reason = match text.as_str().split_once(" (os error ") {
-        Some((words, _)) => words,
-        None => text.as_str(),
-    };
+    let reason = words(text.as_str());
     let mut errors = rt.stderr();
     errors.write_all(name)?;
     writeln!(errors, ": {reason}")

@@ -1,6 +1,11 @@
 // Replays an input of any length through a fixed buffer: what is left of a record at the end of the bytes held goes to the front, and
 // more is read after it.
-ghost use Rattle.std.specs.Prelude.{◌≡◌, ◌<◌, ◌≤◌, IfOk, OnErr, length};
+ghost use Rattle.std.specs.Prelude.{◌≡◌, ◌⊎◌, ◌<◌, ◌≤◌, true, false, IfOk, IfSome, OnErr, OnOk, length, take, drop};
+ghost use Rattle.std.specs.Io.KnownBytes.{Appends};
+ghost use Rattle.trace.specs.Whole.{whole_cdbs};
+ghost use Rattle.playback.specs.Replay.{last_text};
+ghost use Rattle.playback.specs.Transcript.{lines};
+ghost use Rattle.playback.specs.Output.{text_of, Came, TurnedOn, TurnedOver, TurnedAway, Reported, BrokenOff};
 ghost use Rattle.playback.specs.Input.{Reached, whole, over, Stopped, Carried, Brought, WentOn};
 
 use crate::line::Line;
@@ -48,6 +53,7 @@ struct Progress {
 
 fn print<W: Write>(to: &mut W, line: Line) -> io::Result<()>
     requires { line.length ≤ length line.bytes }
+    ensures { OnOk result (Appends (W.contents to.old) (W.contents to.new) (text_of line)) }
 {
     let bytes = line.bytes;
     let length = line.length;
@@ -57,7 +63,8 @@ fn print<W: Write>(to: &mut W, line: Line) -> io::Result<()>
 // Plays the records that are whole in the bytes held, and prints their lines. A line that cannot be written is an error, and nothing is
 // played after it.
 fn play_held<W: Write>(replay: Replay, held: &[u8], report: &mut W) -> io::Result<Stop>
-    ensures { IfOk result (λ stop. Stopped replay held.now stop) }
+    ensures stop { IfOk result (λ stop. Stopped replay held.now stop) }
+    ensures printed { OnOk result (Appends (W.contents report.old) (W.contents report.new) (lines replay (whole_cdbs held.now))) }
 {
     let mut replay = replay;
     let mut at: usize = 0;
@@ -96,7 +103,8 @@ fn carry(buffer: &mut [u8], from: usize, filled: usize) -> usize
 // Reads after the bytes held. There is room, so that nothing read is the end of the input.
 fn read_more<R: Read>(input: &mut R, buffer: &mut [u8], held: usize) -> Input
     requires { held < length buffer.old }
-    ensures { Brought held buffer.old buffer.new result }
+    ensures held { Brought held buffer.old buffer.new result }
+    ensures came { Came result.got (R.remaining input.old) (R.remaining input.new) (drop held (take result.filled buffer.new)) }
 {
     match input.read(&mut buffer[held..]) {
         Ok(0) => Input {
@@ -140,7 +148,9 @@ fn over(replay: Replay, whole: bool) -> Progress
 
 // Prints the last line, among the errors too: `replay` has no exit status to tell that a trace is damaged.
 fn finish<W: Write, E: Write>(stop: Stop, report: &mut W, errors: &mut E) -> io::Result<Progress>
-    ensures { IfOk result (λ progress. progress ≡ over stop.replay (whole stop.reading)) }
+    ensures over { IfOk result (λ progress. progress ≡ over stop.replay (whole stop.reading)) }
+    ensures printed { OnOk result (Appends (W.contents report.old) (W.contents report.new) (last_text stop.replay stop.reading)) }
+    ensures told { OnOk result (Appends (E.contents errors.old) (E.contents errors.new) (last_text stop.replay stop.reading)) }
 {
     let reading = stop.reading;
     let replay = stop.replay;
@@ -161,6 +171,14 @@ fn go_on<R: Read, W: Write, E: Write>(
 ) -> io::Result<Progress>
     requires { (14 ≤ length buffer.old) × (progress.filled ≤ length buffer.old) }
     ensures ok { IfOk result (λ after. WentOn progress buffer.old buffer.new after) }
+    ensures on { IfOk result (λ after. after.ended ≡ false
+        → TurnedOn progress (take progress.filled buffer.old) (R.remaining input.old) (R.remaining input.new)
+        (W.contents report.old) (W.contents report.new) (E.contents errors.old) (E.contents errors.new) buffer.new after) }
+    ensures ended { IfOk result (λ after. after.ended ≡ true
+        → TurnedOver progress (take progress.filled buffer.old) (R.remaining input.old)
+        (W.contents report.old) (W.contents report.new) (E.contents errors.old) (E.contents errors.new) after
+        ⊎ TurnedAway progress (take progress.filled buffer.old)
+        (W.contents report.old) (W.contents report.new) (E.contents errors.old) (E.contents errors.new) after) }
     ensures err { OnErr result (length buffer.new ≡ length buffer.old) }
 {
     let filled = progress.filled;
@@ -194,15 +212,19 @@ pub struct Ending {
     pub whole: bool,
 }
 
-// Replays the trace that a reader gives: a line for each record goes to the report, and why a trace is not whole to the errors too. What is
-// read no contract can say; where it leads is where its records lead, whatever they are. An error is that of a line that could not be
-// written: nothing is read or played after it. A read that fails is told among the errors, and ends a trace that is not whole.
+// Replays the trace that a reader gives: a line for each record goes to the report, and why a trace is not whole to the errors too. Where it
+// leads is where its records lead, whatever they are; and where the bytes that the reader gives are known, what is printed for them is
+// known too. A read that fails is told among the errors, and ends a trace that is not whole. An error is that of a line that could not be
+// written: nothing is read or played after it.
 pub fn replay_from<R: Read, W: Write, E: Write>(
     input: &mut R,
     report: &mut W,
     errors: &mut E,
 ) -> io::Result<Ending>
-    ensures { IfOk result (λ ending. Reached ending.replay) }
+    ensures reached { IfOk result (λ ending. Reached ending.replay) }
+    ensures told { IfOk result (λ ending. IfSome (R.remaining input.old) (λ trace.
+        Reported trace (W.contents report.old) (W.contents report.new) (E.contents errors.old) (E.contents errors.new) ending
+        ⊎ BrokenOff trace (W.contents report.old) (W.contents report.new) (E.contents errors.old) (E.contents errors.new) ending)) }
 {
     report.write_all(b"n op key asc ascq next\n")?;
     let mut space = [0u8; BUFFER_LENGTH];

@@ -39,7 +39,7 @@ replayed_parts r a b =
     ap (replayed r) (in_parts a b).cdbs ∙ replayed-append r (whole_cdbs a) (whole_cdbs (drop (whole_end a) a ++ b))
 
 -- and their lines
-lines-append : (r : Replay) (bs cs : List (List ℕ)) → lines r (bs ++ cs) ≡ lines r bs ++ lines (replayed r bs) cs
+pub lines-append : (r : Replay) (bs cs : List (List ℕ)) → lines r (bs ++ cs) ≡ lines r bs ++ lines (replayed r bs) cs
 unfolding lines replayed
 lines-append r [] cs = refl
 lines-append r (b ∷ bs) cs =
@@ -59,7 +59,7 @@ pub record Playing (held : List ℕ) (before now : Replay) (at : ℕ) : Type 0 w
   pub replay : replayed now (all_from held at) ≡ replayed before (whole_cdbs held)
   pub end : end_from held at ≡ whole_end held
 
-no_record : (k : Reading) → (k ≡ Record → ⊥) → is_record k ≡ false
+pub no_record : (k : Reading) → (k ≡ Record → ⊥) → is_record k ≡ false
 no_record Record h = absurd (h refl)
 no_record BadMark h = refl
 no_record CutShort h = refl

@@ -1,11 +1,11 @@
 -- An input in parts: what is left of the bytes held, and one turn of the program.
-use Rattle.std.proofs.Common.{◌≡◌, ℕ, ◌-◌, ◌<◌, ◌≤◌, Bool, true, false, List, [], ◌∷◌, ◌++◌, length, take, drop, sym, ap, ◌∙◌, true≢false, arith, length-drop, length-take}
+use Rattle.std.proofs.Common.{◌≡◌, ℕ, ◌-◌, ◌<◌, ◌≤◌, Bool, false, List, [], ◌++◌, length, take, drop, sym, ap, ◌∙◌, true≢false, arith, length-drop, length-take}
 use Rattle.trace.specs.Record.{reading_of, step_at}
 use Rattle.trace.specs.Whole.{is_record, whole_end}
 use Rattle.trace.proofs.Laws.Record.{few_left}
 use Rattle.trace.proofs.Laws.Whole.{reading_step, whole_stops}
 use Rattle.trace.proofs.Laws.Parts.{whole-within}
-use Rattle.playback.specs.Types.{Reading, Record, BadMark, CutShort, End, Replay, Stop, Input, Progress}
+use Rattle.playback.specs.Types.{Reading, Record, BadMark, Replay, Stop, Input, Progress}
 use Rattle.playback.specs.Input.{over, Stopped, Carried, Brought, WentOn, Reached}
 use Rattle.playback.specs.Replay.{start, replayed}
 use Rattle.playback.proofs.Laws.Replays.{replayed-append}

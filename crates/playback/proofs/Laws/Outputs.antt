@@ -1,14 +1,14 @@
 -- What goes out: the lines of the records held, one turn, and all turns together.
-use Rattle.std.proofs.Common.{◌≡◌, ℕ, ◌+◌, ◌-◌, ◌≤◌, ◌⊎◌, inl, inr, Bool, true, false, Option, None, Some, IfSome, Result, Ok, Err, IfOk, OnOk, OnErr, true≢false, List, [], ◌∷◌, ◌++◌, length, replicate, take, drop, sym, refl, ap, ◌∙◌, subst, append_assoc, append-nil, take-append-drop, arith}
+use Rattle.std.proofs.Common.{◌≡◌, ℕ, ◌+◌, ◌-◌, ◌≤◌, ◌⊎◌, inl, inr, Bool, false, Option, None, Some, IfSome, Result, Ok, Err, IfOk, OnOk, OnErr, true≢false, List, [], ◌∷◌, ◌++◌, length, replicate, take, drop, sym, refl, ap, ◌∙◌, subst, append_assoc, append-nil, take-append-drop, arith}
 use Rattle.std.proofs.lemmas.List.{drop-take}
 use lib.Seq.{take-append_seam, take-append-le, take-take, drop_at}
 use Rattle.std.specs.Io.KnownBytes.{Keeps, Appends, Consumes, IsAtEnd, prepend_known}
 use Rattle.std.proofs.KnownBytes.{Appends-nil, Appends-trans, Keeps-refl, Keeps-trans, prepend_known-nil}
-use Rattle.trace.specs.Record.{reading_of, stopped, step_at}
-use Rattle.trace.specs.Whole.{is_record, all_from, whole_cdbs, whole_end}
+use Rattle.trace.specs.Record.{reading_of, step_at}
+use Rattle.trace.specs.Whole.{all_from, whole_cdbs, whole_end}
 use Rattle.trace.proofs.Laws.Whole.{reading_step, whole_next, whole_stop}
 use Rattle.trace.proofs.Laws.Parts.{bad_early, in_parts}
-use Rattle.playback.specs.Types.{Reading, Record, BadMark, Step, Line, Replay, Played, Stop, Input, Progress, Ending}
+use Rattle.playback.specs.Types.{Record, BadMark, Step, Line, Replay, Played, Stop, Input, Progress}
 use Rattle.playback.specs.Line.{line_of, Printed}
 use Rattle.playback.specs.Replay.{start, line_text, onward, played, replayed, last_text, Plays}
 use Rattle.playback.specs.Transcript.{heading, lines, transcript}

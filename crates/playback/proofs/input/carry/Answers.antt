@@ -1,5 +1,5 @@
-use Rattle.playback.proofs.Laws.Carry.{Carrying, carrying_more, carrying_all}
-use Rattle.std.proofs.Common.{◌-◌, refl, arith, rules}
+use Rattle.playback.proofs.Laws.Carry.{carrying_more, carrying_all}
+use Rattle.std.proofs.Common.{◌-◌, arith}
 use Rattle.playback.proofs.input.carry.Goals as goal
 
 pub loop-i-preserved : goal.loop-i-preserved

@@ -1,5 +1,5 @@
-use Rattle.playback.proofs.Laws.Carry.{Carrying, carrying_more, carrying_all}
-use Rattle.std.proofs.Common.{◌-◌, refl, arith, rules}
+use Rattle.playback.proofs.Laws.Carry.{Carrying}
+use Rattle.std.proofs.Common.{◌-◌}
 use Rattle.playback.proofs.input.carry.Given as goal
 
 abbrev pub invariant-loop-i : goal.invariant-loop-i

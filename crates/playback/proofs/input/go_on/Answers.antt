@@ -1,7 +1,6 @@
-use Rattle.playback.specs.Types.{Bytes, Nothing}
 use Rattle.std.proofs.Common.{refl, ◌∙◌, inl, inr, true≢false, sym}
 use Rattle.playback.proofs.Laws.Inputs.{carries, has_room, went-over, went_on}
-use Rattle.playback.proofs.Laws.Outputs.{if_ok, if_ok_with, on_err, not_on, at_end_before, turned_on, turned_over, turned_away}
+use Rattle.playback.proofs.Laws.Outputs.{if_ok, if_ok_with, on_err, not_on, at_end_before, turned_on, turned_over}
 use Rattle.playback.proofs.input.go_on.Goals as goal
 
 pub carry-held-requires : goal.carry-held-requires

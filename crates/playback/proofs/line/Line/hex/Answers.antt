@@ -1,5 +1,4 @@
 use Rattle.playback.specs.Line.{append}
-use Rattle.std.proofs.Common.{rules}
 use Rattle.playback.proofs.line.Line.hex.Goals as goal
 
 pub returns : goal.returns

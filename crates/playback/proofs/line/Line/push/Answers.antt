@@ -1,4 +1,4 @@
-use Rattle.std.proofs.Common.{rules, le-ltb, lt-ltb}
+use Rattle.std.proofs.Common.{le-ltb, lt-ltb}
 use Rattle.playback.specs.Line.{push}
 use Rattle.playback.proofs.line.Line.push.Goals as goal
 

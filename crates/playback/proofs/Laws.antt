@@ -5,3 +5,4 @@ pub mod Replays
 pub mod Carry
 pub mod Inputs
 pub mod Served
+pub mod Outputs

@@ -5,3 +5,4 @@ pub mod Line
 pub mod Replay
 pub mod Input
 pub mod Transcript
+pub mod Output

@@ -13,3 +13,6 @@ pub use Rattle.playback.specs.declared.replay.Played.{Played}
 pub use Rattle.playback.specs.declared.input.Stop.{Stop}
 pub use Rattle.playback.specs.declared.input.Input.{Input}
 pub use Rattle.playback.specs.declared.input.Progress.{Progress}
+pub use Rattle.playback.specs.declared.input.Got.{Got}
+pub use Rattle.playback.specs.declared.input.Got.TheVariants.{Bytes, Nothing, Failure}
+pub use Rattle.playback.specs.declared.input.Ending.{Ending}

@@ -1,12 +1,21 @@
 // Replays an input of any length through a fixed buffer: what is left of a record at the end of the bytes held goes to the front, and
 // more is read after it.
-ghost use Rattle.std.specs.Prelude.{◌≡◌, ◌<◌, ◌≤◌, length};
+ghost use Rattle.std.specs.Prelude.{◌≡◌, ◌⊎◌, ◌<◌, ◌≤◌, true, false, IfOk, IfSome, OnErr, OnOk, length, take, drop};
+ghost use Rattle.std.specs.Io.KnownBytes.{Appends};
+ghost use Rattle.trace.specs.Whole.{whole_cdbs};
+ghost use Rattle.playback.specs.Replay.{last_text};
+ghost use Rattle.playback.specs.Transcript.{lines};
+ghost use Rattle.playback.specs.Output.{text_of, Came, TurnedOn, TurnedOver, TurnedAway, Reported, BrokenOff};
 ghost use Rattle.playback.specs.Input.{Reached, whole, over, Stopped, Carried, Brought, WentOn};
 
 use crate::line::Line;
 use crate::replay::Replay;
-use libc::{STDERR_FILENO, STDOUT_FILENO};
+use std::io;
+use std::io::{Read, Write};
 use trace::Reading;
+
+// Bytes of the buffer that an input of any length goes through.
+const BUFFER_LENGTH: usize = 4096;
 
 // Where the records of the bytes held end: the replay after them, the position, and what stands there.
 #[derive(Clone, Copy)]
@@ -16,10 +25,20 @@ struct Stop {
     reading: Reading,
 }
 
-// What a read brought: libc's answer, and how many bytes are held then.
+// What became of a read.
+#[derive(Clone, Copy)]
+enum Got {
+    Bytes,
+    // The input is at its end.
+    Nothing,
+    // The read failed.
+    Failure,
+}
+
+// What a read brought, and how many bytes are held then.
 #[derive(Clone, Copy)]
 struct Input {
-    got: isize,
+    got: Got,
     filled: usize,
 }
 
@@ -32,17 +51,20 @@ struct Progress {
     whole: bool,
 }
 
-fn print(fd: i32, line: Line)
+fn print<W: Write>(to: &mut W, line: Line) -> io::Result<()>
     requires { line.length ≤ length line.bytes }
+    ensures { OnOk result (Appends (W.contents to.old) (W.contents to.new) (text_of line)) }
 {
     let bytes = line.bytes;
     let length = line.length;
-    io::write_all(fd, &bytes[0..length]);
+    to.write_all(&bytes[0..length])
 }
 
-// Plays the records that are whole in the bytes held, and prints their lines.
-fn play_held(replay: Replay, held: &[u8]) -> Stop
-    ensures { Stopped replay held.now result }
+// Plays the records that are whole in the bytes held, and prints their lines. A line that cannot be written is an error, and nothing is
+// played after it.
+fn play_held<W: Write>(replay: Replay, held: &[u8], report: &mut W) -> io::Result<Stop>
+    ensures stop { IfOk result (λ stop. Stopped replay held.now stop) }
+    ensures printed { OnOk result (Appends (W.contents report.old) (W.contents report.new) (lines replay (whole_cdbs held.now))) }
 {
     let mut replay = replay;
     let mut at: usize = 0;
@@ -51,14 +73,14 @@ fn play_held(replay: Replay, held: &[u8]) -> Stop
         let reading = step.reading;
         let cdb = step.cdb;
         let Reading::Record = reading else {
-            return Stop {
+            return Ok(Stop {
                 replay,
                 at,
                 reading,
-            };
+            });
         };
         let played = replay.play(cdb);
-        print(STDOUT_FILENO, played.line);
+        print(report, played.line)?;
         replay = played.replay;
         at = step.next;
     }
@@ -79,15 +101,24 @@ fn carry(buffer: &mut [u8], from: usize, filled: usize) -> usize
 }
 
 // Reads after the bytes held. There is room, so that nothing read is the end of the input.
-fn read_more(fd: i32, buffer: &mut [u8], held: usize) -> Input
+fn read_more<R: Read>(input: &mut R, buffer: &mut [u8], held: usize) -> Input
     requires { held < length buffer.old }
-    ensures { Brought held buffer.old buffer.new result }
+    ensures held { Brought held buffer.old buffer.new result }
+    ensures came { Came result.got (R.remaining input.old) (R.remaining input.new) (drop held (take result.filled buffer.new)) }
 {
-    let got = libc::read(fd, &mut buffer[held..]);
-    let count = io::count(got, &buffer[held..]);
-    Input {
-        got,
-        filled: held + count,
+    match input.read(&mut buffer[held..]) {
+        Ok(0) => Input {
+            got: Got::Nothing,
+            filled: held,
+        },
+        Ok(count) => Input {
+            got: Got::Bytes,
+            filled: held + count,
+        },
+        Err(_) => Input {
+            got: Got::Failure,
+            filled: held,
+        },
     }
 }
 
@@ -115,44 +146,62 @@ fn over(replay: Replay, whole: bool) -> Progress
     }
 }
 
-// Prints the last line, on standard error too: a program here has no exit status to tell that a trace is damaged.
-fn finish(stop: Stop) -> Progress
-    ensures { result ≡ over stop.replay (whole stop.reading) }
+// Prints the last line, among the errors too: `replay` has no exit status to tell that a trace is damaged.
+fn finish<W: Write, E: Write>(stop: Stop, report: &mut W, errors: &mut E) -> io::Result<Progress>
+    ensures over { IfOk result (λ progress. progress ≡ over stop.replay (whole stop.reading)) }
+    ensures printed { OnOk result (Appends (W.contents report.old) (W.contents report.new) (last_text stop.replay stop.reading)) }
+    ensures told { OnOk result (Appends (E.contents errors.old) (E.contents errors.new) (last_text stop.replay stop.reading)) }
 {
     let reading = stop.reading;
     let replay = stop.replay;
     let line = replay.last_line(reading);
-    print(STDOUT_FILENO, line);
-    print(STDERR_FILENO, line);
-    over(replay, is_whole(reading))
+    print(report, line)?;
+    print(errors, line)?;
+    Ok(over(replay, is_whole(reading)))
 }
 
-// Plays what is held, and reads more. A bad mark, the end of the input or a failed read ends the replay.
-fn go_on(fd: i32, buffer: &mut [u8], progress: Progress) -> Progress
+// Plays what is held, and reads more. A bad mark, the end of the input or a failed read ends the replay. Where a line cannot be written
+// the buffer is as long as it was.
+fn go_on<R: Read, W: Write, E: Write>(
+    input: &mut R,
+    report: &mut W,
+    errors: &mut E,
+    buffer: &mut [u8],
+    progress: Progress,
+) -> io::Result<Progress>
     requires { (14 ≤ length buffer.old) × (progress.filled ≤ length buffer.old) }
-    ensures { WentOn progress buffer.old buffer.new result }
+    ensures ok { IfOk result (λ after. WentOn progress buffer.old buffer.new after) }
+    ensures on { IfOk result (λ after. after.ended ≡ false
+        → TurnedOn progress (take progress.filled buffer.old) (R.remaining input.old) (R.remaining input.new)
+        (W.contents report.old) (W.contents report.new) (E.contents errors.old) (E.contents errors.new) buffer.new after) }
+    ensures ended { IfOk result (λ after. after.ended ≡ true
+        → TurnedOver progress (take progress.filled buffer.old) (R.remaining input.old)
+        (W.contents report.old) (W.contents report.new) (E.contents errors.old) (E.contents errors.new) after
+        ⊎ TurnedAway progress (take progress.filled buffer.old)
+        (W.contents report.old) (W.contents report.new) (E.contents errors.old) (E.contents errors.new) after) }
+    ensures err { OnErr result (length buffer.new ≡ length buffer.old) }
 {
     let filled = progress.filled;
-    let stop = play_held(progress.replay, &buffer[0..filled]);
+    let stop = play_held(progress.replay, &buffer[0..filled], report)?;
     let reading = stop.reading;
     if let Reading::BadMark = reading {
-        return finish(stop);
+        return finish(stop, report, errors);
     }
     let held = carry(buffer, stop.at, filled);
-    let input = read_more(fd, buffer, held);
-    if input.got == 0 {
-        return finish(stop);
-    }
+    let brought = read_more(input, buffer, held);
     let replay = stop.replay;
-    if input.got < 0 {
-        io::write_all(STDERR_FILENO, b"the input cannot be read\n");
-        return over(replay, false);
-    }
-    Progress {
-        replay,
-        filled: input.filled,
-        ended: false,
-        whole: false,
+    match brought.got {
+        Got::Bytes => Ok(Progress {
+            replay,
+            filled: brought.filled,
+            ended: false,
+            whole: false,
+        }),
+        Got::Nothing => finish(stop, report, errors),
+        Got::Failure => {
+            errors.write_all(b"the input cannot be read\n")?;
+            Ok(over(replay, false))
+        }
     }
 }
 
@@ -163,13 +212,22 @@ pub struct Ending {
     pub whole: bool,
 }
 
-// Replays the trace that an open file holds, on standard output. What is read no contract can say; where it leads is where its records
-// lead, whatever they are.
-pub fn replay_from(fd: i32) -> Ending
-    ensures { Reached result.replay }
+// Replays the trace that a reader gives: a line for each record goes to the report, and why a trace is not whole to the errors too. Where it
+// leads is where its records lead, whatever they are; and where the bytes that the reader gives are known, what is printed for them is
+// known too. A read that fails is told among the errors, and ends a trace that is not whole. An error is that of a line that could not be
+// written: nothing is read or played after it.
+pub fn replay_from<R: Read, W: Write, E: Write>(
+    input: &mut R,
+    report: &mut W,
+    errors: &mut E,
+) -> io::Result<Ending>
+    ensures reached { IfOk result (λ ending. Reached ending.replay) }
+    ensures told { IfOk result (λ ending. IfSome (R.remaining input.old) (λ trace.
+        Reported trace (W.contents report.old) (W.contents report.new) (E.contents errors.old) (E.contents errors.new) ending
+        ⊎ BrokenOff trace (W.contents report.old) (W.contents report.new) (E.contents errors.old) (E.contents errors.new) ending)) }
 {
-    io::write_all(STDOUT_FILENO, b"n op key asc ascq next\n");
-    let mut space = io::buffer();
+    report.write_all(b"n op key asc ascq next\n")?;
+    let mut space = [0u8; BUFFER_LENGTH];
     let buffer: &mut [u8] = &mut space;
     let mut progress = Progress {
         replay: Replay::start(),
@@ -178,21 +236,19 @@ pub fn replay_from(fd: i32) -> Ending
         whole: false,
     };
     // A proved loop has to end, and nothing says that an input does: no run uses up these turns.
-    let mut turns = u64::MAX;
-    while turns > 0 {
-        progress = go_on(fd, buffer, progress);
+    for _ in 0..u64::MAX {
+        progress = go_on(input, report, errors, buffer, progress)?;
         if progress.ended {
             let replay = progress.replay;
-            return Ending {
+            return Ok(Ending {
                 replay,
                 whole: progress.whole,
-            };
+            });
         }
-        turns -= 1;
     }
     let replay = progress.replay;
-    Ending {
+    Ok(Ending {
         replay,
         whole: false,
-    }
+    })
 }

@@ -1,8 +1,9 @@
 // Replays the trace on standard input.
 #![tactic(auto)]
 
-use libc::STDIN_FILENO;
+use std::io;
 
-fn main() {
-    playback::replay_from(STDIN_FILENO);
+fn main(rt: HostRuntime) -> io::Result<()> {
+    playback::replay_from(&mut rt.stdin(), &mut rt.stdout(), &mut rt.stderr())?;
+    Ok(())
 }

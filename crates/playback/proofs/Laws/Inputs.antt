@@ -1,14 +1,11 @@
 -- An input in parts: what is left of the bytes held, and one turn of the program.
-use Rattle.std.proofs.Common.{◌≡◌, ℕ, ◌-◌, ◌<◌, ◌≤◌, Bool, true, false, List, [], ◌∷◌, ◌++◌, length, take, drop, sym, ap, ◌∙◌, true≢false, arith, length-drop, length-take}
-use types.Run.{OneOf, miss}
-use denote.Enum.Declared.{tag_of}
-use Rattle.trace.specs.contracts.record.Reading as reading
+use Rattle.std.proofs.Common.{◌≡◌, ℕ, ◌-◌, ◌<◌, ◌≤◌, Bool, false, List, [], ◌++◌, length, take, drop, sym, ap, ◌∙◌, true≢false, arith, length-drop, length-take}
 use Rattle.trace.specs.Record.{reading_of, step_at}
 use Rattle.trace.specs.Whole.{is_record, whole_end}
 use Rattle.trace.proofs.Laws.Record.{few_left}
 use Rattle.trace.proofs.Laws.Whole.{reading_step, whole_stops}
 use Rattle.trace.proofs.Laws.Parts.{whole-within}
-use Rattle.playback.specs.Types.{Reading, Record, BadMark, CutShort, End, Replay, Stop, Input, Progress}
+use Rattle.playback.specs.Types.{Reading, Record, BadMark, Replay, Stop, Input, Progress}
 use Rattle.playback.specs.Input.{over, Stopped, Carried, Brought, WentOn, Reached}
 use Rattle.playback.specs.Replay.{start, replayed}
 use Rattle.playback.proofs.Laws.Replays.{replayed-append}
@@ -17,27 +14,18 @@ use Rattle.playback.proofs.Laws.Replays.{replayed-append}
 pub stop_within : (before : Replay) (held : List ℕ) (s : Stop) → Stopped before held s → s.at ≤ length held
 stop_within before held s w = rw w.at (whole-within held)
 
-abbrev pub without_bad : List ℕ
-without_bad = 0 ∷ 2 ∷ 3 ∷ []
-
-not_bad : (k : Reading) → OneOf without_bad (tag_of reading.the_type k) → k ≡ BadMark → ⊥
-not_bad Record h e = let z : ◌≡◌ {A = ℕ} 0 1 = cc in omega arith
-not_bad BadMark h e = miss without_bad 1 tt h
-not_bad CutShort h e = let z : ◌≡◌ {A = ℕ} 0 1 = cc in omega arith
-not_bad End h e = let z : ◌≡◌ {A = ℕ} 0 1 = cc in omega arith
-
 not_record : (k : Reading) → is_record k ≡ false → k ≡ Record → ⊥
 not_record k h e = true≢false (ap is_record (sym e) ∙ h)
 
 pub stop_few :
-    (before : Replay) (held : List ℕ) (s : Stop) → Stopped before held s → OneOf without_bad (tag_of reading.the_type s.reading)
+    (before : Replay) (held : List ℕ) (s : Stop) → Stopped before held s → (s.reading ≡ BadMark → ⊥)
     → length held - s.at < 14
 unfolding step_at
 stop_few before held s w k =
     let e = whole_end held in
     let l = drop e held in
     let q : s.reading ≡ reading_of l = w.reading ∙ reading_step (reading_of l) l e in
-    let few = few_left l (not_record (reading_of l) (ap is_record (sym (reading_step (reading_of l) l e)) ∙ whole_stops held)) (not_bad (reading_of l) (rw q at k)) in
+    let few = few_left l (not_record (reading_of l) (ap is_record (sym (reading_step (reading_of l) l e)) ∙ whole_stops held)) (rw q at k) in
     omega (arith, length-drop e held, w.at)
 
 -- one turn over a buffer that holds so many bytes, up to the stop
@@ -55,7 +43,7 @@ module _ (p : Progress) (b : List ℕ) (s : Stop) (fits : p.filled ≤ length b)
   carries = (omega (arith, stop_within p.replay (take p.filled b) s stopped, held-length), fits)
 
   pub has_room :
-      (n : List ℕ) (r : ℕ) → OneOf without_bad (tag_of reading.the_type s.reading) → 14 ≤ length b → Carried s.at p.filled b n r
+      (n : List ℕ) (r : ℕ) → (s.reading ≡ BadMark → ⊥) → 14 ≤ length b → Carried s.at p.filled b n r
       → r < length n
   has_room n r k l c = omega (arith, stop_few p.replay (take p.filled b) s stopped k, held-length, c.count, c.same)
 

@@ -1,5 +1,5 @@
 -- Replays: the last line, and records one after another.
-use Rattle.std.proofs.Common.{◌≡◌, ℕ, ◌+◌, ◌-◌, ◌<◌, ◌≤◌, true, false, List, [], ◌∷◌, ◌++◌, length, drop, sym, refl, ap, ◌∙◌, append_assoc, arith, length-drop}
+use Rattle.std.proofs.Common.{◌≡◌, ℕ, ◌-◌, ◌<◌, ◌≤◌, true, false, List, [], ◌∷◌, ◌++◌, length, drop, sym, refl, ap, ◌∙◌, append_assoc, arith, length-drop}
 use types.Run.{OneOf, miss}
 use denote.Enum.Declared.{tag_of}
 use Rattle.trace.specs.contracts.record.Reading as reading
@@ -39,7 +39,7 @@ replayed_parts r a b =
     ap (replayed r) (in_parts a b).cdbs ∙ replayed-append r (whole_cdbs a) (whole_cdbs (drop (whole_end a) a ++ b))
 
 -- and their lines
-lines-append : (r : Replay) (bs cs : List (List ℕ)) → lines r (bs ++ cs) ≡ lines r bs ++ lines (replayed r bs) cs
+pub lines-append : (r : Replay) (bs cs : List (List ℕ)) → lines r (bs ++ cs) ≡ lines r bs ++ lines (replayed r bs) cs
 unfolding lines replayed
 lines-append r [] cs = refl
 lines-append r (b ∷ bs) cs =
@@ -59,11 +59,8 @@ pub record Playing (held : List ℕ) (before now : Replay) (at : ℕ) : Type 0 w
   pub replay : replayed now (all_from held at) ≡ replayed before (whole_cdbs held)
   pub end : end_from held at ≡ whole_end held
 
-abbrev pub without_record : List ℕ
-without_record = 1 ∷ 2 ∷ 3 ∷ []
-
-no_record : (k : Reading) → OneOf without_record (tag_of reading.the_type k) → is_record k ≡ false
-no_record Record h = absurd (miss without_record 0 tt h)
+pub no_record : (k : Reading) → (k ≡ Record → ⊥) → is_record k ≡ false
+no_record Record h = absurd (h refl)
 no_record BadMark h = refl
 no_record CutShort h = refl
 no_record End h = refl
@@ -87,7 +84,7 @@ module _ (held : List ℕ) (before now : Replay) (at : ℕ) (s : Step) (e : s �
   playing-less r = let f = record_found held at (found r) in rw (e, f.next) (omega (arith, f.marked.long, length-drop at held))
 
   pub playing-stop :
-      OneOf without_record (tag_of reading.the_type s.reading) → Playing held before now at
+      (s.reading ≡ Record → ⊥) → Playing held before now at
       → Stopped before held (record { replay = now; at = at; reading = s.reading })
   unfolding replayed
   playing-stop k w =

@@ -1,0 +1,19 @@
+use Rattle.contents.proofs.Laws.Sessions.{last_on, last_off, last_end}
+use Rattle.contents.specs.Sessions.{closed_of, last_from, last_fragment}
+use Rattle.fragments.proofs.Laws.List.{array_length}
+use Rattle.fragments.specs.List.{limit, listed}
+use lib.ListN.{drop}
+use borrow.Author.Rules.{rules}
+use mathlib.Core.Path.{◌≡◌, refl, sym, ◌∙◌, ap}
+use native.Mathlib.Omega.{arith}
+use Prim.Native.Nat.{ℕ, ◌+◌, ◌-◌, ◌*◌, ◌≤◌, ◌<◌}
+use lib.ListN.{length}
+use Rattle.contents.proofs.closed.Closing.last_fragment.Given as goal
+
+abbrev pub invariant-loop-i : goal.invariant-loop-i
+invariant-loop-i l =
+    (l.i ≤ limit) × (length l.fragments ≡ limit)
+    × (last_fragment (closed_of l.self.finalized l.self.last (listed l.fragments)) ≡ last_from l.last (closed_of l.self.finalized l.self.last (listed (drop l.i l.fragments))))
+
+abbrev pub decreases-loop-i : goal.decreases-loop-i
+decreases-loop-i l = limit - l.i

@@ -128,14 +128,14 @@ module _ (d : Disc) (s : Sound d) where
 
   -- in such a run
   module _ (a : Lba) (n i : ℕ) (l : i < used d) (from : (first_sector (at d i).start).0 ≤ a.0) (to : a.0 + n ≤ reach d i) where
-    abbrev recordedEnd : ℕ
-    recordedEnd = (first_sector (first_unrecorded (at d i))).0
+    abbrev recorded_end : ℕ
+    recorded_end = (first_sector (first_unrecorded (at d i))).0
 
     abbrev share : ℕ
     share = sectors_before a n (first_sector (first_unrecorded (at d i)))
 
     -- a sector is recorded exactly where it lies in the recorded blocks
-    run-recorded : (k : ℕ) → k < n → is_recorded d (lba (a.0 + k)) ≡ ltb (a.0 + k) recordedEnd
+    run-recorded : (k : ℕ) → k < n → is_recorded d (lba (a.0 + k)) ≡ ltb (a.0 + k) recorded_end
     run-recorded k h =
         let number : suc i - 1 ≡ i = omega arith in
         let w : Located d (a.0 + k) (suc i) =
@@ -150,8 +150,8 @@ module _ (d : Disc) (s : Sound d) where
     share-before : medium_share d a n ≡ share
     share-before =
         share_is d a n share (omega arith)
-        (λ k h. run-recorded k (omega (arith, h)) ∙ lt-ltb (a.0 + k) recordedEnd (omega (arith, h)))
-        (λ h. run-recorded share h ∙ le-ltb (a.0 + share) recordedEnd (omega (arith, h)))
+        (λ k h. run-recorded k (omega (arith, h)) ∙ lt-ltb (a.0 + k) recorded_end (omega (arith, h)))
+        (λ h. run-recorded share h ∙ le-ltb (a.0 + share) recorded_end (omega (arith, h)))
 
     -- the pending sectors are this fragment's where it has any of the run
     run-owner : share < n → d.owner ≡ suc i
@@ -162,8 +162,8 @@ module _ (d : Disc) (s : Sound d) where
     run-shared =
         record {
           whole = omega arith;
-          recorded = λ k h. run-recorded k (omega (arith, h)) ∙ lt-ltb (a.0 + k) recordedEnd (omega (arith, h));
-          unrecorded = λ k from below. run-recorded k below ∙ le-ltb (a.0 + k) recordedEnd (omega (arith, from, below));
+          recorded = λ k h. run-recorded k (omega (arith, h)) ∙ lt-ltb (a.0 + k) recorded_end (omega (arith, h));
+          unrecorded = λ k from below. run-recorded k below ∙ le-ltb (a.0 + k) recorded_end (omega (arith, from, below));
           few = omega (arith, s.few);
           within = equal_cases (n - share) 0 (λ z. omega (arith, z)) (λ z. omega (arith, placed z, few z));
           held = λ z. omega (arith, placed z, few z, own_pending d (suc i) (run-owner (omega (arith, z))), to);
@@ -174,11 +174,11 @@ module _ (d : Disc) (s : Sound d) where
               omega (arith, k, placed z);
         }
       where
-        few : (n - share ≡ 0 → ⊥) → a.0 + n < recordedEnd + 16
+        few : (n - share ≡ 0 → ⊥) → a.0 + n < recorded_end + 16
         few z = omega (arith, to, pending-in-few d s (suc i))
 
         -- the first of them stands at its place in the block
-        placed : (n - share ≡ 0 → ⊥) → a.0 + share ≡ recordedEnd + left_over (a.0 + share)
+        placed : (n - share ≡ 0 → ⊥) → a.0 + share ≡ recorded_end + left_over (a.0 + share)
         placed z = omega (arith, few z)
 
 -- what is sent of a readable run is shared out so

@@ -1,5 +1,5 @@
 -- For the reader: when a WRITE and when a READ is accepted. When CLOSE 001 opens a new tail is said by `new-tail` of Keep; what 010 and 110 keep and
--- drop by `kept-blank`, `kept-tail` and `Kept-same` of Session of `commands`, and what they make of it by `session-done` and `finalize-done`.
+-- drop by `kept-blank`, `kept-tail` and `kept_same` of Session of `commands`, and what they make of it by `session-done` and `finalize-done`.
 use Prim.Native.Nat.{ℕ, ◌+◌, ◌-◌, ◌≤◌, ◌<◌, ◌/◌}
 use mathlib.Core.Path.{◌≡◌, refl, sym, ◌∙◌, ap}
 use mathlib.Core.Bool.{true}

@@ -22,7 +22,7 @@ extern "C" {
 #define GLADHAMRE_RECORDS 160u             /* fragments at the most, the tail included */
 
 /* Bytes of stack that a call takes at the most, as measured over every command and every refusal; no proof bounds it. */
-#define GLADHAMRE_STACK_LENGTH 14336u
+#define GLADHAMRE_STACK_LENGTH 11264u
 
 /* The state image: GLADHAMRE_STATE_WORDS words of 32 bits. */
 #define GLADHAMRE_STATE_CAPACITY 0u          /* C in blocks */

@@ -1,5 +1,4 @@
 use Rattle.gladhamre.proofs.Laws.Face.{blank-whole, blank-bad, blank-short}
-use borrow.Author.Rules.{rules}
 use Rattle.gladhamre.proofs.gladhamre_blank.Goals as goal
 
 pub returns-then-state-eq-LENGTH : goal.returns-then-state-eq-LENGTH

@@ -1,4 +1,3 @@
-use borrow.Author.Tests.{not-true, not-false}
 use Rattle.drive.specs.Step.{request, response_of}
 use Rattle.gladhamre.specs.Image.{decode}
 use Rattle.gladhamre.specs.Face.{lending}
@@ -7,7 +6,6 @@ use Rattle.gladhamre.proofs.Laws.Face.{block-faced, lent-faced, unsound-faced, s
 use mathlib.Core.Path.{◌≡◌, refl, sym, ◌∙◌}
 use Prim.Native.Nat.{ℕ}
 use Rattle.gladhamre.specs.Types.{Words, State, Unsound}
-use borrow.Author.Rules.{rules}
 use Rattle.gladhamre.proofs.gladhamre_command.Goals as goal
 
 -- words that are not a state's

@@ -4,7 +4,6 @@ use Rattle.configuration.specs.Types.{Reading}
 use Rattle.configuration.specs.Face.{words_of}
 use Rattle.configuration.proofs.Laws.Reading.{count_most}
 use Rattle.configuration.proofs.Laws.Face.{faced-room, faced-refused, faced-read}
-use borrow.Author.Rules.{rules}
 use Rattle.configuration.proofs.face.gladhamre_configuration.Goals as goal
 
 pub returns-then-words-ne-WORDS : goal.returns-then-words-ne-WORDS

@@ -1,12 +1,12 @@
 use borrow.Author.Rules.{rules}
-use mathlib.Core.Path.{◌≡◌, refl, sym, ◌∙◌, ap}
-use lib.ListN.{length, take, get_or, set, length-set}
+use mathlib.Core.Path.{◌≡◌, refl, ◌∙◌, ap}
+use lib.ListN.{length, get_or, set, length-set}
 use lib.Seq.{take_all}
 use Rattle.features.specs.Bytes.{stored}
 use Rattle.features.proofs.Laws.Bytes.{stored_next}
 use Rattle.configuration.proofs.Laws.Face.{words-written}
 use native.Mathlib.Omega.{arith}
-use Prim.Native.Nat.{◌+◌, ◌-◌, ◌≤◌}
+use Prim.Native.Nat.{◌+◌, ◌-◌}
 use Rattle.configuration.proofs.face.write.Goals as goal
 
 pub loop-i-init : goal.loop-i-init

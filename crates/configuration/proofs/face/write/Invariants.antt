@@ -1,12 +1,7 @@
-use borrow.Author.Rules.{rules}
-use mathlib.Core.Path.{◌≡◌, refl, sym, ◌∙◌, ap}
-use lib.ListN.{length, take, get_or, set, length-set}
-use lib.Seq.{take_all}
+use mathlib.Core.Path.{◌≡◌}
+use lib.ListN.{length, take}
 use Rattle.features.specs.Bytes.{stored}
-use Rattle.features.proofs.Laws.Bytes.{stored_next}
-use Rattle.configuration.proofs.Laws.Face.{words-written}
-use native.Mathlib.Omega.{arith}
-use Prim.Native.Nat.{◌+◌, ◌-◌, ◌≤◌}
+use Prim.Native.Nat.{◌-◌, ◌≤◌}
 use Rattle.configuration.proofs.face.write.Given as goal
 
 abbrev pub invariant-loop-i : goal.invariant-loop-i

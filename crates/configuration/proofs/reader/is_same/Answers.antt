@@ -1,10 +1,7 @@
-use Prim.Native.Nat.{◌-◌, ◌≤◌}
-use mathlib.Core.Path.{◌≡◌, refl, sym, ◌∙◌}
+use Prim.Native.Nat.{◌-◌}
+use mathlib.Core.Path.{sym, ◌∙◌}
 use native.Mathlib.Omega.{arith}
-use lib.ListN.{length, drop}
-use Rattle.configuration.specs.Reading.{same_bytes}
 use Rattle.configuration.proofs.Laws.Reading.{same_lengths, same-on, same-off, same_end}
-use borrow.Author.Rules.{rules}
 use Rattle.configuration.proofs.reader.is_same.Goals as goal
 
 pub returns-then-one-other : goal.returns-then-one-other

@@ -1,10 +1,7 @@
 use Prim.Native.Nat.{◌-◌, ◌≤◌}
-use mathlib.Core.Path.{◌≡◌, refl, sym, ◌∙◌}
-use native.Mathlib.Omega.{arith}
+use mathlib.Core.Path.{◌≡◌}
 use lib.ListN.{length, drop}
 use Rattle.configuration.specs.Reading.{same_bytes}
-use Rattle.configuration.proofs.Laws.Reading.{same_lengths, same-on, same-off, same_end}
-use borrow.Author.Rules.{rules}
 use Rattle.configuration.proofs.reader.is_same.Given as goal
 
 abbrev pub invariant-loop-i : goal.invariant-loop-i

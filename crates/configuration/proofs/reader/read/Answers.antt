@@ -1,6 +1,5 @@
 use mathlib.Core.Path.{sym, ◌∙◌}
 use Rattle.configuration.proofs.Laws.Reading.{read_answer, read-neither}
-use borrow.Author.Rules.{rules}
 use Rattle.configuration.proofs.reader.read.Goals as goal
 
 pub returns-then-answers : goal.returns-then-answers

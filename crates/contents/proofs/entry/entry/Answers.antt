@@ -1,10 +1,5 @@
-use Rattle.fragments.proofs.Laws.Bool.{cond_yes, cond_no}
-use Rattle.contents.specs.Entry.{address_bytes}
 use Rattle.features.specs.Bytes.{stored}
 use borrow.Author.Tests.{eq-eqb, ne_eqb}
-use mathlib.Core.Path.{◌≡◌, refl, sym, ◌∙◌, ap}
-use native.Mathlib.Omega.{arith}
-use borrow.Author.Rules.{rules}
 use Rattle.contents.proofs.entry.entry.Goals as goal
 
 pub returns-then-time-eq0 : goal.returns-then-time-eq0

@@ -1,7 +1,4 @@
 use Rattle.features.proofs.Laws.Bytes.{stored_four}
-use mathlib.Core.Path.{◌≡◌, refl, sym, ◌∙◌, ap}
-use native.Mathlib.Omega.{arith}
-use borrow.Author.Rules.{rules}
 use Rattle.contents.proofs.entry.with_time.Goals as goal
 
 pub returns : goal.returns

@@ -1,12 +1,10 @@
-use Rattle.features.proofs.Laws.Bytes.{stored_next, length-stored}
+use Rattle.features.proofs.Laws.Bytes.{stored_next}
 use Rattle.contents.proofs.Laws.Stored.{stored_room}
 use Rattle.features.specs.Bytes.{stored}
-use lib.ListN.{take, length-set}
-use borrow.Author.Rules.{rules}
-use mathlib.Core.Path.{◌≡◌, refl, sym, ◌∙◌, ap}
+use lib.ListN.{length-set}
+use mathlib.Core.Path.{refl, ◌∙◌}
 use native.Mathlib.Omega.{arith}
-use Prim.Native.Nat.{ℕ, ◌+◌, ◌-◌, ◌*◌, ◌≤◌, ◌<◌}
-use lib.ListN.{length}
+use Prim.Native.Nat.{◌-◌}
 use Rattle.contents.proofs.table.put.Goals as goal
 
 pub loop-i-init : goal.loop-i-init

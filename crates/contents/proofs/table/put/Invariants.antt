@@ -1,11 +1,7 @@
-use Rattle.features.proofs.Laws.Bytes.{stored_next, length-stored}
-use Rattle.contents.proofs.Laws.Stored.{stored_room}
 use Rattle.features.specs.Bytes.{stored}
-use lib.ListN.{take, length-set}
-use borrow.Author.Rules.{rules}
-use mathlib.Core.Path.{◌≡◌, refl, sym, ◌∙◌, ap}
-use native.Mathlib.Omega.{arith}
-use Prim.Native.Nat.{ℕ, ◌+◌, ◌-◌, ◌*◌, ◌≤◌, ◌<◌}
+use lib.ListN.{take}
+use mathlib.Core.Path.{◌≡◌}
+use Prim.Native.Nat.{◌-◌, ◌≤◌}
 use lib.ListN.{length}
 use Rattle.contents.proofs.table.put.Given as goal
 

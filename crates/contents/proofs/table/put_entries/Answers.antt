@@ -1,8 +1,5 @@
-use Rattle.contents.proofs.Laws.Contents.{sessions-put, last-put}
-use lib.ListN.{length-take}
-use mathlib.Core.Path.{◌≡◌, refl, sym, ◌∙◌, ap}
-use native.Mathlib.Omega.{arith}
-use borrow.Author.Rules.{rules}
+use Rattle.contents.proofs.Laws.Contents.{sessions-put}
+use mathlib.Core.Path.{sym}
 use Rattle.contents.proofs.table.put_entries.Goals as goal
 
 pub returns-then-form-eq0 : goal.returns-then-form-eq0

@@ -1,16 +1,10 @@
-use Rattle.fragments.specs.Fragment.{unused_record}
-use Rattle.contents.proofs.Laws.Contents.{Putting, entries-on, entries-off, entries-end, shown_most, putting_start, putting_on, putting_done}
-use Rattle.contents.specs.Contents.{session_entries, shown_entry}
+use Rattle.contents.proofs.Laws.Contents.{Putting}
+use Rattle.contents.specs.Contents.{session_entries}
 use Rattle.contents.specs.Sessions.{closed_of, firsts}
-use Rattle.fragments.proofs.Laws.List.{array_length}
 use Rattle.fragments.specs.List.{limit, listed}
-use Rattle.features.proofs.Laws.Bytes.{stored_parts, length-stored}
-use Rattle.features.specs.Bytes.{stored}
-use lib.ListN.{drop, get_or}
-use borrow.Author.Rules.{rules}
-use mathlib.Core.Path.{◌≡◌, refl, sym, ◌∙◌, ap}
-use native.Mathlib.Omega.{arith}
-use Prim.Native.Nat.{ℕ, ◌+◌, ◌-◌, ◌*◌, ◌≤◌, ◌<◌}
+use lib.ListN.{drop}
+use mathlib.Core.Path.{◌≡◌}
+use Prim.Native.Nat.{◌-◌}
 use lib.ListN.{length}
 use Rattle.contents.proofs.table.put_sessions.Given as goal
 

@@ -1,14 +1,9 @@
-use Rattle.contents.proofs.Laws.Contents.{entry-put}
-use Rattle.contents.specs.Contents.{is_shown, session_entry, shown_entry}
-use Rattle.fragments.proofs.Laws.Bool.{cond_yes, cond_no}
+use Rattle.contents.specs.Contents.{is_shown, shown_entry}
+use Rattle.fragments.proofs.Laws.Bool.{cond_no}
 use Rattle.features.specs.Bytes.{stored}
-use Prim.Native.Nat.{◌+◌}
-use lib.ListN.{length}
 use mathlib.Core.List.{[]}
-use borrow.Author.Tests.{not-true, not-false}
-use mathlib.Core.Path.{◌≡◌, refl, sym, ◌∙◌, ap}
+use mathlib.Core.Path.{◌≡◌, refl, sym, ◌∙◌}
 use native.Mathlib.Omega.{arith}
-use borrow.Author.Rules.{rules}
 use Rattle.contents.proofs.table.put_shown.Goals as goal
 
 pub returns-then-not-is_shown : goal.returns-then-not-is_shown

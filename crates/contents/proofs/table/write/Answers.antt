@@ -1,8 +1,5 @@
 use Rattle.contents.proofs.Laws.Contents.{table-put}
 use Rattle.contents.specs.Contents.{toc_bytes}
-use mathlib.Core.Path.{◌≡◌, refl, sym, ◌∙◌, ap}
-use native.Mathlib.Omega.{arith}
-use borrow.Author.Rules.{rules}
 use Rattle.contents.proofs.table.write.Goals as goal
 
 pub returns : goal.returns

@@ -1,13 +1,9 @@
-use mathlib.Core.Path.{◌≡◌, refl, ◌∙◌}
-use Prim.Native.Nat.{◌-◌, ◌≤◌}
+use mathlib.Core.Path.{refl}
+use Prim.Native.Nat.{◌-◌}
 use native.Mathlib.Omega.{arith}
-use mathlib.Core.List.{◌++◌, append-nil}
-use lib.ListN.{length, drop, length-set, drop_of_length-le}
-use Rattle.drive.specs.Bytes.{zeros}
+use lib.ListN.{length-set}
 use Rattle.drive.proofs.Laws.Bytes.{zeros_none, zeros_more}
 use borrow.Author.Rules.{rules}
-use Rattle.drive.proofs.bytes.clear.Reads as reads
-use Rattle.drive.proofs.bytes.clear.Lts as lts
 use Rattle.drive.proofs.bytes.clear.Goals as goal
 
 pub loop-i-init : goal.loop-i-init

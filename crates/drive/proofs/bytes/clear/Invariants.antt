@@ -1,13 +1,8 @@
-use mathlib.Core.Path.{◌≡◌, refl, ◌∙◌}
+use mathlib.Core.Path.{◌≡◌}
 use Prim.Native.Nat.{◌-◌, ◌≤◌}
-use native.Mathlib.Omega.{arith}
-use mathlib.Core.List.{◌++◌, append-nil}
-use lib.ListN.{length, drop, length-set, drop_of_length-le}
+use mathlib.Core.List.{◌++◌}
+use lib.ListN.{length, drop}
 use Rattle.drive.specs.Bytes.{zeros}
-use Rattle.drive.proofs.Laws.Bytes.{zeros_none, zeros_more}
-use borrow.Author.Rules.{rules}
-use Rattle.drive.proofs.bytes.clear.Reads as reads
-use Rattle.drive.proofs.bytes.clear.Lts as lts
 use Rattle.drive.proofs.bytes.clear.Given as goal
 
 abbrev pub invariant-loop-i : goal.invariant-loop-i

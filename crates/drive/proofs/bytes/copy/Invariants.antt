@@ -1,13 +1,7 @@
-use mathlib.Core.Path.{◌≡◌, refl, ◌∙◌}
+use mathlib.Core.Path.{◌≡◌}
 use Prim.Native.Nat.{◌-◌, ◌≤◌}
-use native.Mathlib.Omega.{arith}
-use mathlib.Core.List.{◌++◌, append-nil}
-use lib.ListN.{length, take, drop, length-set, drop_of_length-le}
-use lib.Seq.{take_all}
-use Rattle.drive.proofs.Laws.Bytes.{copy_more}
-use borrow.Author.Rules.{rules}
-use Rattle.drive.proofs.bytes.copy.Reads as reads
-use Rattle.drive.proofs.bytes.copy.Lts as lts
+use mathlib.Core.List.{◌++◌}
+use lib.ListN.{length, take, drop}
 use Rattle.drive.proofs.bytes.copy.Given as goal
 
 abbrev pub invariant-loop-i : goal.invariant-loop-i

@@ -2,10 +2,6 @@ use Prim.Native.Nat.{◌+◌}
 use native.Mathlib.Omega.{arith}
 use lib.ListN.{length}
 use Rattle.drive.proofs.Laws.Bytes.{put-splice}
-use borrow.Author.Rules.{rules}
-use Rattle.drive.proofs.bytes.put.Reads as reads
-use Rattle.drive.proofs.bytes.put.Lts as lts
-use Rattle.drive.proofs.bytes.copy.Reads as copy-reads
 use Rattle.drive.proofs.bytes.put.Goals as goal
 
 pub returns : goal.returns

@@ -1,11 +1,9 @@
-use borrow.Author.Tests.{not-true, not-false}
 use mathlib.Core.Bool.{true, false}
 use lib.ListN.{length}
 use Rattle.drive.specs.Types.{CommandBlockLength, MediumSize}
 use Rattle.drive.specs.Step.{drive, request, lent}
 use Rattle.drive.proofs.Laws.Step.{verdict-block, verdict-lent, verdict-judge, decided_feasible, decision_served, declined-served}
 use mathlib.Core.Path.{◌≡◌, sym, ◌∙◌}
-use borrow.Author.Rules.{rules}
 use Rattle.drive.proofs.entry.serve.Goals as goal
 
 pub returns-then-cdb-ne-CDB_LENGTH : goal.returns-then-cdb-ne-CDB_LENGTH

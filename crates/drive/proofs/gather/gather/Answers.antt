@@ -1,13 +1,8 @@
 use mathlib.Core.Path.{◌≡◌, refl, ◌∙◌}
 use native.Mathlib.Omega.{arith}
-use Rattle.drive.proofs.Laws.Gather.{Gathered, gathered_none, gathered-more, gathered_all}
-use Prim.Native.Nat.{◌-◌, ◌≤◌}
-use lib.ListN.{length}
+use Rattle.drive.proofs.Laws.Gather.{gathered_none, gathered-more, gathered_all}
+use Prim.Native.Nat.{◌-◌}
 use borrow.Author.Rules.{rules}
-use Rattle.drive.proofs.bytes.clear_from.Reads as clear-from-reads
-use Rattle.drive.proofs.gather.gather_next.Reads as gather-next-reads
-use Rattle.fragments.proofs.left_over.Reads as left-over-reads
-use Rattle.fragments.proofs.whole_blocks.Reads as whole-blocks-reads
 use Rattle.drive.proofs.gather.gather.Goals as goal
 
 pub loop-i-init : goal.loop-i-init

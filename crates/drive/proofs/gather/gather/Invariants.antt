@@ -1,13 +1,7 @@
-use mathlib.Core.Path.{◌≡◌, refl, ◌∙◌}
-use native.Mathlib.Omega.{arith}
-use Rattle.drive.proofs.Laws.Gather.{Gathered, gathered_none, gathered-more, gathered_all}
+use mathlib.Core.Path.{◌≡◌}
+use Rattle.drive.proofs.Laws.Gather.{Gathered}
 use Prim.Native.Nat.{◌-◌, ◌≤◌}
 use lib.ListN.{length}
-use borrow.Author.Rules.{rules}
-use Rattle.drive.proofs.bytes.clear_from.Reads as clear-from-reads
-use Rattle.drive.proofs.gather.gather_next.Reads as gather-next-reads
-use Rattle.fragments.proofs.left_over.Reads as left-over-reads
-use Rattle.fragments.proofs.whole_blocks.Reads as whole-blocks-reads
 use Rattle.drive.proofs.gather.gather.Given as goal
 
 abbrev pub invariant-loop-i : goal.invariant-loop-i

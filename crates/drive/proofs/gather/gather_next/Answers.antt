@@ -5,10 +5,6 @@ use lib.ListN.{length, take}
 use lib.Seq.{take_all, length-take-le}
 use Rattle.drive.specs.Moves.{gathered_pending}
 use Rattle.drive.proofs.Laws.Gather.{few_medium, few_pending, full_medium, full_pending}
-use borrow.Author.Rules.{rules}
-use Rattle.drive.proofs.bytes.put.Reads as put_reads
-use Rattle.drive.proofs.medium.record_parts.Reads as record-parts-reads
-use Rattle.fragments.proofs.missing.Reads as missing-reads
 use Rattle.drive.proofs.gather.gather_next.Goals as goal
 
 pub returns-then-left-missing : goal.returns-then-left-missing

@@ -1,10 +1,8 @@
-use Rattle.drive.specs.Bytes.{splice, zeros}
 use Rattle.drive.proofs.Laws.Moves.{fill_none, fill_more}
 use borrow.Author.Rules.{rules}
-use mathlib.Core.Path.{◌≡◌, refl}
+use mathlib.Core.Path.{refl}
 use native.Mathlib.Omega.{arith}
-use Prim.Native.Nat.{◌-◌, ◌*◌, ◌≤◌}
-use lib.ListN.{length}
+use Prim.Native.Nat.{◌-◌, ◌*◌}
 use Rattle.drive.proofs.medium.fill.Goals as goal
 
 pub loop-i-init : goal.loop-i-init

@@ -1,8 +1,5 @@
 use Rattle.drive.specs.Bytes.{splice, zeros}
-use Rattle.drive.proofs.Laws.Moves.{fill_none, fill_more}
-use borrow.Author.Rules.{rules}
-use mathlib.Core.Path.{◌≡◌, refl}
-use native.Mathlib.Omega.{arith}
+use mathlib.Core.Path.{◌≡◌}
 use Prim.Native.Nat.{◌-◌, ◌*◌, ◌≤◌}
 use lib.ListN.{length}
 use Rattle.drive.proofs.medium.fill.Given as goal

@@ -1,10 +1,7 @@
 use Rattle.drive.specs.Moves.{flushed_medium, flushed_pending}
 use Rattle.drive.proofs.Laws.Moves.{flushed_record_lem}
-use mathlib.Core.Path.{subst, refl}
-use lib.ListN.{length, length-take}
-use Rattle.outcomes.specs.Lent.{FlushFits}
+use mathlib.Core.Path.{refl}
 use native.Mathlib.Omega.{arith}
-use borrow.Author.Rules.{rules}
 use Rattle.drive.proofs.medium.flush.Goals as goal
 
 pub returns-in-Skip : goal.returns-in-Skip

@@ -3,7 +3,6 @@ use Rattle.drive.proofs.Laws.Bytes.{put-splice, length-padded}
 use mathlib.Core.List.{◌++◌}
 use lib.ListN.{length-append}
 use Prim.Native.Nat.{◌+◌, ◌*◌}
-use borrow.Author.Rules.{rules}
 use Rattle.drive.proofs.medium.record_parts.Goals as goal
 
 pub returns : goal.returns

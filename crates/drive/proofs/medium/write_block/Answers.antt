@@ -1,6 +1,5 @@
 use native.Mathlib.Omega.{arith}
 use Rattle.drive.proofs.Laws.Bytes.{padded_parts}
-use borrow.Author.Rules.{rules}
 use Rattle.drive.proofs.medium.write_block.Goals as goal
 
 pub returns : goal.returns

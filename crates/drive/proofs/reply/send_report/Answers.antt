@@ -1,6 +1,5 @@
 use Rattle.protocol.specs.Reply.{said}
 use Rattle.drive.proofs.Laws.Reply.{report-put}
-use borrow.Author.Rules.{rules}
 use Rattle.drive.proofs.reply.send_report.Goals as goal
 
 pub send_own-requires : goal.send_own-requires

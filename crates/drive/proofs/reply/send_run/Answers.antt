@@ -1,9 +1,5 @@
-use mathlib.Core.Path.{ap}
-use lib.ListN.{length, length-append}
 use Rattle.decisions.specs.Run.{sent_within, pending_within}
-use Rattle.drive.proofs.Laws.Reply.{second-room, both-put}
-use native.Mathlib.Omega.{arith}
-use borrow.Author.Rules.{rules}
+use Rattle.drive.proofs.Laws.Reply.{both-put}
 use Rattle.drive.proofs.reply.send_run.Goals as goal
 
 pub returns : goal.returns

@@ -1,10 +1,4 @@
-use mathlib.Core.Path.{subst, ◌≡◌}
-use Prim.Native.Nat.{ℕ}
-use lib.ListN.{length}
-use Rattle.outcomes.specs.Lent.{TransferFits}
 use Rattle.drive.proofs.Laws.Moves.{moved_both}
-use native.Mathlib.Omega.{arith}
-use borrow.Author.Rules.{rules}
 use Rattle.drive.proofs.transfer.carry_out.Goals as goal
 
 pub returns : goal.returns

@@ -1,9 +1,6 @@
-use mathlib.Core.Path.{subst, refl}
-use lib.ListN.{length}
-use Rattle.outcomes.specs.Lent.{TransferFits}
+use mathlib.Core.Path.{refl}
 use Rattle.drive.specs.Moves.{transferred_medium, transferred_pending}
 use Rattle.drive.proofs.Laws.Moves.{nothing_moved}
-use native.Mathlib.Omega.{arith}
 use borrow.Author.Rules.{rules}
 use Rattle.drive.proofs.transfer.transfer.Goals as goal
 

@@ -1,8 +1,6 @@
-use borrow.Author.Rules.{rules}
 use Rattle.features.proofs.Laws.Feature.{row_at}
-use Rattle.features.proofs.Laws.Configuration.{Listed, listed_start, listed-on, listed_off, listed-all}
+use Rattle.features.proofs.Laws.Configuration.{listed_start, listed-on, listed_off, listed-all}
 use mathlib.Core.Path.{sym, ◌∙◌}
-use mathlib.Core.Logic.{⊎_elim}
 use native.Mathlib.Omega.{arith}
 use Prim.Native.Nat.{◌-◌}
 use lib.ListN.{length}

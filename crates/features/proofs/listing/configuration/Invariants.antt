@@ -1,9 +1,4 @@
-use borrow.Author.Rules.{rules}
-use Rattle.features.proofs.Laws.Feature.{row_at}
-use Rattle.features.proofs.Laws.Configuration.{Listed, listed_start, listed-on, listed_off, listed-all}
-use mathlib.Core.Path.{sym, ◌∙◌}
-use mathlib.Core.Logic.{⊎_elim}
-use native.Mathlib.Omega.{arith}
+use Rattle.features.proofs.Laws.Configuration.{Listed}
 use Prim.Native.Nat.{◌-◌}
 use lib.ListN.{length}
 use Rattle.features.proofs.listing.configuration.Given as goal

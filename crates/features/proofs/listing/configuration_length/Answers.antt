@@ -1,6 +1,4 @@
-use mathlib.Core.Logic.{⊎_elim}
-use borrow.Author.Rules.{rules}
-use Rattle.features.proofs.Laws.Configuration.{Counted, counted_start, counted-on, counted-off, counted_all}
+use Rattle.features.proofs.Laws.Configuration.{counted_start, counted-on, counted-off, counted_all}
 use mathlib.Core.Path.{sym, ◌∙◌}
 use Prim.Native.Nat.{◌-◌}
 use lib.ListN.{length}

@@ -1,7 +1,4 @@
-use mathlib.Core.Logic.{⊎_elim}
-use borrow.Author.Rules.{rules}
-use Rattle.features.proofs.Laws.Configuration.{Counted, counted_start, counted-on, counted-off, counted_all}
-use mathlib.Core.Path.{sym, ◌∙◌}
+use Rattle.features.proofs.Laws.Configuration.{Counted}
 use Prim.Native.Nat.{◌-◌}
 use lib.ListN.{length}
 use Rattle.features.proofs.listing.configuration_length.Given as goal

@@ -1,6 +1,4 @@
-use mathlib.Core.Logic.{⊎_elim}
-use borrow.Author.Rules.{rules}
-use Rattle.features.proofs.Laws.Configuration.{Named, named_start, named-on, named-off, named_all}
+use Rattle.features.proofs.Laws.Configuration.{named_start, named-on, named-off, named_all}
 use mathlib.Core.Path.{sym, ◌∙◌}
 use Prim.Native.Nat.{◌-◌}
 use Rattle.features.proofs.listing.numbers.Goals as goal

@@ -1,7 +1,4 @@
-use mathlib.Core.Logic.{⊎_elim}
-use borrow.Author.Rules.{rules}
-use Rattle.features.proofs.Laws.Configuration.{Named, named_start, named-on, named-off, named_all}
-use mathlib.Core.Path.{sym, ◌∙◌}
+use Rattle.features.proofs.Laws.Configuration.{Named}
 use Prim.Native.Nat.{◌-◌}
 use Rattle.features.proofs.listing.numbers.Given as goal
 

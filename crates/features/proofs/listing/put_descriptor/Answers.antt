@@ -2,7 +2,6 @@ use mathlib.Core.Path.{refl}
 use mathlib.Core.List.{[], ◌∷◌}
 use Rattle.features.specs.Bytes.{bytes32}
 use Rattle.features.proofs.Laws.Bytes.{stored_four, stored_twelve}
-use borrow.Author.Rules.{rules}
 use Rattle.features.proofs.listing.put_descriptor.Goals as goal
 
 pub returns : goal.returns

@@ -1,5 +1,4 @@
 use Rattle.features.proofs.Laws.Bytes.{stored_four}
-use borrow.Author.Rules.{rules}
 use Rattle.features.proofs.listing.put_word.Goals as goal
 
 pub returns : goal.returns

@@ -1,15 +1,9 @@
 use mathlib.Core.Bool.{false, ◌&&◌}
-use borrow.Author.Tests.{not-true, not-false}
-use Rattle.fragments.proofs.Laws.Bool.{and_first, and-false}
-use Rattle.fragments.proofs.Laws.Check.{walk-stop, walk-on, walk-over, rest_more, rest_all, list-start}
-use Rattle.fragments.proofs.Laws.List.{array_length}
 use Rattle.fragments.specs.Fragment.{is_zero}
 use Rattle.fragments.specs.List.{limit, every}
 use Rattle.fragments.specs.Check.{ends_list, walk, list_sound}
 use lib.ListN.{drop, length}
-use borrow.Author.Rules.{rules}
-use mathlib.Core.Path.{◌≡◌, sym, ◌∙◌}
-use native.Mathlib.Omega.{arith}
+use mathlib.Core.Path.{◌≡◌}
 use Prim.Native.Nat.{◌-◌, ◌≤◌, ◌<◌}
 use Rattle.fragments.proofs.check.list_is_sound.Given as goal
 

@@ -1,10 +1,7 @@
-use lib.ListN.{drop, length}
-use Rattle.fragments.specs.List.{limit, listed, first_of_session}
-use Rattle.fragments.proofs.Laws.List.{array_length, session-off, session-here, session-on, session_end}
-use borrow.Author.Rules.{rules}
-use mathlib.Core.Path.{◌≡◌, refl, sym, ◌∙◌}
+use Rattle.fragments.proofs.Laws.List.{session-off, session-here, session-on, session_end}
+use mathlib.Core.Path.{sym, ◌∙◌}
 use native.Mathlib.Omega.{arith}
-use Prim.Native.Nat.{◌+◌, ◌-◌, ◌≤◌}
+use Prim.Native.Nat.{◌+◌, ◌-◌}
 use Rattle.fragments.proofs.list.first_of_session.Goals as goal
 
 pub returns-then-f-eq0 : goal.returns-then-f-eq0

@@ -1,9 +1,6 @@
 use lib.ListN.{drop, length}
 use Rattle.fragments.specs.List.{limit, listed, first_of_session}
-use Rattle.fragments.proofs.Laws.List.{array_length, session-off, session-here, session-on, session_end}
-use borrow.Author.Rules.{rules}
-use mathlib.Core.Path.{◌≡◌, refl, sym, ◌∙◌}
-use native.Mathlib.Omega.{arith}
+use mathlib.Core.Path.{◌≡◌}
 use Prim.Native.Nat.{◌+◌, ◌-◌, ◌≤◌}
 use Rattle.fragments.proofs.list.first_of_session.Given as goal
 

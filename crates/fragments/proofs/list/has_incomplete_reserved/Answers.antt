@@ -1,11 +1,8 @@
-use lib.ListN.{length, drop}
 use Rattle.fragments.specs.Fragment.{is_incomplete_reserved}
-use Rattle.fragments.specs.List.{limit, listed, some}
-use Rattle.fragments.proofs.Laws.List.{array_length, some-off, some-here, some-on, some_end}
-use borrow.Author.Rules.{rules}
-use mathlib.Core.Path.{◌≡◌, refl, sym, ◌∙◌}
+use Rattle.fragments.proofs.Laws.List.{some-off, some-here, some-on, some_end}
+use mathlib.Core.Path.{sym, ◌∙◌}
 use native.Mathlib.Omega.{arith}
-use Prim.Native.Nat.{◌-◌, ◌≤◌}
+use Prim.Native.Nat.{◌-◌}
 use Rattle.fragments.proofs.list.has_incomplete_reserved.Goals as goal
 
 pub returns-then-f-eq0 : goal.returns-then-f-eq0

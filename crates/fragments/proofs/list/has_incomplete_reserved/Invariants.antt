@@ -1,10 +1,7 @@
 use lib.ListN.{length, drop}
 use Rattle.fragments.specs.Fragment.{is_incomplete_reserved}
 use Rattle.fragments.specs.List.{limit, listed, some}
-use Rattle.fragments.proofs.Laws.List.{array_length, some-off, some-here, some-on, some_end}
-use borrow.Author.Rules.{rules}
-use mathlib.Core.Path.{◌≡◌, refl, sym, ◌∙◌}
-use native.Mathlib.Omega.{arith}
+use mathlib.Core.Path.{◌≡◌}
 use Prim.Native.Nat.{◌-◌, ◌≤◌}
 use Rattle.fragments.proofs.list.has_incomplete_reserved.Given as goal
 

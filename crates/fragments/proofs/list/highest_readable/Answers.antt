@@ -1,11 +1,7 @@
-use Prim.Native.Nat.{◌+◌, ◌-◌, ◌≤◌}
-use lib.ListN.{drop, length}
-use Rattle.fragments.specs.Address.{later}
-use Rattle.fragments.proofs.Laws.Address.{zero_later, later_zero, later-later}
-use Rattle.fragments.specs.List.{limit, listed, highest_readable}
-use Rattle.fragments.proofs.Laws.List.{array_length, highest-off, highest-on, highest_end}
-use borrow.Author.Rules.{rules}
-use mathlib.Core.Path.{◌≡◌, sym, ◌∙◌}
+use Prim.Native.Nat.{◌+◌, ◌-◌}
+use Rattle.fragments.proofs.Laws.Address.{later_zero, later-later}
+use Rattle.fragments.proofs.Laws.List.{highest-off, highest-on, highest_end}
+use mathlib.Core.Path.{sym, ◌∙◌}
 use native.Mathlib.Omega.{arith}
 use Rattle.fragments.proofs.list.highest_readable.Goals as goal
 

@@ -3,7 +3,6 @@ use Rattle.fragments.specs.List.{limit}
 use Rattle.fragments.proofs.Laws.List.{array_length, listed_le}
 use mathlib.Core.Path.{◌≡◌}
 use native.Mathlib.Omega.{arith}
-use borrow.Author.Rules.{rules}
 use Rattle.fragments.proofs.list.last_record.Goals as goal
 
 pub offset_bounds-fragments-index : goal.offset_bounds-fragments-index

@@ -1,10 +1,8 @@
-use lib.ListN.{drop, length}
-use Rattle.fragments.specs.List.{limit, listed}
-use Rattle.fragments.proofs.Laws.List.{array_length, listed-drop-off, listed-drop-on, listed-drop-end}
-use borrow.Author.Rules.{rules}
-use mathlib.Core.Path.{◌≡◌, ap}
+use lib.ListN.{length}
+use Rattle.fragments.proofs.Laws.List.{listed-drop-off, listed-drop-on, listed-drop-end}
+use mathlib.Core.Path.{ap}
 use native.Mathlib.Omega.{arith}
-use Prim.Native.Nat.{◌+◌, ◌-◌, ◌≤◌}
+use Prim.Native.Nat.{◌-◌}
 use Rattle.fragments.proofs.list.used.Goals as goal
 
 pub returns-then-f-eq0 : goal.returns-then-f-eq0

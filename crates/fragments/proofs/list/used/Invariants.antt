@@ -1,9 +1,6 @@
 use lib.ListN.{drop, length}
 use Rattle.fragments.specs.List.{limit, listed}
-use Rattle.fragments.proofs.Laws.List.{array_length, listed-drop-off, listed-drop-on, listed-drop-end}
-use borrow.Author.Rules.{rules}
-use mathlib.Core.Path.{◌≡◌, ap}
-use native.Mathlib.Omega.{arith}
+use mathlib.Core.Path.{◌≡◌}
 use Prim.Native.Nat.{◌+◌, ◌-◌, ◌≤◌}
 use Rattle.fragments.proofs.list.used.Given as goal
 

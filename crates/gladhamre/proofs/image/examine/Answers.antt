@@ -4,7 +4,6 @@ use Rattle.fragments.proofs.Laws.Bool.{cond_yes, cond_no}
 use Rattle.gladhamre.proofs.Laws.Used.{used_most, words-short, words-tested}
 use mathlib.Core.Path.{sym, ◌∙◌}
 use native.Mathlib.Omega.{arith}
-use borrow.Author.Rules.{rules}
 use Rattle.gladhamre.proofs.image.examine.Goals as goal
 
 pub returns-then-words-ne-LENGTH : goal.returns-then-words-ne-LENGTH

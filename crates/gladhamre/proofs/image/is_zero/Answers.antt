@@ -1,11 +1,5 @@
-use borrow.Author.Rules.{rules}
-use mathlib.Core.Path.{◌≡◌, refl}
 use native.Mathlib.Omega.{arith}
-use Prim.Native.Nat.{◌-◌, ◌≤◌}
-use lib.ListN.{length, drop}
-use lib.Dec.{eqb}
-use mathlib.Core.Bool.{◌&&◌}
-use Rattle.gladhamre.specs.Used.{all_zero}
+use Prim.Native.Nat.{◌-◌}
 use Rattle.gladhamre.proofs.Laws.Used.{zero_more, zero_all}
 use Rattle.gladhamre.proofs.image.is_zero.Goals as goal
 

@@ -1,12 +1,9 @@
-use borrow.Author.Rules.{rules}
-use mathlib.Core.Path.{◌≡◌, refl}
-use native.Mathlib.Omega.{arith}
+use mathlib.Core.Path.{◌≡◌}
 use Prim.Native.Nat.{◌-◌, ◌≤◌}
 use lib.ListN.{length, drop}
 use lib.Dec.{eqb}
 use mathlib.Core.Bool.{◌&&◌}
 use Rattle.gladhamre.specs.Used.{all_zero}
-use Rattle.gladhamre.proofs.Laws.Used.{zero_more, zero_all}
 use Rattle.gladhamre.proofs.image.is_zero.Given as goal
 
 abbrev pub invariant-loop-i : goal.invariant-loop-i

@@ -2,7 +2,6 @@ use Rattle.gladhamre.proofs.Laws.Update.{none-put, past-put, entry-put}
 use Rattle.drive.proofs.Laws.Bytes.{put-splice}
 use Prim.Native.Nat.{◌+◌, ◌-◌, ◌*◌}
 use mathlib.Core.Path.{refl}
-use borrow.Author.Rules.{rules}
 use Rattle.gladhamre.proofs.image.put.Goals as goal
 
 pub returns-then-number-eq0 : goal.returns-then-number-eq0

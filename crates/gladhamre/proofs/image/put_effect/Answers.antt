@@ -1,8 +1,5 @@
 use Rattle.gladhamre.proofs.Laws.Update.{finalized-put}
 use Rattle.disc.specs.Apply.{affected}
-use lib.ListN.{length-set}
-use native.Mathlib.Omega.{arith}
-use borrow.Author.Rules.{rules}
 use Rattle.gladhamre.proofs.image.put_effect.Goals as goal
 
 pub returns-in-Keep : goal.returns-in-Keep

@@ -1,5 +1,4 @@
 use Rattle.gladhamre.proofs.Laws.Update.{pending_put}
-use borrow.Author.Rules.{rules}
 use Rattle.gladhamre.proofs.image.put_pending.Goals as goal
 
 pub returns : goal.returns

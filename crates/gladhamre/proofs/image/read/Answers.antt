@@ -1,5 +1,4 @@
 use Rattle.gladhamre.specs.Image.{decode}
-use borrow.Author.Rules.{rules}
 use Rattle.gladhamre.proofs.image.read.Goals as goal
 
 pub returns : goal.returns

@@ -1,10 +1,8 @@
 use borrow.Author.Rules.{rules}
-use mathlib.Core.Path.{◌≡◌, refl, ap}
+use mathlib.Core.Path.{refl, ap}
 use native.Mathlib.Omega.{arith}
-use Prim.Native.Nat.{◌-◌, ◌≤◌}
-use mathlib.Core.List.{◌++◌}
-use lib.ListN.{length, drop, replicate, length-take, length-drop, length-set}
-use Rattle.fragments.specs.Fragment.{unused_record}
+use Prim.Native.Nat.{◌-◌}
+use lib.ListN.{drop, replicate, length-take, length-drop, length-set}
 use Rattle.fragments.specs.List.{limit}
 use Rattle.gladhamre.specs.Image.{list_of}
 use Rattle.gladhamre.proofs.Laws.Image.{lent_record, read_more}

@@ -1,14 +1,10 @@
-use borrow.Author.Rules.{rules}
-use mathlib.Core.Path.{◌≡◌, refl, ap}
-use native.Mathlib.Omega.{arith}
+use mathlib.Core.Path.{◌≡◌}
 use Prim.Native.Nat.{◌-◌, ◌≤◌}
 use mathlib.Core.List.{◌++◌}
-use lib.ListN.{length, drop, replicate, length-take, length-drop, length-set}
+use lib.ListN.{length, drop, replicate}
 use Rattle.fragments.specs.Fragment.{unused_record}
 use Rattle.fragments.specs.List.{limit}
 use Rattle.gladhamre.specs.Image.{list_of}
-use Rattle.gladhamre.proofs.Laws.Image.{lent_record, read_more}
-use Rattle.gladhamre.proofs.Laws.Used.{taken-most, taken-fits, taken-list}
 use Rattle.gladhamre.proofs.image.read_list.Given as goal
 
 abbrev pub invariant-loop-i : goal.invariant-loop-i

@@ -1,9 +1,6 @@
 use Rattle.gladhamre.proofs.Laws.Update.{sense-put, state_image}
 use Rattle.gladhamre.specs.Image.{decode}
 use Rattle.disc.specs.Apply.{changed}
-use lib.ListN.{length-set}
-use native.Mathlib.Omega.{arith}
-use borrow.Author.Rules.{rules}
 use Rattle.gladhamre.proofs.image.update.Goals as goal
 
 pub returns : goal.returns

@@ -1,11 +1,8 @@
-use borrow.Author.Rules.{rules}
-use mathlib.Core.Path.{◌≡◌, sym, ◌∙◌}
+use mathlib.Core.Path.{sym, ◌∙◌}
 use native.Mathlib.Omega.{arith}
-use Prim.Native.Nat.{◌+◌, ◌-◌, ◌*◌, ◌≤◌}
-use borrow.Author.Tests.{not-true, not-false}
+use Prim.Native.Nat.{◌-◌}
 use lib.ListN.{drop}
 use Rattle.fragments.specs.List.{limit}
-use Rattle.gladhamre.specs.Used.{used_of, used_in}
 use Rattle.gladhamre.proofs.Laws.Used.{lent-used, used-more, used-stop, used_all}
 use Rattle.gladhamre.proofs.image.used.Goals as goal
 

@@ -3,7 +3,6 @@ use Rattle.drive.proofs.Laws.Bytes.{put-splice}
 use Rattle.gladhamre.proofs.Laws.Image.{write_both}
 use mathlib.Core.Path.{refl}
 use native.Mathlib.Omega.{arith}
-use borrow.Author.Rules.{rules}
 use Rattle.gladhamre.proofs.image.write.Goals as goal
 
 pub returns : goal.returns

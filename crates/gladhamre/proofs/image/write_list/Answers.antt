@@ -1,15 +1,12 @@
 use Rattle.fragments.specs.Fragment.{unused_record}
 use Rattle.fragments.proofs.Laws.List.{array_length}
-use Rattle.gladhamre.proofs.Laws.Image.{write-all, write_more}
-use lib.ListN.{take, length}
-use Rattle.drive.specs.Bytes.{splice}
+use Rattle.gladhamre.proofs.Laws.Image.{write_more}
 use Rattle.drive.proofs.Laws.Bytes.{splice_nil, put-splice}
-use Rattle.gladhamre.specs.Image.{image_length, list_words}
-use Rattle.fragments.specs.List.{limit}
+use Rattle.gladhamre.specs.Image.{list_words}
 use borrow.Author.Rules.{rules}
-use mathlib.Core.Path.{◌≡◌, refl, sym}
+use mathlib.Core.Path.{refl, sym}
 use native.Mathlib.Omega.{arith}
-use Prim.Native.Nat.{◌+◌, ◌-◌, ◌*◌, ◌≤◌}
+use Prim.Native.Nat.{◌+◌, ◌-◌, ◌*◌}
 use Rattle.gladhamre.proofs.image.write_list.Goals as goal
 
 pub loop-i-init : goal.loop-i-init

@@ -1,9 +1,6 @@
-use borrow.Author.Rules.{rules}
-use mathlib.Core.Path.{◌≡◌, refl, ◌∙◌, ap}
+use mathlib.Core.Path.{refl}
 use native.Mathlib.Omega.{arith}
-use Prim.Native.Nat.{◌-◌, ◌≤◌}
-use lib.ListN.{length, take}
-use lib.Seq.{take_all}
+use Prim.Native.Nat.{◌-◌}
 use Rattle.features.specs.Bytes.{stored}
 use Rattle.features.proofs.Laws.Bytes.{stored_next}
 use Rattle.protocol.proofs.inquiry.put_text.Goals as goal

@@ -1,11 +1,7 @@
-use borrow.Author.Rules.{rules}
-use mathlib.Core.Path.{◌≡◌, refl, ◌∙◌, ap}
-use native.Mathlib.Omega.{arith}
+use mathlib.Core.Path.{◌≡◌}
 use Prim.Native.Nat.{◌-◌, ◌≤◌}
 use lib.ListN.{length, take}
-use lib.Seq.{take_all}
 use Rattle.features.specs.Bytes.{stored}
-use Rattle.features.proofs.Laws.Bytes.{stored_next}
 use Rattle.protocol.proofs.inquiry.put_text.Given as goal
 
 abbrev pub invariant-loop-i : goal.invariant-loop-i

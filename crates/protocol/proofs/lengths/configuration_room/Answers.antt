@@ -1,6 +1,5 @@
 use Rattle.protocol.specs.Lengths.{configuration_room}
 use borrow.Author.Tests.{eq-eqb, ne_eqb}
-use borrow.Author.Rules.{rules}
 use Rattle.protocol.proofs.lengths.configuration_room.Goals as goal
 
 pub returns-then-request_type-eq3 : goal.returns-then-request_type-eq3

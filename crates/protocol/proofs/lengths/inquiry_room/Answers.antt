@@ -1,6 +1,5 @@
 use Rattle.protocol.specs.Lengths.{inquiry_room}
 use borrow.Author.Tests.{eq-eqb, ne_eqb}
-use borrow.Author.Rules.{rules}
 use Rattle.protocol.proofs.lengths.inquiry_room.Goals as goal
 
 pub returns-then-page_bit-eq0 : goal.returns-then-page_bit-eq0

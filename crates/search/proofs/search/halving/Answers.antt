@@ -1,15 +1,10 @@
-use Prim.Native.Nat.{ℕ, suc, ◌+◌, ◌-◌, ◌≤◌}
+use Prim.Native.Nat.{ℕ, suc, ◌+◌, ◌-◌}
 use mathlib.Core.Path.{◌≡◌, sym, ◌∙◌, ap}
-use mathlib.Core.Logic.{⊎_elim}
 use native.Mathlib.Omega.{arith}
-use borrow.Author.Tests.{ltb-true, ltb-false}
-use lib.ListN.{length, get_or}
+use lib.ListN.{get_or}
 use Rattle.fragments.specs.Fragment.{unused_record}
-use Rattle.fragments.specs.List.{limit}
-use Rattle.fragments.proofs.Laws.List.{array_length}
-use Rattle.search.specs.Search.{sought, no_holder, middle, halve, enough, halving}
-use Rattle.search.proofs.Laws.Search.{after, after_none, after-after, sought-over, sought-none, sought-left, sought-right, sought-here}
-use borrow.Author.Rules.{rules}
+use Rattle.search.specs.Search.{sought, no_holder, middle, halve, enough}
+use Rattle.search.proofs.Laws.Search.{after, after-after, sought-over, sought-none, sought-left, sought-right, sought-here}
 use Rattle.search.proofs.search.halving.Goals as goal
 use Rattle.search.proofs.search.halving.Goals.{then-loop-looks-test+else-low-high, else-loop-looks-test}
 

@@ -1,15 +1,9 @@
-use Prim.Native.Nat.{ℕ, suc, ◌+◌, ◌-◌, ◌≤◌}
-use mathlib.Core.Path.{◌≡◌, sym, ◌∙◌, ap}
-use mathlib.Core.Logic.{⊎_elim}
-use native.Mathlib.Omega.{arith}
-use borrow.Author.Tests.{ltb-true, ltb-false}
-use lib.ListN.{length, get_or}
-use Rattle.fragments.specs.Fragment.{unused_record}
+use Prim.Native.Nat.{◌-◌, ◌≤◌}
+use mathlib.Core.Path.{◌≡◌}
+use lib.ListN.{length}
 use Rattle.fragments.specs.List.{limit}
-use Rattle.fragments.proofs.Laws.List.{array_length}
-use Rattle.search.specs.Search.{sought, no_holder, middle, halve, enough, halving}
-use Rattle.search.proofs.Laws.Search.{after, after_none, after-after, sought-over, sought-none, sought-left, sought-right, sought-here}
-use borrow.Author.Rules.{rules}
+use Rattle.search.specs.Search.{sought, halve, enough, halving}
+use Rattle.search.proofs.Laws.Search.{after}
 use Rattle.search.proofs.search.halving.Given as goal
 
 abbrev pub invariant-loop-looks : goal.invariant-loop-looks

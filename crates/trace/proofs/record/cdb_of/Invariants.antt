@@ -1,10 +1,6 @@
-use borrow.Author.Rules.{rules}
-use mathlib.Core.Path.{◌≡◌, refl, sym, ◌∙◌}
-use native.Mathlib.Omega.{arith}
+use mathlib.Core.Path.{◌≡◌}
 use Prim.Native.Nat.{◌-◌, ◌≤◌}
-use native.Mathlib.Numerals.{add-one}
-use lib.ListN.{length, take, drop, length-drop, length-set}
-use lib.Seq.{take-suc, take-suc-set, get_or-drop, take_all}
+use lib.ListN.{length, take, drop}
 use Rattle.trace.proofs.record.cdb_of.Given as goal
 
 abbrev pub invariant-loop-i : goal.invariant-loop-i

@@ -2,7 +2,6 @@ use Rattle.trace.specs.Record.{reading_of, bad_mark}
 use lib.ListN.{length}
 use borrow.Author.Tests.{eq-eqb, ne_eqb, lt-ltb, le-ltb}
 use native.Mathlib.Omega.{arith}
-use borrow.Author.Rules.{rules}
 use Rattle.trace.proofs.record.classify.Goals as goal
 
 pub returns-then-left-eq0 : goal.returns-then-left-eq0

@@ -1,13 +1,7 @@
 use Rattle.contents.proofs.Laws.Sessions.{last_on, last_off, last_end}
-use Rattle.contents.specs.Sessions.{closed_of, last_from, last_fragment}
-use Rattle.fragments.proofs.Laws.List.{array_length}
-use Rattle.fragments.specs.List.{limit, listed}
-use lib.ListN.{drop}
-use borrow.Author.Rules.{rules}
-use mathlib.Core.Path.{◌≡◌, refl, sym, ◌∙◌, ap}
+use mathlib.Core.Path.{sym, ◌∙◌}
 use native.Mathlib.Omega.{arith}
-use Prim.Native.Nat.{ℕ, ◌+◌, ◌-◌, ◌*◌, ◌≤◌, ◌<◌}
-use lib.ListN.{length}
+use Prim.Native.Nat.{◌-◌}
 use Rattle.contents.proofs.closed.Closing.last_fragment.Goals as goal
 
 pub returns-then-f-eq0 : goal.returns-then-f-eq0

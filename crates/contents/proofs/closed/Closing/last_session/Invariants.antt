@@ -1,12 +1,8 @@
-use Rattle.contents.proofs.Laws.Sessions.{first_on, first_off, first-end}
 use Rattle.contents.specs.Sessions.{closed_of, firsts, last_from, last_fragment}
-use Rattle.fragments.proofs.Laws.List.{array_length}
 use Rattle.fragments.specs.List.{limit, listed}
 use lib.ListN.{drop}
-use borrow.Author.Rules.{rules}
-use mathlib.Core.Path.{◌≡◌, refl, sym, ◌∙◌, ap}
-use native.Mathlib.Omega.{arith}
-use Prim.Native.Nat.{ℕ, ◌+◌, ◌-◌, ◌*◌, ◌≤◌, ◌<◌}
+use mathlib.Core.Path.{◌≡◌}
+use Prim.Native.Nat.{◌-◌, ◌≤◌}
 use lib.ListN.{length}
 use Rattle.contents.proofs.closed.Closing.last_session.Given as goal
 

@@ -1,5 +1,4 @@
 use Rattle.fragments.specs.Check.{continues}
-use borrow.Author.Rules.{rules}
 use Rattle.fragments.proofs.fragment.Fragment.continues.Goals as goal
 
 pub returns : goal.returns

@@ -1,5 +1,4 @@
 use Rattle.fragments.specs.Check.{ends_list}
-use borrow.Author.Rules.{rules}
 use Rattle.fragments.proofs.fragment.Fragment.ends_list.Goals as goal
 
 pub returns-then-finalized : goal.returns-then-finalized

@@ -1,5 +1,4 @@
 use Rattle.fragments.specs.Check.{within}
-use borrow.Author.Rules.{rules}
 use Rattle.fragments.proofs.fragment.Fragment.is_within.Goals as goal
 
 pub returns : goal.returns

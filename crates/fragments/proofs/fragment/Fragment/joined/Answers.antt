@@ -1,5 +1,4 @@
 use Rattle.fragments.proofs.Laws.Check.{joined_zero}
-use borrow.Author.Rules.{rules}
 use Rattle.fragments.proofs.fragment.Fragment.joined.Goals as goal
 
 pub returns : goal.returns

@@ -1,5 +1,4 @@
 use Rattle.fragments.specs.Check.{open_after}
-use borrow.Author.Rules.{rules}
 use Rattle.fragments.proofs.fragment.Fragment.leaves_open.Goals as goal
 
 pub returns : goal.returns

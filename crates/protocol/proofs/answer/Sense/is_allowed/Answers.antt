@@ -1,5 +1,4 @@
 use Rattle.protocol.proofs.Laws.Answer.{allowed_row}
-use borrow.Author.Rules.{rules}
 use Rattle.protocol.proofs.answer.Sense.is_allowed.Goals as goal
 
 pub returns : goal.returns

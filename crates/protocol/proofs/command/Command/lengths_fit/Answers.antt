@@ -1,5 +1,4 @@
 use Rattle.protocol.specs.Lengths.{lengths_fit}
-use borrow.Author.Rules.{rules}
 use Rattle.protocol.proofs.command.Command.lengths_fit.Goals as goal
 
 pub returns : goal.returns

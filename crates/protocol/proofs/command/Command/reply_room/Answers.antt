@@ -1,7 +1,6 @@
 use Rattle.protocol.specs.Lengths.{reply_room}
 use mathlib.Core.Path.{sym}
 use Rattle.protocol.proofs.Laws.Lengths.{no_reply_lem}
-use borrow.Author.Rules.{rules}
 use Rattle.protocol.proofs.command.Command.reply_room.Goals as goal
 
 pub returns-in-RequestSense : goal.returns-in-RequestSense

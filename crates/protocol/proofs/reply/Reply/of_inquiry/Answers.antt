@@ -1,6 +1,5 @@
 use Rattle.features.specs.Bytes.{stored}
 use Rattle.protocol.specs.Inquiry.{inquiry_bytes}
-use borrow.Author.Rules.{rules}
 use Rattle.protocol.proofs.reply.Reply.of_inquiry.Goals as goal
 
 pub returns : goal.returns

@@ -1,6 +1,4 @@
 use Rattle.protocol.specs.Reports.{sense_bytes}
-use borrow.Author.Rules.{rules}
-use Rattle.protocol.proofs.reply.Reply.report.Reads as report-reads
 use Rattle.protocol.proofs.reply.Reply.of_sense.Goals as goal
 
 pub returns : goal.returns

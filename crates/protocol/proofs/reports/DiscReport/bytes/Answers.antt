@@ -1,6 +1,4 @@
 use Rattle.protocol.specs.Reports.{disc_bytes}
-use borrow.Author.Rules.{rules}
-use Rattle.protocol.proofs.reports.put_halves.Reads as put-halves-reads
 use Rattle.protocol.proofs.reports.DiscReport.bytes.Goals as goal
 
 pub returns : goal.returns

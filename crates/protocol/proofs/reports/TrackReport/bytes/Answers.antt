@@ -1,10 +1,4 @@
 use Rattle.protocol.proofs.Laws.Reports.{track_stored}
-use borrow.Author.Rules.{rules}
-use Rattle.fragments.proofs.sectors_in.Reads as sectors-in-reads
-use Rattle.protocol.proofs.reports.TrackReport.flags.Reads as flags-reads
-use Rattle.protocol.proofs.reports.TrackReport.valid.Reads as valid-reads
-use Rattle.protocol.proofs.reports.put_halves.Reads as put-halves-reads
-use Rattle.protocol.proofs.reports.put_word.Reads as put-word-reads
 use Rattle.protocol.proofs.reports.TrackReport.bytes.Goals as goal
 
 pub returns : goal.returns

@@ -1,6 +1,5 @@
-// The C face: functions that firmware in C or Rust links, on numbers and slices of numbers. include/gladhamre.h declares them.
-// A state travels as an image of words, which the caller keeps. Every function is total: what it cannot work with it refuses by its
-// number.
+// The C face: functions on numbers and slices of numbers, which crate gladhamre_c exports for firmware in C or Rust. A state travels as an
+// image of words, which the caller keeps. Every function is total: what it cannot work with it refuses by its number.
 #![tactic(auto)]
 
 mod image;
@@ -44,8 +43,7 @@ fn is_lent(state: &[u32], medium: usize, pending: usize) -> bool
 }
 
 // Makes the blank disc of a capacity, as an image.
-#[unsafe(no_mangle)]
-pub extern "C" fn gladhamre_blank(capacity: u32, state: &mut [u32]) -> u32
+pub fn gladhamre_blank(capacity: u32, state: &mut [u32]) -> u32
     ensures { BlankFaced capacity state.old result state.new }
 {
     let made = Disc::blank(capacity);
@@ -62,8 +60,7 @@ pub extern "C" fn gladhamre_blank(capacity: u32, state: &mut [u32]) -> u32
 }
 
 // Answers one command. The reply's length and the number of blocks recorded come back through the last two.
-#[unsafe(no_mangle)]
-pub extern "C" fn gladhamre_command(
+pub fn gladhamre_command(
     cdb: &[u8],
     data: &[u8],
     state: &mut [u32],

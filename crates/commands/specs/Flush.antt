@@ -6,7 +6,7 @@ use Rattle.fragments.specs.Fragment.{first_unrecorded}
 use Rattle.disc.specs.Records.{numbered}
 use Rattle.decisions.specs.Plan.{plan}
 use Rattle.disc.specs.Verdict.{accept}
-use Rattle.decisions.specs.Change.{entry, no_entry}
+use Rattle.fragments.specs.Entry.{entry, no_entry}
 use Rattle.protocol.specs.Reply.{no_reply}
 
 -- the record whose pending block, n sectors of it given, is recorded with zeros for the missing ones

@@ -9,16 +9,14 @@ pub use Rattle.fragments.specs.declared.fragment.Kind.{Kind}
 pub use Rattle.fragments.specs.declared.fragment.Kind.TheVariants.{Reserved, Appended}
 pub use Rattle.fragments.specs.declared.fragment.Fragment.{Fragment}
 pub use Rattle.disc.specs.declared.state.Disc.{Disc}
-pub use Rattle.fragments.specs.declared.list.Found.{Found}
-pub use Rattle.fragments.specs.declared.list.Found.TheVariants.{Number, Nowhere}
-pub use Rattle.search.specs.declared.search.Holder.{Holder}
+pub use Rattle.std.specs.Prelude.{Option}
+pub use Rattle.std.specs.Prelude.{Some, None}
+pub use Rattle.fragments.specs.declared.numbered.Entry.{Entry}
 pub use Rattle.search.specs.declared.search.Sought.{Sought}
 pub use Rattle.decisions.specs.declared.plan.Flush.{Flush}
 pub use Rattle.decisions.specs.declared.plan.Flush.TheVariants.{Skip, Record}
 pub use Rattle.decisions.specs.declared.plan.Transfer.{Transfer}
 pub use Rattle.decisions.specs.declared.plan.Transfer.TheVariants.{Nothing, Send, Gather, Fill}
 pub use Rattle.disc.specs.declared.verdict.Verdict.{Verdict}
-pub use Rattle.fragments.specs.declared.list.Last.{Last}
 pub use Rattle.decisions.specs.declared.flushing.Flushing.{Flushing}
-pub use Rattle.decisions.specs.declared.change.Entry.{Entry}
 pub use Rattle.decisions.specs.declared.change.Effect.TheVariants.{Keep, Settle, Reserve, Close, Grow}

@@ -1,6 +1,6 @@
 -- WRITE (2Ah, AAh): the decision, the new list and the plan.
 use Rattle.std.specs.Prelude.{ℕ, ◌+◌, ◌-◌, ◌/◌, ◌^◌, ◌≤◌, ◌<◌, ◌≡◌, false, cond, set, eqb, ltb}
-use Rattle.commands.specs.Types.{Lba, Fragment, Disc, Found, Number, Nowhere, Flush, Skip, Gather, Entry, Flushing, Verdict, WriteProtected, InvalidAddressForWrite, EndOfUserArea}
+use Rattle.commands.specs.Types.{Lba, Fragment, Disc, Option, Some, None, Flush, Skip, Gather, Entry, Flushing, Verdict, WriteProtected, InvalidAddressForWrite, EndOfUserArea}
 use Rattle.fragments.specs.Address.{first_sector, whole_blocks, left_over}
 use Rattle.fragments.specs.Fragment.{end, first_unrecorded, complete}
 use Rattle.disc.specs.Records.{pending_in, next_writable, used, numbered, writable_at}
@@ -9,7 +9,7 @@ use Rattle.decisions.specs.Plan.{no_plan, plan}
 use Rattle.disc.specs.Verdict.{accept, refuse}
 use Rattle.protocol.specs.Reply.{no_reply}
 use Rattle.commands.specs.Flush.{flush, flush_plan, flush_count, flush_entry}
-use Rattle.decisions.specs.Change.{no_entry}
+use Rattle.fragments.specs.Entry.{no_entry}
 
 -- sectors pending in another fragment are flushed first: the disc after that, and the plan for it
 unfoldable pub flush_others : Disc → ℕ → Disc
@@ -75,9 +75,9 @@ write_to d a n number =
     (accept d (gather (flush_others d number) number n) no_reply
     (plan (flush_others_plan d number) (Gather (first_unrecorded (numbered d number)) (pending_in d number) n)))
 
-unfoldable pub write_found : Disc → Lba → ℕ → Found → Verdict
-write_found d a n (Number number) = write_to d a n number
-write_found d a n Nowhere = refuse d InvalidAddressForWrite
+unfoldable pub write_found : Disc → Lba → ℕ → Option ℕ → Verdict
+write_found d a n (Some number) = write_to d a n number
+write_found d a n None = refuse d InvalidAddressForWrite
 
 -- a length of 0 is accepted wherever it points; then the refusals of WRITE in the table's order, judged on the disc as it stands
 unfoldable pub write : Disc → Lba → ℕ → Verdict

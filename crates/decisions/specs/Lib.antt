@@ -1,8 +1,6 @@
 -- What a command is decided to, as definitions.
 pub mod Types
 pub mod Plan
-pub mod Change
 pub mod Decision
-pub mod Tail
 pub mod Flushing
 pub mod Run

@@ -2,7 +2,7 @@
 pub use Rattle.fragments.specs.declared.address.Block.{Block}
 pub use Rattle.fragments.specs.declared.address.Lba.{Lba}
 pub use Rattle.fragments.specs.declared.fragment.Fragment.{Fragment}
-pub use Rattle.fragments.specs.declared.list.Last.{Last}
+pub use Rattle.fragments.specs.declared.numbered.Entry.{Entry}
 pub use Rattle.protocol.specs.declared.answer.Sense.{Sense}
 pub use Rattle.protocol.specs.declared.answer.LinkRefusal.{LinkRefusal}
 pub use Rattle.protocol.specs.declared.answer.DriveRefusal.{DriveRefusal}
@@ -14,7 +14,6 @@ pub use Rattle.decisions.specs.declared.plan.Flush.TheVariants.{Skip, Record}
 pub use Rattle.decisions.specs.declared.plan.Transfer.{Transfer}
 pub use Rattle.decisions.specs.declared.plan.Transfer.TheVariants.{Nothing, Send, Gather, Fill}
 pub use Rattle.decisions.specs.declared.plan.Plan.{Plan}
-pub use Rattle.decisions.specs.declared.change.Entry.{Entry}
 pub use Rattle.decisions.specs.declared.change.Effect.{Effect}
 pub use Rattle.decisions.specs.declared.change.Effect.TheVariants.{Keep, Settle, Reserve, Close, Grow}
 pub use Rattle.decisions.specs.declared.change.Change.{Change}

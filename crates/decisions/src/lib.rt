@@ -7,9 +7,8 @@ mod decision;
 mod flushing;
 mod plan;
 mod run;
-mod tail;
 
-pub use change::{Change, Effect, Entry};
+pub use change::{Change, Effect};
 pub use decision::Decision;
 pub use flushing::Flushing;
 pub use plan::{Flush, Plan, Transfer};

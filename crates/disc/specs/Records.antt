@@ -1,6 +1,6 @@
 -- The fragment list of a disc.
 use Rattle.std.specs.Prelude.{ℕ, ◌-◌, Bool, not, cond, ◌&&◌, ◌||◌, List, length, set, eqb, leb}
-use Rattle.disc.specs.Types.{Lba, Sense, Fragment, Disc, Found, Last, Reach, TailNext, Address, NoTail}
+use Rattle.disc.specs.Types.{Lba, Sense, Fragment, Disc, Option, Entry, Reach, TailNext, Address, NoTail}
 use Rattle.fragments.specs.Fragment.{is_tail, next_after, holds_recorded, holds_pending}
 use Rattle.fragments.specs.List.{listed, record_numbered, last_of, some, pending_of, holder_of, reach_at, taker_of, highest_readable, first_of_session}
 
@@ -65,14 +65,14 @@ abbrev pub tail_next : Disc → TailNext
 tail_next d = cond (has_tail d) (Address (next_writable d (used d) (last_record d))) NoTail
 
 -- the last record, with its number, is a blank tail
-abbrev pub is_blank_tail : Disc → Last → Bool
+abbrev pub is_blank_tail : Disc → Entry → Bool
 is_blank_tail d l = is_tail l.fragment && is_blank d l.number l.fragment
 
 abbrev pub has_blank_tail : Disc → Bool
 has_blank_tail d = is_blank_tail d (last_of d.fragments)
 
 -- the fragment that an address lies in
-abbrev pub at_address : Disc → Lba → Found
+abbrev pub at_address : Disc → Lba → Option ℕ
 at_address d a = holder_of d.fragments a
 
 -- where the recorded sectors of that fragment end, and where its readable ones do
@@ -80,7 +80,7 @@ abbrev pub reach_around : Disc → Lba → Reach
 reach_around d a = reach_at d.fragments d.pending d.owner a
 
 -- the incomplete fragment whose next writable address it is
-abbrev pub writable_at : Disc → Lba → Found
+abbrev pub writable_at : Disc → Lba → Option ℕ
 writable_at d a = taker_of d.fragments d.pending d.owner a
 
 -- a recorded sector lies in a recorded block of some fragment: it is on the medium and never changes
@@ -100,7 +100,7 @@ abbrev pub last_readable : Disc → Lba
 last_readable d = highest_readable d.pending d.owner 1 (records d)
 
 -- its session has one record, and that is a blank tail
-abbrev pub is_only_tail : Disc → Last → Bool
+abbrev pub is_only_tail : Disc → Entry → Bool
 is_only_tail d l = is_blank_tail d l && eqb (first_of_session l.fragment.session 1 (records d)) l.number
 
 abbrev pub blank_tail_only : Disc → Bool

@@ -9,9 +9,9 @@ pub use Rattle.fragments.specs.declared.fragment.Kind.{Kind}
 pub use Rattle.fragments.specs.declared.fragment.Kind.TheVariants.{Reserved, Appended}
 pub use Rattle.fragments.specs.declared.fragment.Fragment.{Fragment}
 pub use Rattle.disc.specs.declared.state.Disc.{Disc}
-pub use Rattle.fragments.specs.declared.list.Found.{Found}
-pub use Rattle.fragments.specs.declared.list.Found.TheVariants.{Number, Nowhere}
-pub use Rattle.fragments.specs.declared.list.Last.{Last}
+pub use Rattle.std.specs.Prelude.{Option}
+pub use Rattle.std.specs.Prelude.{Some, None}
+pub use Rattle.fragments.specs.declared.numbered.Entry.{Entry}
 pub use Rattle.fragments.specs.declared.list.Reach.{Reach}
 pub use Rattle.disc.specs.declared.state.TailNext.{TailNext}
 pub use Rattle.disc.specs.declared.state.TailNext.TheVariants.{Address, NoTail}
@@ -19,7 +19,6 @@ pub use Rattle.disc.specs.declared.blank.Blank.{Blank}
 pub use Rattle.protocol.specs.declared.reply.Reply.{Reply}
 pub use Rattle.decisions.specs.declared.plan.Plan.{Plan}
 pub use Rattle.disc.specs.declared.verdict.Verdict.{Verdict}
-pub use Rattle.decisions.specs.declared.change.Entry.{Entry}
 pub use Rattle.decisions.specs.declared.change.Effect.{Effect}
 pub use Rattle.decisions.specs.declared.change.Effect.TheVariants.{Keep, Settle, Reserve, Close, Grow}
 pub use Rattle.decisions.specs.declared.change.Change.{Change}

@@ -7,7 +7,7 @@ use Rattle.examples.specs.Types.{Disc, Fragment, Reserved, Appended, Settle, Ver
 use Rattle.protocol.specs.Answer.{sense, no_sense, number, is_refusal_sense, allowed_sense}
 use Rattle.protocol.specs.Reply.{report}
 use Rattle.protocol.specs.Reports.{capacity_bytes}
-use Rattle.decisions.specs.Change.{entry}
+use Rattle.fragments.specs.Entry.{entry}
 use Rattle.decisions.specs.Plan.{no_plan}
 use Rattle.decisions.specs.Decision.{accepting}
 use Rattle.fragments.specs.Fragment.{fragment}

@@ -5,15 +5,15 @@ pub use Rattle.protocol.specs.declared.answer.DriveRefusal.TheVariants.{BlankChe
 pub use Rattle.protocol.specs.declared.answer.Answer.TheVariants.{Accepted, Link, Drive}
 pub use Rattle.protocol.specs.declared.command.Command.TheVariants.{RequestSense, ReadCapacity, Read, Write, SynchronizeCache, ReadDiscInformation, ReadTrackInformation}
 pub use Rattle.fragments.specs.declared.address.Lba.{Lba}
-pub use Rattle.fragments.specs.declared.list.Found.{Found}
-pub use Rattle.fragments.specs.declared.list.Found.TheVariants.{Number, Nowhere}
+pub use Rattle.std.specs.Prelude.{Option}
+pub use Rattle.std.specs.Prelude.{Some, None}
 pub use Rattle.fragments.specs.declared.fragment.Kind.{Kind}
 pub use Rattle.fragments.specs.declared.fragment.Kind.TheVariants.{Reserved, Appended}
 pub use Rattle.fragments.specs.declared.fragment.Fragment.{Fragment}
 pub use Rattle.decisions.specs.declared.plan.Flush.TheVariants.{Skip, Record}
 pub use Rattle.decisions.specs.declared.plan.Transfer.{Transfer}
 pub use Rattle.decisions.specs.declared.plan.Transfer.TheVariants.{Nothing, Send, Gather, Fill}
-pub use Rattle.decisions.specs.declared.change.Entry.{Entry}
+pub use Rattle.fragments.specs.declared.numbered.Entry.{Entry}
 pub use Rattle.decisions.specs.declared.change.Effect.{Effect}
 pub use Rattle.decisions.specs.declared.change.Effect.TheVariants.{Keep, Settle, Reserve, Close, Grow}
 pub use Rattle.decisions.specs.declared.decision.Decision.{Decision}

@@ -1,7 +1,7 @@
 -- What the simple promises of the lower crates say on chosen inputs. Each value rules out the wrong answers beside it: an off by one,
 -- the other direction, the neighbour's field.
 use Rattle.std.specs.Prelude.{ℕ, ◌+◌, ◌-◌, ◌≡◌, refl, Bool, true, false, List, [], ◌∷◌, ◌++◌, map, length, take, replicate}
-use Rattle.examples.specs.Types.{Sense, Fragment, Reserved, Appended, Disc, Found, Number, Nowhere, Accepted, Link, Drive, CommandBlockLength, MediumSize, UnsoundState, TransferLength, BlankCheck, Read, Write, RequestSense, ReadCapacity, SynchronizeCache, ReadDiscInformation, ReadTrackInformation, Keep, Settle, Reserve, Close, Grow, Effect, Skip, Record, Nothing, Send, Gather, Fill, Entry, Decision}
+use Rattle.examples.specs.Types.{Sense, Fragment, Reserved, Appended, Disc, Option, Some, None, Accepted, Link, Drive, CommandBlockLength, MediumSize, UnsoundState, TransferLength, BlankCheck, Read, Write, RequestSense, ReadCapacity, SynchronizeCache, ReadDiscInformation, ReadTrackInformation, Keep, Settle, Reserve, Close, Grow, Effect, Skip, Record, Nothing, Send, Gather, Fill, Entry, Decision}
 use Rattle.fragments.specs.Address.{sectors_in, whole_blocks, left_over, missing, block, lba, first_sector, passes, sectors_before}
 use Rattle.fragments.specs.Fragment.{fragment, unused_record, is_reserved, complete, is_tail, is_incomplete_reserved, end, next_fragment_start, next_session_start, next_after, first_unrecorded, last_recorded, last_readable_of, reserved_at, shortened_record}
 use Rattle.fragments.specs.List.{limit, listed, record_numbered, last_of, holder_of, taker_of, pending_of, first_of_session, reach_at, highest_readable, some, find}
@@ -9,10 +9,10 @@ use Rattle.protocol.specs.Answer.{sense, no_sense, sense_number, refusal_sense, 
 use Rattle.protocol.specs.Lengths.{data_length, reply_room, lengths_fit}
 use Rattle.protocol.specs.Reply.{report, no_reply}
 use Rattle.protocol.specs.Reports.{sense_bytes, capacity_bytes, disc_bytes, track_bytes}
-use Rattle.decisions.specs.Change.{entry, no_entry, put, over, over_last}
+use Rattle.fragments.specs.Entry.{entry, no_entry, put, over, over_last}
 use Rattle.decisions.specs.Plan.{plan, no_plan}
 use Rattle.decisions.specs.Decision.{accepting, refusing, refusing_link}
-use Rattle.decisions.specs.Tail.{tail_entry, tail_after, tail_closed}
+use Rattle.fragments.specs.Tail.{tail_entry, tail_after, tail_closed}
 use Rattle.decisions.specs.Flushing.{no_flushing, closing_last}
 use Rattle.decisions.specs.Run.{sent_within, pending_within}
 use Rattle.disc.specs.Apply.{with_entry, affected, changed}
@@ -58,9 +58,9 @@ places = refl
 -- of the list: three records, the third is last; sector 2127 lies in the second, 2128 in none; with 5 sectors pending in the second
 -- its next writable address is 2117, without them 2112. Readable is 2111 the highest, with those 2116, with 5 in the third 2148; 111 where
 -- recorded sectors lie above pending ones
-abbrev pub found : Found → ℕ
-found (Number n) = n
-found Nowhere = 0
+abbrev pub found : Option ℕ → ℕ
+found (Some n) = n
+found None = 0
 
 pub walks :
     (length (listed list) ∷ (last_of list).number ∷ (last_of list).fragment.start.0 ∷ found (holder_of list (lba 31)) ∷ found (holder_of list (lba 32))

@@ -3,4 +3,5 @@ pub mod Bool
 pub mod Numbers
 pub mod Address
 pub mod List
+pub mod Tail
 pub mod Check

@@ -3,4 +3,6 @@ pub mod Types
 pub mod Address
 pub mod Fragment
 pub mod List
+pub mod Entry
+pub mod Tail
 pub mod Check

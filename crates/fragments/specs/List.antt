@@ -1,6 +1,6 @@
 -- The fragment list, without the disc that has it.
 use Rattle.std.specs.Prelude.{ℕ, ◌+◌, ◌-◌, Bool, true, false, cond, ◌&&◌, ◌||◌, List, [], ◌∷◌, length, get_or, eqb}
-use Rattle.fragments.specs.Types.{Lba, Fragment, Found, Number, Nowhere, Last, Reach}
+use Rattle.fragments.specs.Types.{Lba, Fragment, Option, Some, None, Entry, Reach}
 use Rattle.fragments.specs.Address.{lba, first_sector, later}
 use Rattle.fragments.specs.Fragment.{unused_record, unused, first_unrecorded, next_after, takes, holds, last_readable_of}
 
@@ -18,7 +18,7 @@ abbrev pub record_numbered : List Fragment → ℕ → Fragment
 record_numbered fs n = get_or fs (n - 1) unused_record
 
 -- the last of those in use, whose number is how many they are
-abbrev pub last_of : List Fragment → Last
+abbrev pub last_of : List Fragment → Entry
 last_of fs = record { number = length (listed fs); fragment = record_numbered fs (length (listed fs)) }
 
 -- a test that some record, or every record, of a list passes
@@ -36,12 +36,12 @@ sum_recorded [] = 0
 sum_recorded (f ∷ fs) = f.recorded + sum_recorded fs
 
 -- the first record that passes a test, with its number; n is the number of the first in the list
-unfoldable pub find : (ℕ → Fragment → Bool) → ℕ → List Fragment → Found
-find p n [] = Nowhere
-find p n (f ∷ fs) = cond (p n f) (Number n) (find p (n + 1) fs)
+unfoldable pub find : (ℕ → Fragment → Bool) → ℕ → List Fragment → Option ℕ
+find p n [] = None
+find p n (f ∷ fs) = cond (p n f) (Some n) (find p (n + 1) fs)
 
 -- the fragment that an address lies in
-abbrev pub holder_of : List Fragment → Lba → Found
+abbrev pub holder_of : List Fragment → Lba → Option ℕ
 holder_of fs a = find (λ n f. holds a f) 1 (listed fs)
 
 -- the pending sectors of the fragment n, of all those pending, which belong to the fragment `owner`
@@ -49,7 +49,7 @@ abbrev pub pending_of : ℕ → ℕ → ℕ → ℕ
 pending_of pending owner n = cond (eqb owner n) pending 0
 
 -- the incomplete fragment whose next writable address it is
-abbrev pub taker_of : List Fragment → ℕ → ℕ → Lba → Found
+abbrev pub taker_of : List Fragment → ℕ → ℕ → Lba → Option ℕ
 taker_of fs pending owner a = find (λ n f. takes a (pending_of pending owner n) f) 1 (listed fs)
 
 -- no sector is readable
@@ -57,11 +57,11 @@ abbrev pub no_reach : Reach
 no_reach = record { recorded = lba 0; readable = lba 0 }
 
 -- where the recorded sectors of the fragment that an address lies in end, and where its readable ones do; both 0 where there is none
-abbrev pub reach_found : List Fragment → ℕ → ℕ → Found → Reach
-reach_found fs pending owner (Number n) =
+abbrev pub reach_found : List Fragment → ℕ → ℕ → Option ℕ → Reach
+reach_found fs pending owner (Some n) =
     let f = record_numbered fs n in
     record { recorded = first_sector (first_unrecorded f); readable = next_after (pending_of pending owner n) f }
-reach_found fs pending owner Nowhere = no_reach
+reach_found fs pending owner None = no_reach
 
 abbrev pub reach_at : List Fragment → ℕ → ℕ → Lba → Reach
 reach_at fs pending owner a = reach_found fs pending owner (holder_of fs a)

@@ -7,11 +7,14 @@ mod address;
 mod check;
 mod fragment;
 mod list;
+mod numbered;
+mod tail;
 
 pub use address::{Block, Lba, WideBlock, left_over, missing, sectors_in, whole_blocks};
 pub use check::list_is_sound;
 pub use fragment::{Fragment, Kind};
 pub use list::{
-    Found, LIMIT, Last, Reach, first_of_session, has_incomplete_reserved, highest_readable,
-    last_record, pending_of, record_numbered, used,
+    LIMIT, Reach, first_of_session, has_incomplete_reserved, highest_readable, last_record,
+    pending_of, record_numbered, used,
 };
+pub use numbered::Entry;

@@ -6,23 +6,10 @@ ghost use Rattle.fragments.specs.List.{listed, record_numbered, last_of, pending
 
 use crate::address::Lba;
 use crate::fragment::Fragment;
+use crate::numbered::Entry;
 
 // How many records a disc has.
 pub const LIMIT: usize = 160;
-
-// What a search along the list finds: a fragment's number, from 1, or that there is none.
-#[derive(Clone, Copy)]
-pub enum Found {
-    Number(usize),
-    Nowhere,
-}
-
-// The last record in use and its number.
-#[derive(Clone, Copy)]
-pub struct Last {
-    pub number: usize,
-    pub fragment: Fragment,
-}
 
 // Where a fragment's recorded sectors end, and where its readable ones do.
 #[derive(Clone, Copy)]
@@ -70,13 +57,13 @@ pub fn record_numbered(fragments: [Fragment; LIMIT], number: usize) -> Fragment
 }
 
 // The last record with its number.
-pub fn last_record(fragments: [Fragment; LIMIT]) -> Last
+pub fn last_record(fragments: [Fragment; LIMIT]) -> Entry
     ensures { result ≡ last_of fragments }
 {
     let number = used(fragments);
     let index = index_of(number);
     let fragment = fragments[index];
-    Last { number, fragment }
+    Entry::new(number, fragment)
 }
 
 // The pending sectors of the fragment with a number, of all those pending and the number of the fragment that has them.

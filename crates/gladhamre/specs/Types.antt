@@ -6,7 +6,7 @@ pub use Rattle.disc.specs.declared.state.Disc.{Disc}
 pub use Rattle.protocol.specs.declared.answer.LinkRefusal.{LinkRefusal}
 pub use Rattle.protocol.specs.declared.answer.LinkRefusal.TheVariants.{CommandBlockLength, MediumSize, UnsoundState}
 pub use Rattle.protocol.specs.declared.answer.Answer.TheVariants.{Accepted, Link}
-pub use Rattle.decisions.specs.declared.change.Entry.{Entry}
+pub use Rattle.fragments.specs.declared.numbered.Entry.{Entry}
 pub use Rattle.protocol.specs.declared.answer.Sense.{Sense}
 pub use Rattle.disc.specs.declared.blank.Blank.{Blank}
 pub use Rattle.drive.specs.declared.entry.Response.{Response}

@@ -8,7 +8,7 @@ use Rattle.outcomes.specs.Recorded.{among}
 use Rattle.disc.specs.Records.{numbered, at_address}
 use Rattle.drive.specs.Bytes.{zeros}
 use Rattle.drive.specs.Step.{Drive, Request}
-use Rattle.history.specs.Types.{Fragment, Disc, Found, Number, Nowhere, Answer, Accepted, Link, Drive as by_drive, Command, TestUnitReady, RequestSense, Inquiry, ReadCapacity, Read, Write, SynchronizeCache, ReserveTrack, CloseTrackSession, GetConfiguration, ReadDiscInformation, ReadTrackInformation, Unlisted}
+use Rattle.history.specs.Types.{Fragment, Disc, Option, Some, None, Answer, Accepted, Link, Drive as by_drive, Command, TestUnitReady, RequestSense, Inquiry, ReadCapacity, Read, Write, SynchronizeCache, ReserveTrack, CloseTrackSession, GetConfiguration, ReadDiscInformation, ReadTrackInformation, Unlisted}
 use Rattle.history.specs.Sequence.{Turn, result, final}
 
 -- where a fragment lies: its first sector, how many it has, and whether they were reserved
@@ -110,17 +110,17 @@ account n ts s = account_from n ts s opened
 
 -- what the history put at an address, whether in a block that it recorded, and whether it is still pending, after the recorded ones: by the
 -- account of the fragment that the address lies in
-unfoldable pub content_in : List Turn → Drive → ℕ → Found → List ℕ
-content_in ts s a (Number n) = (account n ts s).content a
-content_in ts s a Nowhere = []
+unfoldable pub content_in : List Turn → Drive → ℕ → Option ℕ → List ℕ
+content_in ts s a (Some n) = (account n ts s).content a
+content_in ts s a None = []
 
-unfoldable pub recorded_in : List Turn → Drive → ℕ → Found → Bool
-recorded_in ts s a (Number n) = ltb a ((extent_of (final ts s).disc n).first + (account n ts s).recorded)
-recorded_in ts s a Nowhere = false
+unfoldable pub recorded_in : List Turn → Drive → ℕ → Option ℕ → Bool
+recorded_in ts s a (Some n) = ltb a ((extent_of (final ts s).disc n).first + (account n ts s).recorded)
+recorded_in ts s a None = false
 
-unfoldable pub waits_in : List Turn → Drive → ℕ → Found → Bool
-waits_in ts s a (Number n) = among ((extent_of (final ts s).disc n).first + (account n ts s).recorded) (account n ts s).pending a
-waits_in ts s a Nowhere = false
+unfoldable pub waits_in : List Turn → Drive → ℕ → Option ℕ → Bool
+waits_in ts s a (Some n) = among ((extent_of (final ts s).disc n).first + (account n ts s).recorded) (account n ts s).pending a
+waits_in ts s a None = false
 
 abbrev pub content_at : List Turn → Drive → ℕ → List ℕ
 content_at ts s a = content_in ts s a (at_address (final ts s).disc (lba a))

@@ -1,6 +1,6 @@
 -- What the reports say of the disc: 03h REQUEST SENSE, 25h READ CAPACITY, 51h READ DISC INFORMATION, 52h READ TRACK INFORMATION.
 use Rattle.std.specs.Prelude.{ℕ, ◌+◌, ◌-◌, ◌*◌, Bool, cond, not, eqb}
-use Rattle.reporting.specs.Types.{Lba, Disc, Found, Number, Nowhere, DiscReport, TrackReport, Verdict, InvalidFieldInCommand, AddressOutOfRange}
+use Rattle.reporting.specs.Types.{Lba, Disc, Option, Some, None, DiscReport, TrackReport, Verdict, InvalidFieldInCommand, AddressOutOfRange}
 use Rattle.fragments.specs.Address.{lba, sectors_in, first_sector}
 use Rattle.fragments.specs.Fragment.{end, complete, is_reserved, last_recorded}
 use Rattle.disc.specs.Records.{is_blank, next_writable, records, used, is_listed, numbered, last_record, has_tail, at_address, last_readable, blank_tail_only, is_blank_disc}
@@ -78,9 +78,9 @@ unfoldable pub track_verdict : Disc → ℕ → ℕ → Verdict
 track_verdict d allocation n = accept d d (report (track_bytes (track_report d n)) allocation) no_plan
 
 -- address type 0: the fragment that an address lies in
-unfoldable pub track_found : Disc → ℕ → Found → Verdict
-track_found d allocation (Number n) = track_verdict d allocation n
-track_found d allocation Nowhere = refuse d AddressOutOfRange
+unfoldable pub track_found : Disc → ℕ → Option ℕ → Verdict
+track_found d allocation (Some n) = track_verdict d allocation n
+track_found d allocation None = refuse d AddressOutOfRange
 
 -- address type 1: the fragment with a number; FFh stands for the tail
 unfoldable pub track_numbered : Disc → ℕ → ℕ → Verdict

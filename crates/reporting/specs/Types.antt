@@ -2,8 +2,8 @@
 pub use Rattle.fragments.specs.declared.address.Lba.{Lba}
 pub use Rattle.protocol.specs.declared.answer.DriveRefusal.TheVariants.{InvalidOperationCode, WriteProtected, InvalidFieldInCommand, AddressOutOfRange, BlankCheck, InvalidAddressForWrite, IncompleteTrackInSession, EmptyTrack, NoMoreReservations, EndOfUserArea}
 pub use Rattle.disc.specs.declared.state.Disc.{Disc}
-pub use Rattle.fragments.specs.declared.list.Found.{Found}
-pub use Rattle.fragments.specs.declared.list.Found.TheVariants.{Number, Nowhere}
+pub use Rattle.std.specs.Prelude.{Option}
+pub use Rattle.std.specs.Prelude.{Some, None}
 pub use Rattle.protocol.specs.declared.reports.DiscReport.{DiscReport}
 pub use Rattle.protocol.specs.declared.reports.TrackReport.{TrackReport}
 pub use Rattle.disc.specs.declared.verdict.Verdict.{Verdict}

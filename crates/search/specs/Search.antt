@@ -1,7 +1,7 @@
 -- The search for the fragment that an address lies in, as a definition that counts its looks. That it finds what the list's own definition
 -- finds, `holder_of` of `fragments`, is a law about lists whose fragments lie apart (`halving-finds`).
 use Rattle.std.specs.Prelude.{ℕ, zero, suc, ◌+◌, ◌-◌, ◌/◌, ◌<◌, ◌≡◌, cond, ◌||◌, List, [], ◌∷◌, length, get_or, eqb, ltb}
-use Rattle.search.specs.Types.{Lba, Fragment, Found, Number, Nowhere, Holder, Sought, Side, Left, Right, Here}
+use Rattle.search.specs.Types.{Lba, Fragment, Option, Some, None, Entry, Sought, Side, Left, Right, Here}
 use Rattle.fragments.specs.Address.{first_sector}
 use Rattle.fragments.specs.Fragment.{unused_record, unused, end}
 use Rattle.fragments.specs.List.{limit, record_numbered}
@@ -68,6 +68,6 @@ abbrev pub halving : Lba → Search 8
 halving a = halve enough a 0 limit
 
 -- what a search ought to find: the fragment of the list's own definition
-abbrev pub held : List Fragment → Found → Holder
-held fs (Number n) = record { number = n; fragment = record_numbered fs n }
-held fs Nowhere = no_holder
+abbrev pub held : List Fragment → Option ℕ → Holder
+held fs (Some n) = record { number = n; fragment = record_numbered fs n }
+held fs None = no_holder

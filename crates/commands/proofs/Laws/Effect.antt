@@ -14,13 +14,13 @@ use Rattle.fragments.specs.List.{limit, last_of}
 use Rattle.disc.specs.Records.{pending_in, used, numbered, last_record, with_record, has_tail, has_blank_tail}
 use Rattle.disc.specs.Rules.{Sound}
 use Rattle.disc.specs.Ready.{Ready}
-use Rattle.decisions.specs.Change.{entry, no_entry, put, over_last}
+use Rattle.fragments.specs.Entry.{entry, no_entry, put, over_last}
 use Rattle.disc.specs.Apply.{with_entry, with_pending, with_finalized, settled, affected}
 use Rattle.commands.specs.Flush.{flushed_record, flush, flush_entry}
 use Rattle.commands.specs.Write.{flush_others, flush_others_entry, grown_record, gather}
 use Rattle.commands.specs.Reserve.{split_tail}
 use Rattle.commands.specs.Close.{append_tail, close_tail, open_session, finalized}
-use Rattle.decisions.specs.Tail.{tail_entry, tail_after, tail_closed}
+use Rattle.fragments.specs.Tail.{tail_entry, tail_after, tail_closed}
 use Rattle.fragments.proofs.Laws.Bool.{and_both, by_cases}
 use Rattle.fragments.proofs.Laws.List.{listed_le}
 use Rattle.disc.proofs.Laws.Rules.{sound-rules}

@@ -5,7 +5,7 @@ use mathlib.Core.Bool.{true, false, not}
 use native.Mathlib.Omega.{arith}
 use borrow.Author.Tests.{le-leb, lt-ltb, eq-eqb, eqb-true, not-true}
 use lib.Dec.{eqb}
-use Rattle.commands.specs.Types.{Lba, Fragment, Disc, Found, Number, Nowhere}
+use Rattle.commands.specs.Types.{Lba, Fragment, Disc, Option, Some, None}
 use Rattle.fragments.specs.Address.{first_sector}
 use Rattle.fragments.specs.Fragment.{end, complete, first_unrecorded, takes}
 use Rattle.fragments.specs.List.{reach_found}
@@ -51,15 +51,15 @@ module _ (d : Disc) (s : Sound d) where
       (λ z. other_pending d 0 (λ e. omega (arith, e, (s.owned z).number)))
 
   pub held-reaches :
-      (x : Found)
+      (x : Option ℕ)
       → (let h = held d.fragments x in
       record { recorded = first_sector (first_unrecorded h.fragment); readable = next_writable d h.number h.fragment }
       ≡ reach_found d.fragments d.pending d.owner x)
-  held-reaches (Number n) = refl
-  held-reaches Nowhere = rw none-has-none
+  held-reaches (Some n) = refl
+  held-reaches None = rw none-has-none
 
   -- a next writable address lies in its own fragment
-  writable-at : (a : Lba) (n : ℕ) → Writable d a n → at_address d a ≡ Number n
+  writable-at : (a : Lba) (n : ℕ) → Writable d a n → at_address d a ≡ Some n
   writable-at a n w =
       let i = n - 1 in
       let l : i < used d = omega (arith, w.from, w.listed) in
@@ -68,41 +68,41 @@ module _ (d : Disc) (s : Sound d) where
       let here : a.0 ≡ (next_writable d (suc i) (at d i)).0 = w.here ∙ ap (λ (k : ℕ). (next_writable d k (numbered d n)).0) (sym number) in
       holder-is d.fragments a sound-rising i l
       (and_both (le-leb (first_sector (at d i).start).0 a.0 (omega (arith, here, within.0))) (lt-ltb a.0 (first_sector (end (at d i))).0 (omega (arith, here, within.1))))
-      ∙ ap Number (omega (arith, number))
+      ∙ ap Some (omega (arith, number))
 
 -- its number, by what the search gives
 module _ (d : Disc) (a : Lba) where
-  held_none : (x : Found) → ((n : ℕ) → x ≡ Number n → 1 ≤ n) → (held d.fragments x).number ≡ 0 → Nowhere ≡ x
-  held_none (Number n) some z = absurd (omega (arith, z, some n refl))
-  held_none Nowhere some z = refl
+  held_none : (x : Option ℕ) → ((n : ℕ) → x ≡ Some n → 1 ≤ n) → (held d.fragments x).number ≡ 0 → None ≡ x
+  held_none (Some n) some z = absurd (omega (arith, z, some n refl))
+  held_none None some z = refl
 
-  pub held-nowhere : (held d.fragments (at_address d a)).number ≡ 0 → Nowhere ≡ at_address d a
+  pub held-nowhere : (held d.fragments (at_address d a)).number ≡ 0 → None ≡ at_address d a
   held-nowhere = held_none (at_address d a) (λ n e. (located d a.0 n e).from)
 
-  pub held-unwritable : (held d.fragments (writable_at d a)).number ≡ 0 → Nowhere ≡ writable_at d a
+  pub held-unwritable : (held d.fragments (writable_at d a)).number ≡ 0 → None ≡ writable_at d a
   held-unwritable = held_none (writable_at d a) (λ n e. (writable_found d a n e).from)
 
-  pub held_number : (x : Found) → ((held d.fragments x).number ≡ 0 → ⊥) → Number (held d.fragments x).number ≡ x
-  held_number (Number n) z = refl
-  held_number Nowhere z = absurd (z refl)
+  pub held_number : (x : Option ℕ) → ((held d.fragments x).number ≡ 0 → ⊥) → Some (held d.fragments x).number ≡ x
+  held_number (Some n) z = refl
+  held_number None z = absurd (z refl)
 
   -- the record that comes with it
   pub held-record :
-      (x : Found) → ((held d.fragments x).number ≡ 0 → ⊥) → (held d.fragments x).fragment ≡ numbered d (held d.fragments x).number
-  held-record (Number n) z = refl
-  held-record Nowhere z = absurd (z refl)
+      (x : Option ℕ) → ((held d.fragments x).number ≡ 0 → ⊥) → (held d.fragments x).fragment ≡ numbered d (held d.fragments x).number
+  held-record (Some n) z = refl
+  held-record None z = absurd (z refl)
 
   pub held-writable :
-      (x : Found) → writable_at d a ≡ x → ((held d.fragments x).number ≡ 0 → ⊥) → Writable d a (held d.fragments x).number
-  held-writable (Number n) e z = writable_found d a n e
-  held-writable Nowhere e z = absurd (z refl)
+      (x : Option ℕ) → writable_at d a ≡ x → ((held d.fragments x).number ≡ 0 → ⊥) → Writable d a (held d.fragments x).number
+  held-writable (Some n) e z = writable_found d a n e
+  held-writable None e z = absurd (z refl)
 
   -- a WRITE goes to the one that the address lies in, where that takes it, and else nowhere
   module _ (r : Ready d) where
     writes-here :
-        (x : Found) → at_address d a ≡ x
+        (x : Option ℕ) → at_address d a ≡ x
         → (let h = held d.fragments x in takes a (pending_in d h.number) h.fragment ≡ true → x ≡ writable_at d a)
-    writes-here (Number n) e t =
+    writes-here (Some n) e t =
         let w = located d a.0 n e in
         let f = numbered d n in
         sym
@@ -113,17 +113,17 @@ module _ (d : Disc) (a : Lba) where
           incomplete = not-true _ (and_left (not (complete f)) (eqb a.0 (next_writable d n f).0) t);
           here = eqb-true _ _ (and_right (not (complete f)) (eqb a.0 (next_writable d n f).0) t);
         }))
-    writes-here Nowhere e t = absurd (contradiction t refl)
+    writes-here None e t = absurd (contradiction t refl)
 
     writes-nowhere :
-        (x : Found) → writable_at d a ≡ x
-        → (let h = held d.fragments (at_address d a) in takes a (pending_in d h.number) h.fragment ≡ false → Nowhere ≡ x)
-    writes-nowhere (Number n) e t =
+        (x : Option ℕ) → writable_at d a ≡ x
+        → (let h = held d.fragments (at_address d a) in takes a (pending_in d h.number) h.fragment ≡ false → None ≡ x)
+    writes-nowhere (Some n) e t =
         let w = writable_found d a n e in
         let same = writable-at d (sound-rules d r.sound) a n w in
         let u : takes a (pending_in d n) (numbered d n) ≡ false = rw same at t in
         absurd (contradiction (and_both {a = not (complete (numbered d n))} (ap not w.incomplete) (eq-eqb _ _ w.here)) u)
-    writes-nowhere Nowhere e t = refl
+    writes-nowhere None e t = refl
 
     pub held-takes :
         (let h = held d.fragments (at_address d a) in

@@ -5,7 +5,7 @@ use mathlib.Core.Bool.{true, false}
 use native.Mathlib.Omega.{arith}
 use borrow.Author.Tests.{ltb-true, ltb-false, lt-ltb, le-ltb, ne_eqb, eqb-false}
 use lib.Dec.{eqb, ltb}
-use Rattle.commands.specs.Types.{Lba, Disc, Found, Number, Nowhere, DriveRefusal, AddressOutOfRange, BlankCheck, Skip, Transfer, Send, Verdict}
+use Rattle.commands.specs.Types.{Lba, Disc, Option, Some, None, DriveRefusal, AddressOutOfRange, BlankCheck, Skip, Transfer, Send, Verdict}
 use Rattle.fragments.specs.Address.{lba, sectors_in, left_over, first_sector, passes, sectors_before}
 use Rattle.fragments.specs.Fragment.{first_unrecorded}
 use Rattle.fragments.specs.List.{reach_found}
@@ -218,7 +218,7 @@ module _ (d : Disc) (a : Lba) (n : ℕ) (z : n ≡ 0 → ⊥) (h : a.0 + n ≤ s
 
   -- the code's tests: where the recorded sectors of the fragment that the address lies in end, and where its readable ones do
   module _ (s : Sound d) where
-    nowhere-read : at_address d a ≡ Nowhere → refuse d BlankCheck ≡ read d a n
+    nowhere-read : at_address d a ≡ None → refuse d BlankCheck ≡ read d a n
     nowhere-read e =
         sym
         (read-blank
@@ -228,7 +228,7 @@ module _ (d : Disc) (a : Lba) (n : ℕ) (z : n ≡ 0 → ⊥) (h : a.0 + n ≤ s
         absurd (nowhere-unreadable d a.0 s e (rw same at (all_readable-at d a n r 0 (omega (arith, z))))))
         (λ r. r)))
 
-    module _ (number : ℕ) (e : at_address d a ≡ Number number) where
+    module _ (number : ℕ) (e : at_address d a ≡ Some number) where
       here : Located d a.0 number
       here = located d a.0 number e
 
@@ -265,16 +265,16 @@ module _ (d : Disc) (a : Lba) (n : ℕ) (z : n ≡ 0 → ⊥) (h : a.0 + n ≤ s
 
     -- by what the search finds
     read-short-at :
-        (x : Found) → at_address d a ≡ x → (reach_found d.fragments d.pending d.owner x).readable.0 < a.0 + n → refuse d BlankCheck ≡ read d a n
-    read-short-at (Number number) e past = short-read number e past
-    read-short-at Nowhere e past = nowhere-read e
+        (x : Option ℕ) → at_address d a ≡ x → (reach_found d.fragments d.pending d.owner x).readable.0 < a.0 + n → refuse d BlankCheck ≡ read d a n
+    read-short-at (Some number) e past = short-read number e past
+    read-short-at None e past = nowhere-read e
 
     read-found-at :
-        (x : Found) → at_address d a ≡ x
+        (x : Option ℕ) → at_address d a ≡ x
         → (let w = reach_found d.fragments d.pending d.owner x in
         a.0 + n ≤ w.readable.0 → accept d d no_reply (plan Skip (sending_before a n w.recorded)) ≡ read d a n)
-    read-found-at (Number number) e within = found-read number e within
-    read-found-at Nowhere e within = absurd (omega (arith, within, z))
+    read-found-at (Some number) e within = found-read number e within
+    read-found-at None e within = absurd (omega (arith, within, z))
 
     pub read_short : passes a n (reach_around d a).readable ≡ true → refuse d BlankCheck ≡ read d a n
     read_short t = read-short-at (at_address d a) refl (ltb-true (reach_around d a).readable.0 (a.0 + n) t)

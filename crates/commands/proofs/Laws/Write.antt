@@ -8,7 +8,7 @@ use borrow.Author.Tests.{eq-eqb, ne_eqb, eqb-true, eqb-false, not-true}
 use lib.Dec.{eqb}
 use lib.ListN.{length, get_or}
 use lib.Seq.{get_or-set_other}
-use Rattle.commands.specs.Types.{Lba, Fragment, Disc, Number}
+use Rattle.commands.specs.Types.{Lba, Fragment, Disc, Some}
 use Rattle.fragments.specs.Fragment.{unused_record, end, complete}
 use Rattle.disc.specs.Records.{pending_in, next_writable, used, records, numbered, writable_at}
 use Rattle.fragments.specs.Address.{first_sector}
@@ -26,7 +26,7 @@ use Rattle.disc.specs.Rules.{Sound}
 use mathlib.Core.Logic.{◌⊎◌, inl, inr}
 
 -- the fragment that the search for a next writable address finds
-pub writable_found : (d : Disc) (a : Lba) (n : ℕ) → writable_at d a ≡ Number n → Writable d a n
+pub writable_found : (d : Disc) (a : Lba) (n : ℕ) → writable_at d a ≡ Some n → Writable d a n
 writable_found d a n e =
     let p : ℕ → Fragment → Bool = λ k f. not (complete f) && eqb a.0 (next_writable d k f).0 in
     let h = find_hit p 1 n (records d) e in
@@ -42,7 +42,7 @@ writable_found d a n e =
     }
 
 -- a search finds something where a record passes
-found_number : (p : ℕ → Fragment → Bool) (k i : ℕ) (rs : List Fragment) → i < length rs → p (k + i) (get_or rs i unused_record) ≡ true → (m : ℕ) × (find p k rs ≡ Number m)
+found_number : (p : ℕ → Fragment → Bool) (k i : ℕ) (rs : List Fragment) → i < length rs → p (k + i) (get_or rs i unused_record) ≡ true → (m : ℕ) × (find p k rs ≡ Some m)
 unfolding find
 found_number p k i [] h t = absurd (omega arith)
 found_number p k zero (f ∷ fs) h t = let same : k + 0 ≡ k = omega arith in (k, cond_yes (p k f) _ _ (rw same at t))
@@ -55,7 +55,7 @@ found_number p k (suc i) (f ∷ fs) h t =
     (r.0, cond_no (p k f) _ _ q ∙ r.1))
 
 -- the search finds that very fragment, since no two have the same next writable address
-pub takes-found : (d : Disc) (a : Lba) (number : ℕ) → Ready d → Writable d a number → writable_at d a ≡ Number number
+pub takes-found : (d : Disc) (a : Lba) (number : ℕ) → Ready d → Writable d a number → writable_at d a ≡ Some number
 takes-found d a number r w =
     let s = sound-rules d r.sound in
     let p : ℕ → Fragment → Bool = λ k f. not (complete f) && eqb a.0 (next_writable d k f).0 in
@@ -74,7 +74,7 @@ takes-found d a number r w =
     writable-once d s i j l (omega (arith, v.from, v.listed)) w.incomplete v.incomplete
     (ap (λ k. (next_writable d k (numbered d number)).0) suc-i ∙ (sym w.here ∙ (v.here ∙ ap (λ k. (next_writable d k (numbered d m.0)).0) (sym suc-j)))) in
     let equal : m.0 ≡ number = omega (arith, w.from, v.from) in
-    m.1 ∙ ap Number equal
+    m.1 ∙ ap Some equal
 
 -- flushing other fragments leaves a fragment and its pending sectors alone
 module _ (d : Disc) (n : ℕ) (r : Ready d) (from : 1 ≤ n) where

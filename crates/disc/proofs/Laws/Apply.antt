@@ -7,7 +7,7 @@ use lib.Dec.{eqb}
 use Rattle.disc.specs.Types.{Fragment, Disc, DriveRefusal, LinkRefusal, Reply, Plan, Entry, Effect, Keep}
 use Rattle.disc.specs.Records.{with_record}
 use Rattle.disc.specs.Verdict.{accepted, accept, refuse, refuse_link}
-use Rattle.decisions.specs.Change.{entry, no_entry, put}
+use Rattle.fragments.specs.Entry.{entry, no_entry, put}
 use Rattle.decisions.specs.Decision.{accepting, refusing, refusing_link}
 use Rattle.disc.specs.Apply.{with_entry, affected, changed, decided}
 use Rattle.fragments.proofs.Laws.Bool.{by_cases, cond_no}

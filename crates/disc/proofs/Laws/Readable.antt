@@ -7,7 +7,7 @@ use native.Mathlib.Omega.{arith}
 use borrow.Author.Tests.{leb-true, leb-false, le-leb, ltb-true, ltb-false, lt-ltb, eq-eqb, eqb-true, eqb-false}
 use lib.Dec.{eqb, leb, ltb}
 use lib.ListN.{length, get_or, replicate}
-use Rattle.disc.specs.Types.{Lba, Fragment, Disc, Number, Nowhere}
+use Rattle.disc.specs.Types.{Lba, Fragment, Disc, Some, None}
 use Rattle.disc.specs.Blank.{blank}
 use Rattle.fragments.specs.Address.{lba, sectors_in, first_sector}
 use Rattle.fragments.specs.Fragment.{unused_record, end, complete, first_unrecorded, next_after, last_readable_of, holds_recorded, holds}
@@ -169,7 +169,7 @@ module _ (d : Disc) (a : ℕ) where
     pub first : (first_sector (numbered d n).start).0 ≤ a
     pub below : a < (first_sector (end (numbered d n))).0
 
-  pub located : (n : ℕ) → at_address d (lba a) ≡ Number n → Located n
+  pub located : (n : ℕ) → at_address d (lba a) ≡ Some n → Located n
   located n e =
       let x = find_hit (λ k f. holds (lba a) f) 1 n (records d) e in
       let index : n - 1 ≡ x.index = omega (arith, x.number) in
@@ -250,7 +250,7 @@ module _ (d : Disc) (a : ℕ) where
         waits-pending d (lba a) f same (record { from = omega (arith, from); below = omega (arith, below, own_pending d n own) }))
         (λ other. absurd (omega (arith, from, below, other_pending d n other))))
 
-    pub nowhere-unreadable : at_address d (lba a) ≡ Nowhere → is_readable d (lba a) ≡ true → ⊥
+    pub nowhere-unreadable : at_address d (lba a) ≡ None → is_readable d (lba a) ≡ true → ⊥
     nowhere-unreadable e t =
         readable_cases d s (lba a)
         (λ i l from below.
@@ -259,7 +259,7 @@ module _ (d : Disc) (a : ℕ) where
         let passes : holds (lba a) f ≡ true = and_both (le-leb (first_sector f.start).0 a from) (lt-ltb a (first_sector (end f)).0 in_end) in
         find_none (λ k g. holds (lba a) g) 1 (records d) e i l (rw (listed_at d.fragments i unused_record l) passes)) t
 
-    pub nowhere-unrecorded : at_address d (lba a) ≡ Nowhere → is_recorded d (lba a) ≡ true → ⊥
+    pub nowhere-unrecorded : at_address d (lba a) ≡ None → is_recorded d (lba a) ≡ true → ⊥
     nowhere-unrecorded e t = nowhere-unreadable e (or_left (is_pending d (lba a)) t)
 
 -- the highest readable address of a list: no record's last readable one is above it, and above 0 it is one of them

@@ -9,7 +9,7 @@ use borrow.Author.Tests.{eq-eqb, ne_eqb, eqb-true, eqb-false}
 use lib.Dec.{eqb}
 use lib.ListN.{length, get_or, set, drop, drop_of_length-le, length-map}
 use lib.Seq.{drop-cons}
-use Rattle.fragments.specs.Types.{Fragment, Number, Nowhere}
+use Rattle.fragments.specs.Types.{Fragment, Some, None}
 use Rattle.fragments.specs.Address.{lba, later}
 use Rattle.fragments.specs.Fragment.{unused_record, last_readable_of}
 use Rattle.fragments.specs.List.{limit, listed, every, some, find, sum_recorded, pending_of, highest_readable, first_of_session}
@@ -166,13 +166,13 @@ pub record Hit (p : ℕ → Fragment → Bool) (k n : ℕ) (rs : List Fragment) 
   pub within : index < length rs
   pub passes : p n (get_or rs index unused_record) ≡ true
 
-pub find_hit : (p : ℕ → Fragment → Bool) (k n : ℕ) (rs : List Fragment) → find p k rs ≡ Number n → Hit p k n rs
+pub find_hit : (p : ℕ → Fragment → Bool) (k n : ℕ) (rs : List Fragment) → find p k rs ≡ Some n → Hit p k n rs
 unfolding find
 find_hit p k n [] e = absurd (let z : ◌≡◌ {A = ℕ} 0 1 = cc in omega arith)
 find_hit p k n (f ∷ fs) e =
     by_cases (p k f)
     (λ t.
-    let w : Number k ≡ Number n = rw t at e in
+    let w : Some k ≡ Some n = rw t at e in
     let same : k ≡ n = cc in
     record { index = 0; number = omega arith; within = omega arith; passes = rw (← same) t })
     (λ t.
@@ -181,20 +181,20 @@ find_hit p k n (f ∷ fs) e =
 
 -- a search that finds nothing passes every record by
 pub find_none :
-    (p : ℕ → Fragment → Bool) (k : ℕ) (rs : List Fragment) → find p k rs ≡ Nowhere → (i : ℕ) → i < length rs
+    (p : ℕ → Fragment → Bool) (k : ℕ) (rs : List Fragment) → find p k rs ≡ None → (i : ℕ) → i < length rs
     → p (k + i) (get_or rs i unused_record) ≡ true → ⊥
 unfolding find
 find_none p k [] e i l t = omega (arith, l)
 find_none p k (f ∷ fs) e zero l t =
     let here : k + 0 ≡ k = omega arith in
     let u : p k f ≡ true = rw here at t in
-    let z : Number k ≡ Nowhere = rw u at e in
+    let z : Some k ≡ None = rw u at e in
     let q : ◌≡◌ {A = ℕ} 0 1 = cc in
     omega arith
 find_none p k (f ∷ fs) e (suc i) l t =
     let here : k + suc i ≡ (k + 1) + i = omega arith in
     by_cases (p k f)
-    (λ u. let z : Number k ≡ Nowhere = rw u at e in let q : ◌≡◌ {A = ℕ} 0 1 = cc in omega arith)
+    (λ u. let z : Some k ≡ None = rw u at e in let q : ◌≡◌ {A = ℕ} 0 1 = cc in omega arith)
     (λ u. find_none p (k + 1) fs (rw u at e) i (omega (arith, l)) (rw here at t))
 
 pub session_end : (fs : List Fragment) (i s n : ℕ) → length fs ≤ i → first_of_session s n (listed (drop i fs)) ≡ n

@@ -31,7 +31,7 @@ use Rattle.drive.specs.Bytes.{zeros}
 use Rattle.drive.specs.Step.{Drive, Request}
 use Rattle.drive.specs.Requests.{WriteOf, ReadOf}
 use Rattle.drive.specs.Alike.{recorded_byte, pending_sectors, Alike}
-use Rattle.history.specs.Types.{Disc, Appended, Answer, Accepted, Drive as by_drive, DriveRefusal, BlankCheck, EndOfUserArea, LinkRefusal, CommandBlockLength, MediumSize, UnsoundState, TransferLength, Number, Read}
+use Rattle.history.specs.Types.{Disc, Appended, Answer, Accepted, Drive as by_drive, DriveRefusal, BlankCheck, EndOfUserArea, LinkRefusal, CommandBlockLength, MediumSize, UnsoundState, TransferLength, Some, Read}
 use Rattle.history.specs.Sequence.{Start, Turn, Told, found, requests, result, final, Admissible, Undisturbed, AllAccepted, blocks_of}
 use Rattle.history.specs.Forms.{Form, ten, twelve, read_opcode, write_opcode, longest, fields, write_cdb}
 use Rattle.history.specs.Cut.{Parts, none, part, CutOf, SameCommand, Again, ends, same, cut, Agreeing}
@@ -205,13 +205,13 @@ record Computed (c : ℕ) : Type 0 where
   size : (list_of c newer_shapes).capacity ≡ c
   first : (extent_of (list_of c newer_shapes) 1).first ≡ 0
   early_places :
-      (at_address (list_of c early_shapes) (lba 3) ≡ Number 1) × (at_address (list_of c early_shapes) (lba 7) ≡ Number 1)
-      × (at_address (list_of c early_shapes) (lba 17) ≡ Number 1)
+      (at_address (list_of c early_shapes) (lba 3) ≡ Some 1) × (at_address (list_of c early_shapes) (lba 7) ≡ Some 1)
+      × (at_address (list_of c early_shapes) (lba 17) ≡ Some 1)
   newer_places :
-      (at_address (list_of c newer_shapes) (lba 17) ≡ Number 1) × (at_address (list_of c newer_shapes) (lba 18) ≡ Number 1)
-      × (at_address (list_of c newer_shapes) (lba 31) ≡ Number 1) × (at_address (list_of c newer_shapes) (lba 32) ≡ Number 1)
-      × (at_address (list_of c newer_shapes) (lba 33) ≡ Number 1) × (at_address (list_of c newer_shapes) (lba 34) ≡ Number 1)
-      × (at_address (list_of c newer_shapes) (lba 35) ≡ Number 1)
+      (at_address (list_of c newer_shapes) (lba 17) ≡ Some 1) × (at_address (list_of c newer_shapes) (lba 18) ≡ Some 1)
+      × (at_address (list_of c newer_shapes) (lba 31) ≡ Some 1) × (at_address (list_of c newer_shapes) (lba 32) ≡ Some 1)
+      × (at_address (list_of c newer_shapes) (lba 33) ≡ Some 1) × (at_address (list_of c newer_shapes) (lba 34) ≡ Some 1)
+      × (at_address (list_of c newer_shapes) (lba 35) ≡ Some 1)
   early_content :
       (s : Drive) (l : Log) (x : ℕ) (j : ℕ → Change)
       → ((account_of c (given (early l x j) s) early_shapes).content 3 ≡ sector_at 3 (first_five l))
@@ -597,28 +597,28 @@ module _ (c : ℕ) (m : Computed c) (kept : KeptAccount) (f : Flash c) (l : Log)
       kept.back c disc₀ start₀ logTurns log-admissible (turn (after (j 7) (reading ten 16 x)) logEnd) (turn_alike (after (j 7) (reading ten 16 x)) logEnd) (lba 16) 16 refl
       (late_answers c m f 16 16 l x j m.late_answered.1) a h
 
-  early-known : (a : ℕ) → at_address (list_of c early_shapes) (lba a) ≡ Number 1 → content_at earlyTurns disc₀ a ≡ (account_of c earlyTurns early_shapes).content a
+  early-known : (a : ℕ) → at_address (list_of c early_shapes) (lba a) ≡ Some 1 → content_at earlyTurns disc₀ a ≡ (account_of c earlyTurns early_shapes).content a
   early-known a e = known-content c disc₀ start₀ earlyTurns early-admissible early_shapes (early_shapes_lem disc₀ l x j) a 1 e
 
-  log-known : (a : ℕ) → at_address (list_of c newer_shapes) (lba a) ≡ Number 1 → content_at logTurns disc₀ a ≡ (account_of c logTurns newer_shapes).content a
+  log-known : (a : ℕ) → at_address (list_of c newer_shapes) (lba a) ≡ Some 1 → content_at logTurns disc₀ a ≡ (account_of c logTurns newer_shapes).content a
   log-known a e = known-content c disc₀ start₀ logTurns log-admissible newer_shapes (newer_shapes_lem disc₀ l x j) a 1 e
 
-  log-recorded : (a : ℕ) → at_address (list_of c newer_shapes) (lba a) ≡ Number 1 → recorded_at logTurns disc₀ a ≡ ltb a 32
+  log-recorded : (a : ℕ) → at_address (list_of c newer_shapes) (lba a) ≡ Some 1 → recorded_at logTurns disc₀ a ≡ ltb a 32
   log-recorded a e =
       known-recorded c disc₀ start₀ logTurns log-admissible newer_shapes (newer_shapes_lem disc₀ l x j) a 1 e
       ∙ (ap (λ (b : ℕ). ltb a (b + (account_of c logTurns newer_shapes).recorded)) m.first ∙ ap (λ (b : ℕ). ltb a (0 + b)) (m.newer_figures disc₀ l x j).0)
 
-  log-on-medium : (a : ℕ) → at_address (list_of c newer_shapes) (lba a) ≡ Number 1 → is_recorded logEnd.disc (lba a) ≡ ltb a 32
+  log-on-medium : (a : ℕ) → at_address (list_of c newer_shapes) (lba a) ≡ Some 1 → is_recorded logEnd.disc (lba a) ≡ ltb a 32
   log-on-medium a e = kept.recorded c disc₀ start₀ logTurns log-admissible a ∙ log-recorded a e
 
-  log-waiting : (a : ℕ) → at_address (list_of c newer_shapes) (lba a) ≡ Number 1 → pending_at logTurns disc₀ a ≡ among 32 3 a
+  log-waiting : (a : ℕ) → at_address (list_of c newer_shapes) (lba a) ≡ Some 1 → pending_at logTurns disc₀ a ≡ among 32 3 a
   log-waiting a e =
       let k = account_of c logTurns newer_shapes in
       known-waiting c disc₀ start₀ logTurns log-admissible newer_shapes (newer_shapes_lem disc₀ l x j) a 1 e
       ∙ (ap (λ (b : ℕ). among (b + k.recorded) k.pending a) m.first
       ∙ (ap (λ (b : ℕ). among (0 + b) k.pending a) (m.newer_figures disc₀ l x j).0 ∙ ap (λ (b : ℕ). among 32 b a) (m.newer_figures disc₀ l x j).1))
 
-  log-readable : (a : ℕ) → at_address (list_of c newer_shapes) (lba a) ≡ Number 1 → readable_at logTurns disc₀ a ≡ (ltb a 32 || among 32 3 a)
+  log-readable : (a : ℕ) → at_address (list_of c newer_shapes) (lba a) ≡ Some 1 → readable_at logTurns disc₀ a ≡ (ltb a 32 || among 32 3 a)
   log-readable a e =
       ap (λ (b : Bool). b || pending_at logTurns disc₀ a) (log-recorded a e) ∙ ap (λ (b : Bool). ltb a 32 || b) (log-waiting a e)
 

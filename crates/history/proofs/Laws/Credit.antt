@@ -42,7 +42,7 @@ use Rattle.outcomes.proofs.Laws.Keep.{write_room}
 use Rattle.outcomes.proofs.Laws.Outcome.{append_pending}
 use Rattle.drive.specs.Moves.{gathered_medium, gathered_pending, flushed_medium, flushed_pending, transferred_medium, transferred_pending, moved_medium, moved_pending}
 use Rattle.drive.proofs.Laws.Kept.{length-flushed_medium, length-flushed_pending}
-use Rattle.history.specs.Types.{Lba, Fragment, Kind, Reserved, Appended, Disc, Found, Number, Nowhere, Accepted, DriveRefusal, WriteProtected, InvalidFieldInCommand, AddressOutOfRange, InvalidOperationCode, InvalidAddressForWrite, IncompleteTrackInSession, EmptyTrack, NoMoreReservations, EndOfUserArea, Reply, Plan, Verdict, Skip, Nothing, Gather, Command, TestUnitReady, RequestSense, Inquiry, ReadCapacity, Read, Write, SynchronizeCache, ReserveTrack, CloseTrackSession, GetConfiguration, ReadDiscInformation, ReadTrackInformation, Unlisted}
+use Rattle.history.specs.Types.{Lba, Fragment, Kind, Reserved, Appended, Disc, Option, Some, None, Accepted, DriveRefusal, WriteProtected, InvalidFieldInCommand, AddressOutOfRange, InvalidOperationCode, InvalidAddressForWrite, IncompleteTrackInSession, EmptyTrack, NoMoreReservations, EndOfUserArea, Reply, Plan, Verdict, Skip, Nothing, Gather, Command, TestUnitReady, RequestSense, Inquiry, ReadCapacity, Read, Write, SynchronizeCache, ReserveTrack, CloseTrackSession, GetConfiguration, ReadDiscInformation, ReadTrackInformation, Unlisted}
 use Rattle.history.specs.Account.{Account, extent_of, written, zeroed, flushed, filled, credited}
 use Rattle.history.proofs.Laws.Account.{Holds, same_holds, zeroed_none, flushed_none}
 use Rattle.history.proofs.Laws.Recording.{holds_as, holds_at, flush-holds, others-own, others-else, gather-holds-own, gather-holds-else, fill-holds-own, fill-holds-else}
@@ -195,14 +195,14 @@ module _
         done))
 
     noted-write-found :
-        (a : Lba) (count : ℕ) → (count ≡ 0 → ⊥) → (x : Found) → writable_at d a ≡ x
+        (a : Lba) (count : ℕ) → (count ≡ 0 → ⊥) → (x : Option ℕ) → writable_at d a ≡ x
         → Noted (credited n (extent_of d n) (Write a count) sectors k) (write_found d a count x)
     unfolding write_found write_to
-    noted-write-found a count some (Number j) e =
+    noted-write-found a count some (Some j) e =
         cond_cases (Noted (credited n (extent_of d n) (Write a count) sectors k)) (ltb (first_sector (end (numbered d j))).0 (a.0 + count)) _ _
         (λ t. noted-refused _ EndOfUserArea)
         (λ t. noted-gather a count j some (writable_found d a j e) (ltb-false _ _ t))
-    noted-write-found a count some Nowhere e = noted-refused _ InvalidAddressForWrite
+    noted-write-found a count some None e = noted-refused _ InvalidAddressForWrite
 
     noted-write : (a : Lba) (count : ℕ) → Noted (credited n (extent_of d n) (Write a count) sectors k) (write d a count)
     unfolding write credited
@@ -393,10 +393,10 @@ module _
     noted_read : (a : Lba) (count : ℕ) → Noted k (read d a count)
     noted_read a count = read_cases (Noted k) d a count (noted-same k no_reply refl) (noted-refused k) (λ z l t. noted-sent a count)
 
-    noted-track-found : (allocation : ℕ) (x : Found) → Noted k (track_found d allocation x)
+    noted-track-found : (allocation : ℕ) (x : Option ℕ) → Noted k (track_found d allocation x)
     unfolding track_found track_verdict
-    noted-track-found allocation (Number j) = noted-same k _ refl
-    noted-track-found allocation Nowhere = noted-refused k AddressOutOfRange
+    noted-track-found allocation (Some j) = noted-same k _ refl
+    noted-track-found allocation None = noted-refused k AddressOutOfRange
 
     noted-track : (addressType number allocation : ℕ) → Noted k (read_track_information d addressType number allocation)
     unfolding read_track_information track_numbered track_verdict

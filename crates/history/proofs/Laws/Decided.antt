@@ -13,7 +13,7 @@ use Rattle.outcomes.specs.Recorded.{among}
 use Rattle.drive.specs.Step.{Drive, lent}
 use Rattle.drive.specs.Alike.{Alike}
 use Rattle.drive.proofs.Laws.Alike.{lent-after, step_judges}
-use Rattle.history.specs.Types.{Disc, Found, Number, Answer}
+use Rattle.history.specs.Types.{Disc, Option, Some, Answer}
 use Rattle.history.specs.Sequence.{Start, Turn, found, result, final, Admissible, requests}
 use Rattle.history.specs.Account.{Account, opened, extent_of, noted, account_from, account, content_in, recorded_in, waits_in, content_at, recorded_at, pending_at}
 use Rattle.history.specs.Witness.{Shape, shape_of, disc_after}
@@ -93,30 +93,30 @@ module _ (c : ℕ) (s : Drive) (start : Start c s) (ts : List Turn) (h : Admissi
       decided-account n ts s opened (start-lent c s start) h
       ∙ (ap (λ (gs : List Shape). account_by n ts gs s.disc opened) same ∙ ap (λ (d : Disc). account_by n ts hs d opened) start.disc)
 
-  known-place : (a n : ℕ) → at_address (disc_after hs (blank c)) (lba a) ≡ Number n → at_address (final ts s).disc (lba a) ≡ Number n
+  known-place : (a n : ℕ) → at_address (disc_after hs (blank c)) (lba a) ≡ Some n → at_address (final ts s).disc (lba a) ≡ Some n
   known-place a n e = ap (λ (d : Disc). at_address d (lba a)) known-disc ∙ e
 
   pub known-content :
-      (a n : ℕ) → at_address (disc_after hs (blank c)) (lba a) ≡ Number n → content_at ts s a ≡ (account_by n ts hs (blank c) opened).content a
+      (a n : ℕ) → at_address (disc_after hs (blank c)) (lba a) ≡ Some n → content_at ts s a ≡ (account_by n ts hs (blank c) opened).content a
   unfolding content_in
   known-content a n e =
-      ap (λ (x : Found). content_in ts s a x) (known-place a n e) ∙ ap (λ (k : Account). k.content a) (known-account n)
+      ap (λ (x : Option ℕ). content_in ts s a x) (known-place a n e) ∙ ap (λ (k : Account). k.content a) (known-account n)
 
   pub known-recorded :
-      (a n : ℕ) → at_address (disc_after hs (blank c)) (lba a) ≡ Number n
+      (a n : ℕ) → at_address (disc_after hs (blank c)) (lba a) ≡ Some n
       → recorded_at ts s a ≡ ltb a ((extent_of (disc_after hs (blank c)) n).first + (account_by n ts hs (blank c) opened).recorded)
   unfolding recorded_in
   known-recorded a n e =
-      ap (λ (x : Found). recorded_in ts s a x) (known-place a n e)
+      ap (λ (x : Option ℕ). recorded_in ts s a x) (known-place a n e)
       ∙ (ap (λ (d : Disc). ltb a ((extent_of d n).first + (account n ts s).recorded)) known-disc
       ∙ ap (λ (k : Account). ltb a ((extent_of (disc_after hs (blank c)) n).first + k.recorded)) (known-account n))
 
   pub known-waiting :
-      (a n : ℕ) → at_address (disc_after hs (blank c)) (lba a) ≡ Number n
+      (a n : ℕ) → at_address (disc_after hs (blank c)) (lba a) ≡ Some n
       → pending_at ts s a
       ≡ among ((extent_of (disc_after hs (blank c)) n).first + (account_by n ts hs (blank c) opened).recorded) (account_by n ts hs (blank c) opened).pending a
   unfolding waits_in
   known-waiting a n e =
-      ap (λ (x : Found). waits_in ts s a x) (known-place a n e)
+      ap (λ (x : Option ℕ). waits_in ts s a x) (known-place a n e)
       ∙ (ap (λ (d : Disc). among ((extent_of d n).first + (account n ts s).recorded) (account n ts s).pending a) known-disc
       ∙ ap (λ (k : Account). among ((extent_of (disc_after hs (blank c)) n).first + k.recorded) k.pending a) (known-account n))

@@ -36,7 +36,7 @@ use Rattle.drive.proofs.Laws.Alike.{step_link, step-refused}
 use Rattle.drive.proofs.Laws.Cut.{Served, served-after, served_alike}
 use Rattle.drive.proofs.Laws.Reads.{readable-accepted, blank-refused, sector_of, read-readable, read-sector}
 use Rattle.drive.proofs.Laws.Step.{verdict_decided, verdict_judges, lent_medium, lent_pending, judgement}
-use Rattle.history.specs.Types.{Lba, Fragment, Disc, Found, Number, Nowhere, Answer, Accepted, Link, Drive as by_drive, BlankCheck, Read, Verdict}
+use Rattle.history.specs.Types.{Lba, Fragment, Disc, Option, Some, None, Answer, Accepted, Link, Drive as by_drive, BlankCheck, Read, Verdict}
 use Rattle.history.specs.Sequence.{Start, Turn, found, result, final, Admissible}
 use Rattle.history.specs.Account.{Account, opened, extent_of, credited, noted, account_from, account, sector_at, content_in, recorded_in, waits_in, content_at, recorded_at, pending_at, readable_at}
 use Rattle.history.specs.Kept.{Keeps, KeptAccount}
@@ -257,21 +257,21 @@ module _ (c : ℕ) (s : Drive) (start : Start c s) (ts : List Turn) (h : Admissi
         pending = g.pending;
       }
 
-  found-recorded : (a : ℕ) (x : Found) → at_address reached.disc (lba a) ≡ x → is_recorded reached.disc (lba a) ≡ recorded_in ts s a x
+  found-recorded : (a : ℕ) (x : Option ℕ) → at_address reached.disc (lba a) ≡ x → is_recorded reached.disc (lba a) ≡ recorded_in ts s a x
   unfolding recorded_in
-  found-recorded a (Number n) e =
+  found-recorded a (Some n) e =
       let w = located reached.disc a n e in
       located-recorded reached.disc a point-sound n w
       ∙ ap (λ (k : ℕ). ltb a ((first_sector (numbered reached.disc n).start).0 + k)) (sym (point-holds n w.from).recorded)
-  found-recorded a Nowhere e =
+  found-recorded a None e =
       by_cases (is_recorded reached.disc (lba a)) (λ t. absurd (nowhere-unrecorded reached.disc a point-sound e t)) (λ t. t)
 
   point-recorded : (a : ℕ) → is_recorded reached.disc (lba a) ≡ recorded_at ts s a
   point-recorded a = found-recorded a (at_address reached.disc (lba a)) refl
 
-  found-pending : (a : ℕ) (x : Found) → at_address reached.disc (lba a) ≡ x → is_pending reached.disc (lba a) ≡ waits_in ts s a x
+  found-pending : (a : ℕ) (x : Option ℕ) → at_address reached.disc (lba a) ≡ x → is_pending reached.disc (lba a) ≡ waits_in ts s a x
   unfolding waits_in
-  found-pending a (Number n) e =
+  found-pending a (Some n) e =
       let d = reached.disc in
       let w = located d a n e in
       let k = account n ts s in
@@ -279,7 +279,7 @@ module _ (c : ℕ) (s : Drive) (start : Start c s) (ts : List Turn) (h : Admissi
       located-pending d a point-sound n w
       ∙ (ap (λ (b : ℕ). among ((first_sector (numbered d n).start).0 + b) (pending_in d n) a) (sym h.recorded)
       ∙ ap (λ (b : ℕ). among ((first_sector (numbered d n).start).0 + k.recorded) b a) (sym h.pending))
-  found-pending a Nowhere e =
+  found-pending a None e =
       by_cases (is_pending reached.disc (lba a))
       (λ t. absurd (nowhere-unreadable reached.disc a point-sound e (or_right (is_recorded reached.disc (lba a)) t))) (λ t. t)
 
@@ -292,16 +292,16 @@ module _ (c : ℕ) (s : Drive) (start : Start c s) (ts : List Turn) (h : Admissi
 
   -- what a pending sector holds
   held_found :
-      (a : ℕ) (x : Found) → at_address reached.disc (lba a) ≡ x → waits_in ts s a x ≡ true
+      (a : ℕ) (x : Option ℕ) → at_address reached.disc (lba a) ≡ x → waits_in ts s a x ≡ true
       → sector_at (left_over a) reached.pending ≡ content_in ts s a x
   unfolding waits_in content_in
-  held_found a (Number n) e t =
+  held_found a (Some n) e t =
       let d = reached.disc in
       let w = located d a n e in
       sym
       (content_pending reached n a (account n ts s) point-sound point-served (point-holds n w.from) w
-      (sym (located-pending d a point-sound n w) ∙ (found-pending a (Number n) e ∙ t)))
-  held_found a Nowhere e t = absurd (contradiction t refl)
+      (sym (located-pending d a point-sound n w) ∙ (found-pending a (Some n) e ∙ t)))
+  held_found a None e t = absurd (contradiction t refl)
 
   -- the command that comes then
   module _ (t : Turn) (alike : Alike reached (found t reached)) where
@@ -329,10 +329,10 @@ module _ (c : ℕ) (s : Drive) (start : Start c s) (ts : List Turn) (h : Admissi
         blank-refused here t.request a n w here-served (λ z. omega (arith, z, l)) within i l (by-history (a.0 + i) ∙ none)
 
     content-found :
-        (a : ℕ) (x : Found) → at_address reached.disc (lba a) ≡ x → is_readable reached.disc (lba a) ≡ true
+        (a : ℕ) (x : Option ℕ) → at_address reached.disc (lba a) ≡ x → is_readable reached.disc (lba a) ≡ true
         → sector_of here a ≡ content_in ts s a x
     unfolding content_in
-    content-found a (Number n) e r =
+    content-found a (Some n) e r =
         let d = reached.disc in
         let w = located d a n e in
         let k = account n ts s in
@@ -346,7 +346,7 @@ module _ (c : ℕ) (s : Drive) (start : Start c s) (ts : List Turn) (h : Admissi
         ∙ sym
         (content_pending here n a k point-sound here-served h w
         (sym (located-pending d a point-sound n w) ∙ or_cases (is_recorded d (lba a)) (is_pending d (lba a)) (λ x. absurd (contradiction x y)) (λ x. x) r)))
-    content-found a Nowhere e r = absurd (nowhere-unreadable reached.disc a point-sound e r)
+    content-found a None e r = absurd (nowhere-unreadable reached.disc a point-sound e r)
 
     point-back :
         (a : Lba) (n : ℕ) → decode t.request.cdb ≡ Read a n → (result t reached).answer ≡ Accepted → (i : ℕ) → i < n

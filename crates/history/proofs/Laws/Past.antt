@@ -36,7 +36,7 @@ use Rattle.commands.proofs.Laws.Flush.{owner, flush_grows, flush-sound, flush-us
 use Rattle.commands.proofs.Laws.Write.{writable_found}
 use Rattle.commands.proofs.Laws.Reserve.{reserve_cases}
 use Rattle.outcomes.proofs.Laws.Counts.{blank_only_none}
-use Rattle.history.specs.Types.{Lba, Fragment, Kind, Reserved, Appended, Disc, Found, Number, Nowhere, Accepted, DriveRefusal, WriteProtected, InvalidFieldInCommand, AddressOutOfRange, InvalidOperationCode, InvalidAddressForWrite, IncompleteTrackInSession, EmptyTrack, NoMoreReservations, EndOfUserArea, Reply, Flush, Plan, Verdict, Skip, Record, Nothing, Gather, Fill, Command, TestUnitReady, RequestSense, Inquiry, ReadCapacity, Read, Write, SynchronizeCache, ReserveTrack, CloseTrackSession, GetConfiguration, ReadDiscInformation, ReadTrackInformation, Unlisted}
+use Rattle.history.specs.Types.{Lba, Fragment, Kind, Reserved, Appended, Disc, Option, Some, None, Accepted, DriveRefusal, WriteProtected, InvalidFieldInCommand, AddressOutOfRange, InvalidOperationCode, InvalidAddressForWrite, IncompleteTrackInSession, EmptyTrack, NoMoreReservations, EndOfUserArea, Reply, Flush, Plan, Verdict, Skip, Record, Nothing, Gather, Fill, Command, TestUnitReady, RequestSense, Inquiry, ReadCapacity, Read, Write, SynchronizeCache, ReserveTrack, CloseTrackSession, GetConfiguration, ReadDiscInformation, ReadTrackInformation, Unlisted}
 use Rattle.history.specs.Account.{extent_of}
 use Rattle.history.specs.Past.{Past, block_recorded, sector_gathered, sectors_gathered, past_flushed, past_filled, past_after}
 
@@ -342,16 +342,16 @@ module _ (d : Disc) (h : Past) (r : Ready d) (w : Recalls d h) where
         }
 
   recalled-write-found :
-      (a : Lba) (n : ℕ) → (n ≡ 0 → ⊥) → (x : Found) → writable_at d a ≡ x
+      (a : Lba) (n : ℕ) → (n ≡ 0 → ⊥) → (x : Option ℕ) → writable_at d a ≡ x
       → Recalled (sectors_gathered a.0 n (cond (eqb a.0 h.next) h (past_flushed h))) (write_found d a n x)
   unfolding write_found write_to
-  recalled-write-found a n z (Number j) e =
+  recalled-write-found a n z (Some j) e =
       cond_cases (Recalled _) (ltb (first_sector (end (numbered d j))).0 (a.0 + n)) _ _ (λ t. recalled-refused _ EndOfUserArea)
       (λ t. recalled-accepted _ _ no_reply _ (tells-gather a n j (writable_found d a j e) (some z)))
     where
       some : {n : ℕ} → (n ≡ 0 → ⊥) → 1 ≤ n
       some z = omega arith
-  recalled-write-found a n z Nowhere e = recalled-refused _ InvalidAddressForWrite
+  recalled-write-found a n z None e = recalled-refused _ InvalidAddressForWrite
 
   recalled-write : (a : Lba) (n : ℕ) → Recalled (past_after d (Write a n) h) (write d a n)
   unfolding write past_after
@@ -540,10 +540,10 @@ module _ (d : Disc) (h : Past) (r : Ready d) (w : Recalls d h) where
       read_cases (Recalled h) d a n (recalled-same no_reply) (recalled-refused h)
       (λ z l t. recalled-accepted h d no_reply (plan Skip (sending d a n)) (tells-sent a n))
 
-  recalled-track-found : (allocation : ℕ) (x : Found) → Recalled h (track_found d allocation x)
+  recalled-track-found : (allocation : ℕ) (x : Option ℕ) → Recalled h (track_found d allocation x)
   unfolding track_found track_verdict
-  recalled-track-found allocation (Number j) = recalled-same _
-  recalled-track-found allocation Nowhere = recalled-refused h AddressOutOfRange
+  recalled-track-found allocation (Some j) = recalled-same _
+  recalled-track-found allocation None = recalled-refused h AddressOutOfRange
 
   recalled-track : (addressType number allocation : ℕ) → Recalled h (read_track_information d addressType number allocation)
   unfolding read_track_information track_numbered track_verdict

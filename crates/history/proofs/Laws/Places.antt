@@ -38,7 +38,7 @@ use Rattle.commands.proofs.Laws.Session.{kept, kept_few, kept_pending_lem}
 use Rattle.outcomes.proofs.Laws.Keep.{write_room, gather_grows, gather-sound, fill_grows, fill_sound}
 use Rattle.outcomes.proofs.Laws.Outcome.{append_pending}
 use Rattle.outcomes.proofs.Laws.Counts.{SameCounts, same_counts, counts-on, split-counts, split-start, shorten-counts, close-tail-counts, open_counts}
-use Rattle.history.specs.Types.{Lba, Fragment, Kind, Reserved, Appended, Disc, Found, Number, Nowhere, Accepted, DriveRefusal, WriteProtected, InvalidFieldInCommand, AddressOutOfRange, InvalidOperationCode, InvalidAddressForWrite, IncompleteTrackInSession, EmptyTrack, NoMoreReservations, EndOfUserArea, Reply, Plan, Verdict, Command, TestUnitReady, RequestSense, Inquiry, ReadCapacity, Read, Write, SynchronizeCache, ReserveTrack, CloseTrackSession, GetConfiguration, ReadDiscInformation, ReadTrackInformation, Unlisted}
+use Rattle.history.specs.Types.{Lba, Fragment, Kind, Reserved, Appended, Disc, Option, Some, None, Accepted, DriveRefusal, WriteProtected, InvalidFieldInCommand, AddressOutOfRange, InvalidOperationCode, InvalidAddressForWrite, IncompleteTrackInSession, EmptyTrack, NoMoreReservations, EndOfUserArea, Reply, Plan, Verdict, Command, TestUnitReady, RequestSense, Inquiry, ReadCapacity, Read, Write, SynchronizeCache, ReserveTrack, CloseTrackSession, GetConfiguration, ReadDiscInformation, ReadTrackInformation, Unlisted}
 
 -- the sectors of the fragment with a number: recorded and pending ones
 abbrev pub taken : Disc → ℕ → ℕ
@@ -131,12 +131,12 @@ module _ (d : Disc) (n : ℕ) (r : Ready d) (one : 1 ≤ n) where
       (places-placed (gather e j count) (gather-sound e j count s room)
       (places-on d e (gather e j count) (others-places j) (grown_places e (gather e j count) (gather_grows e j count s room))))
 
-  moved-write-found : (a : Lba) (count : ℕ) (x : Found) → writable_at d a ≡ x → Moved (write_found d a count x)
+  moved-write-found : (a : Lba) (count : ℕ) (x : Option ℕ) → writable_at d a ≡ x → Moved (write_found d a count x)
   unfolding write_found write_to
-  moved-write-found a count (Number j) e =
+  moved-write-found a count (Some j) e =
       cond_cases Moved (ltb (first_sector (end (numbered d j))).0 (a.0 + count)) _ _ (λ t. moved-refused EndOfUserArea)
       (λ t. moved-gather a count j (writable_found d a j e) (ltb-false _ _ t) no_reply _)
-  moved-write-found a count Nowhere e = moved-refused InvalidAddressForWrite
+  moved-write-found a count None e = moved-refused InvalidAddressForWrite
 
   moved-write : (a : Lba) (count : ℕ) → Moved (write d a count)
   unfolding write
@@ -237,10 +237,10 @@ module _ (d : Disc) (n : ℕ) (r : Ready d) (one : 1 ≤ n) where
   moved-read : (a : Lba) (count : ℕ) → Moved (read d a count)
   moved-read a count = read_cases Moved d a count (moved_same no_reply no_plan) moved-refused (λ z l t. moved_same no_reply _)
 
-  moved-track-found : (allocation : ℕ) (x : Found) → Moved (track_found d allocation x)
+  moved-track-found : (allocation : ℕ) (x : Option ℕ) → Moved (track_found d allocation x)
   unfolding track_found track_verdict
-  moved-track-found allocation (Number j) = moved_same _ no_plan
-  moved-track-found allocation Nowhere = moved-refused AddressOutOfRange
+  moved-track-found allocation (Some j) = moved_same _ no_plan
+  moved-track-found allocation None = moved-refused AddressOutOfRange
 
   moved-track : (addressType number allocation : ℕ) → Moved (read_track_information d addressType number allocation)
   unfolding read_track_information track_numbered track_verdict

@@ -15,7 +15,7 @@ use Rattle.outcomes.proofs.Laws.Recorded.{among_between}
 use Rattle.drive.specs.Alike.{Alike}
 use Rattle.drive.specs.Step.{Drive}
 use Rattle.drive.proofs.Laws.Reads.{read-readable}
-use Rattle.history.specs.Types.{Lba, Found, Number, Nowhere, Accepted, Read, Write, Answer, Command}
+use Rattle.history.specs.Types.{Lba, Option, Some, None, Accepted, Read, Write, Answer, Command}
 use Rattle.history.specs.Sequence.{Start, Turn, found, result, final, Admissible}
 use Rattle.history.specs.Account.{opened, extent_of, sector_at, account, content_in}
 use Rattle.history.specs.Brought.{Written, write_of, accepted_write, writes, brought_to, sole, brought_in, ReadBack, brought_into, ListedKeeps, KeptAsListed}
@@ -38,10 +38,10 @@ module _ (c : ℕ) (s : Drive) (start : Start c s) (ts : List Turn) (h : Admissi
 
   -- the account's content of a readable address
   content-found :
-      (a : ℕ) (x : Found) → at_address there.disc (lba a) ≡ x → is_readable there.disc (lba a) ≡ true
+      (a : ℕ) (x : Option ℕ) → at_address there.disc (lba a) ≡ x → is_readable there.disc (lba a) ≡ true
       → content_in ts s a x ≡ sole (brought_to a (writes ts s))
   unfolding content_in
-  content-found a (Number n) e r =
+  content-found a (Some n) e r =
       let d = there.disc in
       let w = located d a n e in
       let below = ltb-true a _ (sym (located-readable d a there-sound n w) ∙ r) in
@@ -49,7 +49,7 @@ module _ (c : ℕ) (s : Drive) (start : Start c s) (ts : List Turn) (h : Admissi
       let place : a ≡ base d n + i = omega (arith, w.first) in
       ap (account n ts s).content place
       ∙ ((traced.each n w.from).content i (omega (arith, w.first, below)) ∙ ap (λ (b : ℕ). sole (brought_to b (writes ts s))) (sym place))
-  content-found a Nowhere e r = absurd (nowhere-unreadable there.disc a there-sound e r)
+  content-found a None e r = absurd (nowhere-unreadable there.disc a there-sound e r)
 
   point-back :
       (t : Turn) → Alike there (found t there) → (a : Lba) (n : ℕ) → decode t.request.cdb ≡ Read a n → (result t there).answer ≡ Accepted

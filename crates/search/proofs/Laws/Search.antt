@@ -8,7 +8,7 @@ use native.Mathlib.Omega.{arith}
 use borrow.Author.Tests.{leb-true, le-leb, ltb-true, ltb-false, lt-ltb, le-ltb, eq-eqb, ne_eqb}
 use lib.Dec.{leb, ltb}
 use lib.ListN.{length, get_or}
-use Rattle.search.specs.Types.{Lba, Fragment, Found, Number, Nowhere, Holder, Sought, Side, Left, Right, Here}
+use Rattle.search.specs.Types.{Lba, Fragment, Option, Some, None, Entry, Sought, Side, Left, Right, Here}
 use Rattle.search.specs.Search.{step, Search, ends, looks, finds, seen, SameAt, sought, no_holder, middle, by_side, halve, enough, halving, held}
 use Rattle.fragments.specs.Address.{first_sector}
 use Rattle.fragments.specs.Fragment.{unused_record, unused, end, holds}
@@ -145,20 +145,20 @@ module _ (fs : List Fragment) (a : Lba) (r : Rising fs) where
   listed-index i on =
       by_cases (ltb i (length (listed fs))) (λ t. ltb-true _ _ t) (λ t. absurd (on (r.first i (ltb-false _ _ t))))
 
-  found-holds : (n : ℕ) → holder_of fs a ≡ Number n → (i : ℕ) × (n ≡ i + 1) × Holds i
+  found-holds : (n : ℕ) → holder_of fs a ≡ Some n → (i : ℕ) × (n ≡ i + 1) × Holds i
   found-holds n e =
       let x = find_hit (λ k f. holds a f) 1 n (listed fs) e in
       (x.index, omega (arith, x.number), (x.within, rw (listed_at fs x.index unused_record x.within) at x.passes))
 
-  found-is : (x : Found) → holder_of fs a ≡ x → (i : ℕ) → Holds i → x ≡ Number (i + 1)
-  found-is (Number n) e i p =
+  found-is : (x : Option ℕ) → holder_of fs a ≡ x → (i : ℕ) → Holds i → x ≡ Some (i + 1)
+  found-is (Some n) e i p =
       let y = found-holds n e in
-      ap Number (omega (arith, y.1, holds-once y.0 i y.2 p))
-  found-is Nowhere e i p =
+      ap Some (omega (arith, y.1, holds-once y.0 i y.2 p))
+  found-is None e i p =
       absurd (find_none (λ k f. holds a f) 1 (listed fs) e i p.0 (rw (listed_at fs i unused_record p.0) p.1))
 
   -- it finds the record that holds the address
-  pub holder-is : (i : ℕ) → i < length (listed fs) → holds a (at i) ≡ true → holder_of fs a ≡ Number (i + 1)
+  pub holder-is : (i : ℕ) → i < length (listed fs) → holds a (at i) ≡ true → holder_of fs a ≡ Some (i + 1)
   holder-is i l t = found-is (holder_of fs a) refl i (l, t)
 
   held-is : (i : ℕ) → Holds i → held fs (holder_of fs a) ≡ record { number = i + 1; fragment = at i }
@@ -166,9 +166,9 @@ module _ (fs : List Fragment) (a : Lba) (r : Rising fs) where
       let index : i + 1 - 1 ≡ i = omega arith in
       rw (holder-is i p.0 p.1) (ap (λ (j : ℕ). record { number = i + 1; fragment = at j }) index)
 
-  held_none : (x : Found) → holder_of fs a ≡ x → ((i : ℕ) → Holds i → ⊥) → held fs x ≡ no_holder
-  held_none (Number n) e none = let y = found-holds n e in absurd (none y.0 y.2)
-  held_none Nowhere e none = refl
+  held_none : (x : Option ℕ) → holder_of fs a ≡ x → ((i : ℕ) → Holds i → ⊥) → held fs x ≡ no_holder
+  held_none (Some n) e none = let y = found-holds n e in absurd (none y.0 y.2)
+  held_none None e none = refl
 
   -- the records from low to before high are in question: no other one holds the address
   abbrev Within : ℕ → ℕ → Type 0

@@ -1,4 +1,4 @@
-use Rattle.decisions.proofs.Laws.Tail.{tail_left}
+use Rattle.fragments.proofs.Laws.Tail.{tail_left}
 use Rattle.commands.proofs.Laws.Effect.{affected_split}
 use mathlib.Core.Path.{refl, ap}
 use Rattle.commands.proofs.reserve.split_tail.Goals as goal

@@ -1,4 +1,4 @@
-use Rattle.decisions.proofs.Laws.Tail.{tail_left}
+use Rattle.fragments.proofs.Laws.Tail.{tail_left}
 use Rattle.fragments.proofs.Laws.Address.{wide-number}
 use Rattle.decisions.specs.Plan.{plan}
 use Rattle.disc.specs.Verdict.{accepted}

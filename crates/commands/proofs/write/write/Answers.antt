@@ -6,7 +6,7 @@ use Rattle.search.specs.Search.{held}
 use Rattle.disc.specs.Records.{writable_at}
 use Rattle.disc.specs.Verdict.{accept}
 use Rattle.disc.proofs.Laws.Apply.{refused_verdict, unchanged_verdict}
-use Rattle.commands.specs.Types.{Number, Nowhere, Holder}
+use Rattle.commands.specs.Types.{Some, None, Entry}
 use Rattle.commands.specs.Write.{write, write_found, write_to}
 use Rattle.commands.proofs.Laws.Holder.{held-unwritable, held_number, held-record, held-writable}
 use Rattle.commands.proofs.write.write.Goals as goal
@@ -24,7 +24,7 @@ unfolding write write_found accept
 returns-then-holder-eq0 c =
     let d = c.args.disc in
     let a = c.args.address in
-    let none : Nowhere ≡ writable_at d a = held-unwritable d a (rw c.writable_at-holder.ensures at c.if-holder-eq0.true) in
+    let none : None ≡ writable_at d a = held-unwritable d a (rw c.writable_at-holder.ensures at c.if-holder-eq0.true) in
     simp (c.refused-then-holder-eq0.ensures, refused_verdict, ← none, c.if-disc.false, ne_eqb _ _ c.if-sectors-eq0.false)
 
 pub write_to-requires : goal.write_to-requires
@@ -42,7 +42,7 @@ returns c =
     let a = c.args.address in
     let n = c.args.sectors in
     let h = c.writable_at-holder.ensures in
-    let found : Number (held d.fragments (writable_at d a)).number ≡ writable_at d a = held_number d a (writable_at d a) (rw h at c.if-holder-eq0.false) in
+    let found : Some (held d.fragments (writable_at d a)).number ≡ writable_at d a = held_number d a (writable_at d a) (rw h at c.if-holder-eq0.false) in
     c.write_to.ensures
     ∙ (ap (λ (x : Holder). write_to d a n x.number) h
     ∙ (ap (write_found d a n) found

@@ -1,10 +1,12 @@
 // The tail that a command begins, and what closing makes of one: records put into the list.
 ghost use Rattle.std.specs.Prelude.{◌≡◌};
 ghost use Rattle.fragments.specs.Address.{block};
-ghost use Rattle.decisions.specs.Tail.{tail_entry, tail_after, tail_closed};
+ghost use Rattle.fragments.specs.Tail.{tail_entry, tail_after, tail_closed};
 
-use crate::change::Entry;
-use fragments::{Block, Fragment, Kind, Last, WideBlock};
+use crate::address::{Block, WideBlock};
+use crate::fragment::{Fragment, Kind};
+use crate::list::LIMIT;
+use crate::numbered::Entry;
 
 impl Entry {
     // The tail of a session from a block to the capacity, under a number, if a block is left for it.
@@ -30,14 +32,14 @@ impl Entry {
     pub fn tail_after(capacity: u32, number: usize, f: Fragment) -> Entry
         ensures { result ≡ tail_after capacity number f }
     {
-        if number >= fragments::LIMIT {
+        if number >= LIMIT {
             return Entry::none();
         }
         Entry::tail(capacity, number + 1, f.session, f.next_start())
     }
 
     // What closing makes of the last record, with nothing pending: a blank tail is dropped, a written one ends with its recorded blocks.
-    pub fn tail_closed(last: Last) -> Entry
+    pub fn tail_closed(last: Entry) -> Entry
         ensures { result ≡ tail_closed last }
     {
         let f = last.fragment;

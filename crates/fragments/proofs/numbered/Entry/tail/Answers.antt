@@ -1,6 +1,6 @@
 use borrow.Author.Tests.{lt-ltb, le-ltb}
-use Rattle.decisions.specs.Tail.{tail_entry}
-use Rattle.decisions.proofs.change.Entry.tail.Goals as goal
+use Rattle.fragments.specs.Tail.{tail_entry}
+use Rattle.fragments.proofs.numbered.Entry.tail.Goals as goal
 
 pub returns-then-start-capacity : goal.returns-then-start-capacity
 unfolding tail_entry

@@ -1,7 +1,7 @@
 use borrow.Author.Tests.{eq-eqb, ne_eqb}
-use Rattle.decisions.specs.Tail.{tail_closed}
+use Rattle.fragments.specs.Tail.{tail_closed}
 use mathlib.Core.Path.{sym, ◌∙◌}
-use Rattle.decisions.proofs.change.Entry.tail_closed.Goals as goal
+use Rattle.fragments.proofs.numbered.Entry.tail_closed.Goals as goal
 
 pub returns-then-not-is_tail : goal.returns-then-not-is_tail
 unfolding tail_closed

@@ -1,9 +1,9 @@
 -- The tail that a command begins, and what closing makes of one: records put into the list.
 use Rattle.std.specs.Prelude.{ℕ, ◌+◌, cond, eqb, ltb}
-use Rattle.decisions.specs.Types.{Block, Fragment, Last, Entry}
+use Rattle.fragments.specs.Types.{Block, Fragment, Entry}
 use Rattle.fragments.specs.Fragment.{unused_record, end, is_tail, next_fragment_start, tail_from, shortened_record}
 use Rattle.fragments.specs.List.{limit}
-use Rattle.decisions.specs.Change.{entry, no_entry}
+use Rattle.fragments.specs.Entry.{entry, no_entry}
 
 -- the tail of a session from a block to the capacity, under a number, if a block is left for it
 unfoldable pub tail_entry : ℕ → ℕ → ℕ → Block → Entry
@@ -14,7 +14,7 @@ unfoldable pub tail_after : ℕ → ℕ → Fragment → Entry
 tail_after capacity n f = cond (ltb n limit) (tail_entry capacity (n + 1) f.session (next_fragment_start (end f))) no_entry
 
 -- what closing makes of the last record, with nothing pending: a blank tail is dropped, a written one ends with its recorded blocks
-unfoldable pub tail_closed : Last → Entry
+unfoldable pub tail_closed : Entry → Entry
 tail_closed l =
     cond (is_tail l.fragment)
     (cond (eqb l.fragment.recorded 0) (entry l.number unused_record) (entry l.number (shortened_record l.fragment))) no_entry

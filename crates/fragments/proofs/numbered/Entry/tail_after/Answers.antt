@@ -1,6 +1,6 @@
 use borrow.Author.Tests.{lt-ltb, le-ltb}
-use Rattle.decisions.specs.Tail.{tail_after}
-use Rattle.decisions.proofs.change.Entry.tail_after.Goals as goal
+use Rattle.fragments.specs.Tail.{tail_after}
+use Rattle.fragments.proofs.numbered.Entry.tail_after.Goals as goal
 
 pub returns-then-number-ge-LIMIT : goal.returns-then-number-ge-LIMIT
 unfolding tail_after

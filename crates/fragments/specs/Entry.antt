@@ -1,6 +1,6 @@
 -- A record that a command puts into the list.
 use Rattle.std.specs.Prelude.{ℕ, ◌-◌, cond, List, set, eqb}
-use Rattle.decisions.specs.Types.{Fragment, Last, Entry}
+use Rattle.fragments.specs.Types.{Fragment, Entry}
 use Rattle.fragments.specs.Fragment.{unused_record}
 
 -- a record under a number, and none
@@ -19,5 +19,5 @@ abbrev pub over : Entry → ℕ → Fragment → Fragment
 over e n before = cond (eqb e.number n) e.fragment before
 
 -- and the last record, with its number
-abbrev pub over_last : Entry → Last → Last
+abbrev pub over_last : Entry → Entry → Entry
 over_last e l = record { number = l.number; fragment = over e l.number l.fragment }

@@ -2,10 +2,10 @@
 use Prim.Native.Nat.{ℕ, ◌<◌}
 use mathlib.Core.Path.{◌≡◌}
 use borrow.Author.Tests.{lt-ltb}
-use Rattle.decisions.specs.Types.{Block}
+use Rattle.fragments.specs.Types.{Block}
 use Rattle.fragments.specs.Fragment.{tail_from}
-use Rattle.decisions.specs.Change.{entry}
-use Rattle.decisions.specs.Tail.{tail_entry}
+use Rattle.fragments.specs.Entry.{entry}
+use Rattle.fragments.specs.Tail.{tail_entry}
 
 pub tail_left :
     (capacity n session : ℕ) (start : Block) → start.0 < capacity

@@ -5,6 +5,7 @@ use Rattle.search.specs.Types.{Lba, Fragment, Option, Some, None, Entry, Sought,
 use Rattle.fragments.specs.Address.{first_sector}
 use Rattle.fragments.specs.Fragment.{unused_record, unused, end}
 use Rattle.fragments.specs.List.{limit, record_numbered}
+use Rattle.fragments.specs.Entry.{entry}
 
 -- what one record tells of the fragment that an address lies in: it can only stand left of the record, which is unused or starts above
 -- the address, or right of it, or it is this one
@@ -15,11 +16,11 @@ step a f =
 
 -- a search that looks at n records at the most: it has ended, or it looks at the record at one index and goes on by that record alone
 pub data Search : ℕ → Type 0 where
-  ends : (n : ℕ) → Holder → Search n
+  ends : (n : ℕ) → Option Entry → Search n
   looks : (n : ℕ) → ℕ → (Fragment → Search n) → Search (suc n)
 
 -- what a search finds in a list
-unfoldable pub finds : {n : ℕ} → List Fragment → Search n → Holder
+unfoldable pub finds : {n : ℕ} → List Fragment → Search n → Option Entry
 finds fs (ends n h) = h
 finds fs (looks n i next) = finds fs (next (get_or fs i unused_record))
 
@@ -36,10 +37,6 @@ SameAt is fs gs = (k : ℕ) → k < length is → get_or fs (get_or is k 0) unus
 abbrev pub sought : {n : ℕ} → List Fragment → Search n → Sought
 sought fs s = record { holder = finds fs s; looks = length (seen fs s) }
 
--- no fragment
-abbrev pub no_holder : Holder
-no_holder = record { number = 0; fragment = unused_record }
-
 -- the middle of the indices from low to before high
 abbrev pub middle : ℕ → ℕ → ℕ
 middle low high = low + (high - low) / 2
@@ -52,12 +49,12 @@ by_side Here left right here = here
 
 -- halving: n looks at the most, each at the middle one of the records in question, those from the index low to before high
 unfoldable pub halve : (n : ℕ) → Lba → ℕ → ℕ → Search n
-halve zero a low high = ends zero no_holder
+halve zero a low high = ends zero None
 halve (suc n) a low high =
     let m = middle low high in
-    cond (eqb low high) (ends (suc n) no_holder)
+    cond (eqb low high) (ends (suc n) None)
     (looks n m
-    (λ f. by_side (step a f) (halve n a low m) (halve n a (m + 1) high) (ends n (record { number = m + 1; fragment = f }))))
+    (λ f. by_side (step a f) (halve n a low m) (halve n a (m + 1) high) (ends n (Some (entry (m + 1) f)))))
 
 -- eight looks are enough for the records of a disc
 abbrev pub enough : ℕ
@@ -68,6 +65,6 @@ abbrev pub halving : Lba → Search 8
 halving a = halve enough a 0 limit
 
 -- what a search ought to find: the fragment of the list's own definition
-abbrev pub held : List Fragment → Option ℕ → Holder
-held fs (Some n) = record { number = n; fragment = record_numbered fs n }
-held fs None = no_holder
+abbrev pub held : List Fragment → Option ℕ → Option Entry
+held fs (Some n) = Some (entry n (record_numbered fs n))
+held fs None = None

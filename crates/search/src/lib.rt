@@ -5,4 +5,4 @@
 
 mod search;
 
-pub use search::{Holder, Sought, halving};
+pub use search::{Sought, halving};

@@ -1,23 +1,16 @@
 // The fragment that an address lies in, found by halving.
 ghost use Rattle.std.specs.Prelude.{◌≡◌};
-ghost use Rattle.search.specs.Search.{step, no_holder, sought, halving};
+ghost use Rattle.search.specs.Search.{step, sought, halving};
 
-use fragments::{Fragment, LIMIT, Lba};
+use fragments::{Entry, Fragment, LIMIT, Lba};
 
 // How many records a search looks at, at the most. Those of a disc are fewer than 2^8: halved so often, none is left.
 const LOOKS: usize = 8;
 
-// The fragment that an address lies in, with its number; number 0 and an unused record where there is none.
-#[derive(Clone, Copy)]
-pub struct Holder {
-    pub number: usize,
-    pub fragment: Fragment,
-}
-
-// What a search comes to: what it has found, and how many records it has looked at.
+// What a search comes to: the fragment that the address lies in, with its number, if there is one, and how many records it has looked at.
 #[derive(Clone, Copy)]
 pub struct Sought {
-    pub holder: Holder,
+    pub holder: Option<Entry>,
     pub looks: usize,
 }
 
@@ -30,18 +23,6 @@ pub enum Side {
     Right,
     // It is this one.
     Here,
-}
-
-impl Holder {
-    // No fragment.
-    pub fn none() -> Holder
-        ensures { result ≡ no_holder }
-    {
-        Holder {
-            number: 0,
-            fragment: Fragment::unused(),
-        }
-    }
 }
 
 // One step: a look at one record, at its start and at its end. An unused record stands after all those in use.
@@ -79,14 +60,15 @@ pub fn halving(fragments: [Fragment; LIMIT], address: Lba) -> Sought
                 low = index + 1;
             }
             Side::Here => {
-                let holder = Holder {
-                    number: index + 1,
-                    fragment: f,
+                return Sought {
+                    holder: Some(Entry::new(index + 1, f)),
+                    looks,
                 };
-                return Sought { holder, looks };
             }
         }
     }
-    let holder = Holder::none();
-    Sought { holder, looks }
+    Sought {
+        holder: None,
+        looks,
+    }
 }

@@ -9,10 +9,11 @@ use borrow.Author.Tests.{leb-true, le-leb, ltb-true, ltb-false, lt-ltb, le-ltb, 
 use lib.Dec.{leb, ltb}
 use lib.ListN.{length, get_or}
 use Rattle.search.specs.Types.{Lba, Fragment, Option, Some, None, Entry, Sought, Side, Left, Right, Here}
-use Rattle.search.specs.Search.{step, Search, ends, looks, finds, seen, SameAt, sought, no_holder, middle, by_side, halve, enough, halving, held}
+use Rattle.search.specs.Search.{step, Search, ends, looks, finds, seen, SameAt, sought, middle, by_side, halve, enough, halving, held}
 use Rattle.fragments.specs.Address.{first_sector}
 use Rattle.fragments.specs.Fragment.{unused_record, unused, end, holds}
 use Rattle.fragments.specs.List.{limit, listed, holder_of}
+use Rattle.fragments.specs.Entry.{entry}
 use Rattle.fragments.proofs.Laws.Bool.{and_left, and_right, and_both, or_left, or_right, by_cases, cond_yes, cond_no}
 use Rattle.fragments.proofs.Laws.Numbers.{order_cases, equal_cases}
 use Rattle.fragments.proofs.Laws.List.{use_cases, listed_le, listed_at, listed-used, find_hit, find_none}
@@ -67,11 +68,11 @@ module _ (fs : List Fragment) (a : Lba) (low high : ℕ) where
   abbrev looked : Fragment
   looked = get_or fs (middle low high) unused_record
 
-  pub sought-over : sought fs (halve 0 a low high) ≡ record { holder = no_holder; looks = 0 }
+  pub sought-over : sought fs (halve 0 a low high) ≡ record { holder = None; looks = 0 }
   unfolding finds seen halve
   sought-over = refl
 
-  pub sought-none : (n : ℕ) → low ≡ high → sought fs (halve n a low high) ≡ record { holder = no_holder; looks = 0 }
+  pub sought-none : (n : ℕ) → low ≡ high → sought fs (halve n a low high) ≡ record { holder = None; looks = 0 }
   unfolding finds seen halve
   sought-none zero e = refl
   sought-none (suc n) e = rw (eq-eqb low high e)
@@ -79,7 +80,7 @@ module _ (fs : List Fragment) (a : Lba) (low high : ℕ) where
   -- how it goes on, by what the step says
   goes : ℕ → Side → Sought
   goes n t =
-      sought fs (by_side t (halve n a low (middle low high)) (halve n a (middle low high + 1) high) (ends n (record { number = middle low high + 1; fragment = looked })))
+      sought fs (by_side t (halve n a low (middle low high)) (halve n a (middle low high + 1) high) (ends n (Some (entry (middle low high + 1) looked))))
 
   sought-next : (n : ℕ) → (low ≡ high → ⊥) → sought fs (halve (suc n) a low high) ≡ after 1 (goes n (step a looked))
   unfolding finds seen halve goes
@@ -102,12 +103,12 @@ module _ (fs : List Fragment) (a : Lba) (low high : ℕ) where
 
   pub sought-here :
       (n : ℕ) → (low ≡ high → ⊥) → step a looked ≡ Here
-      → sought fs (halve (suc n) a low high) ≡ record { holder = record { number = middle low high + 1; fragment = looked }; looks = 1 }
+      → sought fs (halve (suc n) a low high) ≡ record { holder = Some (entry (middle low high + 1) looked); looks = 1 }
   unfolding goes finds seen
   sought-here n e t = sought-next n e ∙ ap (λ s. after 1 (goes n s)) t
 
 -- what a search has found
-abbrev held_in : Sought → Holder
+abbrev held_in : Sought → Option Entry
 held_in s = s.holder
 
 -- along the list the records in use come first, and each ends before the next ones start
@@ -161,12 +162,12 @@ module _ (fs : List Fragment) (a : Lba) (r : Rising fs) where
   pub holder-is : (i : ℕ) → i < length (listed fs) → holds a (at i) ≡ true → holder_of fs a ≡ Some (i + 1)
   holder-is i l t = found-is (holder_of fs a) refl i (l, t)
 
-  held-is : (i : ℕ) → Holds i → held fs (holder_of fs a) ≡ record { number = i + 1; fragment = at i }
+  held-is : (i : ℕ) → Holds i → held fs (holder_of fs a) ≡ Some (entry (i + 1) (at i))
   held-is i p =
       let index : i + 1 - 1 ≡ i = omega arith in
-      rw (holder-is i p.0 p.1) (ap (λ (j : ℕ). record { number = i + 1; fragment = at j }) index)
+      rw (holder-is i p.0 p.1) (ap (λ (j : ℕ). Some (entry (i + 1) (at j))) index)
 
-  held_none : (x : Option ℕ) → holder_of fs a ≡ x → ((i : ℕ) → Holds i → ⊥) → held fs x ≡ no_holder
+  held_none : (x : Option ℕ) → holder_of fs a ≡ x → ((i : ℕ) → Holds i → ⊥) → held fs x ≡ None
   held_none (Some n) e none = let y = found-holds n e in absurd (none y.0 y.2)
   held_none None e none = refl
 
@@ -199,7 +200,7 @@ module _ (fs : List Fragment) (a : Lba) (r : Rising fs) where
       (λ h. absurd (let k = ap (λ j. (end (at j)).0) h in omega (arith, k, below, past)))
       (λ h. h)
 
-  none_within : (low high : ℕ) → high ≤ low → Within low high → no_holder ≡ held fs (holder_of fs a)
+  none_within : (low high : ℕ) → high ≤ low → Within low high → None ≡ held fs (holder_of fs a)
   none_within low high e w =
       sym (held_none (holder_of fs a) refl (λ i p. let b = w i p in omega (arith, e, b.0, b.1)))
 

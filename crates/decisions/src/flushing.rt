@@ -2,10 +2,10 @@
 ghost use Rattle.std.specs.Prelude.{◌≡◌};
 ghost use Rattle.decisions.specs.Flushing.{no_flushing, closing_last};
 
-use crate::change::{Effect, Entry};
+use crate::change::Effect;
 use crate::decision::Decision;
 use crate::plan::{Flush, Plan, Transfer};
-use fragments::Last;
+use fragments::Entry;
 use protocol::Reply;
 
 // The record that a flush leaves, what it does to the bytes, and how many blocks it records.
@@ -30,7 +30,7 @@ impl Flushing {
     }
 
     // After the flush the last record is closed, and a tail may begin after it: what CLOSE of the session and of the disc are decided to.
-    pub fn closing(self, last: Last, tail: Entry, finalized: bool) -> Decision
+    pub fn closing(self, last: Entry, tail: Entry, finalized: bool) -> Decision
         ensures { result ≡ closing_last self last tail finalized }
     {
         let flush = self.plan;

@@ -1,6 +1,6 @@
 -- The fragment list of a disc.
 use Rattle.std.specs.Prelude.{ℕ, ◌-◌, Bool, not, cond, ◌&&◌, ◌||◌, List, length, set, eqb, leb}
-use Rattle.disc.specs.Types.{Lba, Sense, Fragment, Disc, Option, Entry, Reach, TailNext, Address, NoTail}
+use Rattle.disc.specs.Types.{Lba, Sense, Fragment, Disc, Option, Entry, Reach, Some, None}
 use Rattle.fragments.specs.Fragment.{is_tail, next_after, holds_recorded, holds_pending}
 use Rattle.fragments.specs.List.{listed, record_numbered, last_of, some, pending_of, holder_of, reach_at, taker_of, highest_readable, first_of_session}
 
@@ -61,8 +61,8 @@ next_writable d n f = next_after (pending_in d n) f
 abbrev pub has_tail : Disc → Bool
 has_tail d = is_tail (last_record d)
 
-abbrev pub tail_next : Disc → TailNext
-tail_next d = cond (has_tail d) (Address (next_writable d (used d) (last_record d))) NoTail
+abbrev pub tail_next : Disc → Option Lba
+tail_next d = cond (has_tail d) (Some (next_writable d (used d) (last_record d))) None
 
 -- the last record, with its number, is a blank tail
 abbrev pub is_blank_tail : Disc → Entry → Bool

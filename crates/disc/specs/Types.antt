@@ -13,8 +13,6 @@ pub use Rattle.std.specs.Prelude.{Option}
 pub use Rattle.std.specs.Prelude.{Some, None}
 pub use Rattle.fragments.specs.declared.numbered.Entry.{Entry}
 pub use Rattle.fragments.specs.declared.list.Reach.{Reach}
-pub use Rattle.disc.specs.declared.state.TailNext.{TailNext}
-pub use Rattle.disc.specs.declared.state.TailNext.TheVariants.{Address, NoTail}
 pub use Rattle.disc.specs.declared.blank.Blank.{Blank}
 pub use Rattle.protocol.specs.declared.reply.Reply.{Reply}
 pub use Rattle.decisions.specs.declared.plan.Plan.{Plan}

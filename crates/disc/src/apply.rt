@@ -5,7 +5,8 @@ ghost use Rattle.disc.specs.Apply.{with_entry, settled, affected, changed, decid
 
 use crate::state::Disc;
 use crate::verdict::Verdict;
-use decisions::{Change, Decision, Effect, Entry};
+use decisions::{Change, Decision, Effect};
+use fragments::Entry;
 
 impl Disc {
     // The disc with a record put under its number.

@@ -3,8 +3,8 @@ ghost use Rattle.std.specs.Prelude.{◌≡◌};
 ghost use Rattle.fragments.specs.List.{last_of, first_of_session};
 ghost use Rattle.disc.specs.Records.{used, is_listed, numbered, pending_in, is_blank, next_writable, tail_next, last_readable, records, is_blank_tail, is_only_tail};
 
-use crate::state::{Disc, TailNext};
-use fragments::{Fragment, Last, Lba};
+use crate::state::Disc;
+use fragments::{Entry, Fragment, Lba};
 
 impl Disc {
     // How many records are in use, which is the last one's number.
@@ -16,22 +16,22 @@ impl Disc {
     }
 
     // The last record with its number.
-    pub fn last(self) -> Last
+    pub fn last(self) -> Entry
         ensures { result ≡ last_of self.fragments }
     {
         let records = self.fragments;
         fragments::last_record(records)
     }
 
-    // The tail's next writable address.
-    pub fn tail_next(self) -> TailNext
+    // The tail's next writable address; none where there is no tail.
+    pub fn tail_next(self) -> Option<Lba>
         ensures { result ≡ tail_next self }
     {
         let last = self.last();
         if last.fragment.is_tail() {
-            return TailNext::Address(self.next_writable(last.number, last.fragment));
+            return Some(self.next_writable(last.number, last.fragment));
         }
-        TailNext::NoTail
+        None
     }
 
     // The record with a number; of number 0, the first, and past the list an unused one.
@@ -87,7 +87,7 @@ impl Disc {
     }
 
     // The last record, given with its number, is a tail with no block recorded and no sector pending.
-    pub fn is_blank_tail(self, last: Last) -> bool
+    pub fn is_blank_tail(self, last: Entry) -> bool
         ensures { result ≡ is_blank_tail self last }
     {
         let f = last.fragment;
@@ -95,7 +95,7 @@ impl Disc {
     }
 
     // The same, and it is its session's one record.
-    pub fn is_only_tail(self, last: Last) -> bool
+    pub fn is_only_tail(self, last: Entry) -> bool
         ensures { result ≡ is_only_tail self last }
     {
         self.is_blank_tail(last) & (self.first_of_session(last.fragment.session) == last.number)

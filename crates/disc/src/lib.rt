@@ -11,5 +11,5 @@ mod state;
 mod verdict;
 
 pub use blank::Blank;
-pub use state::{Disc, TailNext};
+pub use state::Disc;
 pub use verdict::Verdict;

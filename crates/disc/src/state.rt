@@ -2,7 +2,7 @@
 ghost use Rattle.std.specs.Prelude.{◌≡◌};
 ghost use Rattle.disc.specs.Records.{with_sense};
 
-use fragments::{Fragment, Lba};
+use fragments::Fragment;
 use protocol::Sense;
 
 #[derive(Clone, Copy)]
@@ -36,11 +36,4 @@ impl Disc {
         disc.sense = sense;
         disc
     }
-}
-
-// The next writable address of the tail, or that there is no tail.
-#[derive(Clone, Copy)]
-pub enum TailNext {
-    Address(Lba),
-    NoTail,
 }

@@ -1,9 +1,7 @@
 -- What the simple promises about a disc say on chosen inputs: the disc that is made of a capacity, what is asked of a list, the tail's next
 -- writable address, a decision applied, what is judged as asked, what the lower read serves.
-use Rattle.std.specs.Prelude.{ℕ, ◌+◌, ◌≡◌, refl, true, false, List, [], ◌∷◌, map}
-use Rattle.disc.specs.declared.state.TailNext.{TailNext}
-use Rattle.disc.specs.declared.state.TailNext.TheVariants.{Address, NoTail}
-use Rattle.examples.specs.Types.{Disc, Fragment, Reserved, Appended, Settle, Verdict}
+use Rattle.std.specs.Prelude.{ℕ, ◌+◌, ◌≡◌, refl, true, false, List, [], ◌∷◌, map, Option, Some, None}
+use Rattle.examples.specs.Types.{Lba, Disc, Fragment, Reserved, Appended, Settle, Verdict}
 use Rattle.protocol.specs.Answer.{sense, no_sense, number, is_refusal_sense, allowed_sense}
 use Rattle.protocol.specs.Reply.{report}
 use Rattle.protocol.specs.Reports.{capacity_bytes}
@@ -121,9 +119,9 @@ unfolding decided changed affected accepting
 applied = refl
 
 -- the address, or 0 where there is no tail
-abbrev address_of : TailNext → ℕ
-address_of (Address a) = a.0
-address_of NoTail = 0
+abbrev address_of : Option Lba → ℕ
+address_of (Some a) = a.0
+address_of None = 0
 
 -- after a closed fragment of two blocks a tail at block 3: blank, one block written, with five sectors pending in it and with five in
 -- a reserved fragment before it; then no tail

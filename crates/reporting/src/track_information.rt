@@ -6,7 +6,7 @@ ghost use Rattle.reporting.specs.Reports.{next_writable_or_zero, free_sectors, t
 
 use decisions::Decision;
 use disc::Disc;
-use fragments::{Found, Fragment, Lba};
+use fragments::{Fragment, Lba};
 use protocol::{DriveRefusal, Reply, TrackReport};
 
 // The number that stands for the tail.
@@ -70,12 +70,12 @@ fn track_decision(disc: Disc, number: usize, allocation: u16) -> Decision
 }
 
 // The report of the fragment that a search has found.
-pub fn track_found(disc: Disc, found: Found, allocation: u16) -> Decision
+pub fn track_found(disc: Disc, found: Option<usize>, allocation: u16) -> Decision
     ensures { decided disc result ≡ track_found disc allocation found }
 {
     match found {
-        Found::Number(number) => track_decision(disc, number, allocation),
-        Found::Nowhere => Decision::refused(DriveRefusal::AddressOutOfRange),
+        Some(number) => track_decision(disc, number, allocation),
+        None => Decision::refused(DriveRefusal::AddressOutOfRange),
     }
 }
 

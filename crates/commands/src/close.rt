@@ -8,9 +8,9 @@ ghost use Rattle.commands.specs.Flush.{flush, flushing};
 ghost use Rattle.commands.specs.Close.{close_incomplete, close_fragment, close};
 
 use crate::{change, flush, session};
-use decisions::{Decision, Effect, Entry, Flushing, Plan, Transfer};
+use decisions::{Decision, Effect, Flushing, Plan, Transfer};
 use disc::Disc;
-use fragments::{Fragment, Kind};
+use fragments::{Entry, Fragment, Kind};
 use protocol::{DriveRefusal, Reply};
 
 // An incomplete reserved fragment is closed; `f` is its record after the flush.

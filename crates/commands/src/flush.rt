@@ -6,8 +6,9 @@ ghost use Rattle.commands.specs.Flush.{flushing, synchronize_cache};
 ghost use Rattle.commands.specs.Write.{flushing_others};
 
 use crate::change;
-use decisions::{Decision, Effect, Entry, Flush, Flushing, Plan, Transfer};
+use decisions::{Decision, Effect, Flush, Flushing, Plan, Transfer};
 use disc::Disc;
+use fragments::Entry;
 use protocol::Reply;
 
 // The flush of the pending block; nothing happens with none pending.

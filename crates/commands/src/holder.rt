@@ -6,29 +6,22 @@ ghost use Rattle.disc.specs.Ready.{Ready};
 ghost use Rattle.disc.specs.Records.{at_address, reach_around, writable_at};
 
 use disc::Disc;
-use fragments::{Found, Lba, Reach};
-use search::Holder;
+use fragments::{Entry, Lba, Reach};
 
-// With its number; number 0 and an unused record where there is none.
-fn holder_at(disc: Disc, address: Lba) -> Holder
+// With its number, if there is one.
+fn holder_at(disc: Disc, address: Lba) -> Option<Entry>
     requires { Ready disc }
     ensures { result ≡ held disc.fragments (at_address disc address) }
 {
-    let records = disc.fragments;
-    let sought = search::halving(records, address);
-    sought.holder
+    search::halving(disc.fragments, address).holder
 }
 
 // Its number.
-pub(crate) fn at_address(disc: Disc, address: Lba) -> Found
+pub(crate) fn at_address(disc: Disc, address: Lba) -> Option<usize>
     requires { Ready disc }
     ensures { result ≡ at_address disc address }
 {
-    let holder = holder_at(disc, address);
-    if holder.number == 0 {
-        return Found::Nowhere;
-    }
-    Found::Number(holder.number)
+    holder_at(disc, address).map(|holder| holder.number)
 }
 
 // Where its recorded sectors end, and where its readable ones do; both 0 where there is none.
@@ -36,22 +29,29 @@ pub(crate) fn reach_around(disc: Disc, address: Lba) -> Reach
     requires { Ready disc }
     ensures { result ≡ reach_around disc address }
 {
-    let holder = holder_at(disc, address);
-    let f = holder.fragment;
-    let recorded = f.recorded_end();
-    let readable = disc.next_writable(holder.number, f);
-    Reach { recorded, readable }
+    match holder_at(disc, address) {
+        Some(holder) => Reach {
+            recorded: holder.fragment.recorded_end(),
+            readable: disc.next_writable(holder.number, holder.fragment),
+        },
+        None => Reach {
+            recorded: Lba(0),
+            readable: Lba(0),
+        },
+    }
 }
 
 // The incomplete fragment whose next writable address it is, with its number: no other than the one that the address lies in.
-pub(crate) fn writable_at(disc: Disc, address: Lba) -> Holder
+pub(crate) fn writable_at(disc: Disc, address: Lba) -> Option<Entry>
     requires { Ready disc }
     ensures { result ≡ held disc.fragments (writable_at disc address) }
 {
-    let holder = holder_at(disc, address);
-    let f = holder.fragment;
-    if f.takes(address, disc.pending_in(holder.number)) {
-        return holder;
+    let holder = holder_at(disc, address)?;
+    if holder
+        .fragment
+        .takes(address, disc.pending_in(holder.number))
+    {
+        return Some(holder);
     }
-    Holder::none()
+    None
 }

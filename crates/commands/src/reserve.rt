@@ -5,13 +5,13 @@ ghost use Rattle.disc.specs.Ready.{Ready};
 ghost use Rattle.disc.specs.Apply.{affected, decided};
 ghost use Rattle.commands.specs.Reserve.{Splitting, split_tail, reserve};
 
-use decisions::{Decision, Effect, Entry, Plan};
+use decisions::{Decision, Effect, Plan};
 use disc::Disc;
-use fragments::Last;
+use fragments::Entry;
 use protocol::{DriveRefusal, Reply};
 
 // The blank tail, the last record, as a reserved fragment of so many blocks, with a tail after it.
-fn split_tail(disc: Disc, last: Last, blocks: u32) -> Effect
+fn split_tail(disc: Disc, last: Entry, blocks: u32) -> Effect
     requires splitting { Splitting disc blocks }
     requires last_value { last ≡ last_of disc.fragments }
     ensures { affected disc result ≡ split_tail disc blocks }

@@ -7,9 +7,9 @@ ghost use Rattle.commands.specs.Flush.{flush, flush_entry};
 ghost use Rattle.commands.specs.Close.{has_incomplete_reserved, close_tail, close_session, finalize};
 
 use crate::flush;
-use decisions::{Decision, Entry};
+use decisions::Decision;
 use disc::Disc;
-use fragments::{Fragment, Last};
+use fragments::{Entry, Fragment};
 use protocol::{DriveRefusal, Reply};
 
 // Some reserved fragment is incomplete after the flush that leaves `flushed`.
@@ -24,7 +24,7 @@ fn stays_incomplete(disc: Disc, flushed: Entry) -> bool
 }
 
 // The last record that is left with the tail closed, after that flush, whose last record is `last`.
-fn last_kept(disc: Disc, flushed: Entry, last: Last) -> Last
+fn last_kept(disc: Disc, flushed: Entry, last: Entry) -> Entry
     requires ready { Ready disc }
     requires flushed_value { flushed ≡ flush_entry disc }
     requires last_value { last ≡ last_of (flush disc).fragments }
@@ -35,19 +35,13 @@ fn last_kept(disc: Disc, flushed: Entry, last: Last) -> Last
         return last;
     }
     if f.recorded != 0 {
-        let fragment = f.shortened();
-        return Last {
-            number: last.number,
-            fragment,
-        };
+        return Entry::new(last.number, f.shortened());
     }
     let number = last.number - 1;
     if number == 0 {
-        let fragment = Fragment::unused();
-        return Last { number, fragment };
+        return Entry::none();
     }
-    let fragment = flushed.over(number, disc.numbered(number));
-    Last { number, fragment }
+    Entry::new(number, flushed.over(number, disc.numbered(number)))
 }
 
 // CLOSE of the session (010).

@@ -7,9 +7,9 @@ ghost use Rattle.disc.specs.Apply.{affected, decided};
 ghost use Rattle.commands.specs.Write.{flush_others, flush_others_entry, gather, Gathering, write_to, Writable, write};
 
 use crate::{change, flush, holder};
-use decisions::{Decision, Effect, Entry, Plan, Transfer};
+use decisions::{Decision, Effect, Plan, Transfer};
 use disc::Disc;
-use fragments::{Fragment, Lba};
+use fragments::{Entry, Fragment, Lba};
 use protocol::{DriveRefusal, Reply};
 
 // The number beside a pending count: the fragment's, or 0 with none pending.
@@ -79,10 +79,8 @@ pub(crate) fn write(disc: Disc, address: Lba, sectors: u32) -> Decision
     if disc.finalized {
         return Decision::refused(DriveRefusal::WriteProtected);
     }
-    let holder = holder::writable_at(disc, address);
-    if holder.number == 0 {
+    let Some(holder) = holder::writable_at(disc, address) else {
         return Decision::refused(DriveRefusal::InvalidAddressForWrite);
-    }
-    let f = holder.fragment;
-    write_to(disc, address, sectors, holder.number, f)
+    };
+    write_to(disc, address, sectors, holder.number, holder.fragment)
 }

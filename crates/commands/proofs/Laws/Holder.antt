@@ -2,14 +2,16 @@
 use Prim.Native.Nat.{ℕ, suc, ◌-◌, ◌≤◌, ◌<◌}
 use mathlib.Core.Path.{◌≡◌, refl, sym, ◌∙◌, ap}
 use mathlib.Core.Bool.{true, false, not}
+use mathlib.Core.List.{List}
 use native.Mathlib.Omega.{arith}
 use borrow.Author.Tests.{le-leb, lt-ltb, eq-eqb, eqb-true, not-true}
 use lib.Dec.{eqb}
-use Rattle.commands.specs.Types.{Lba, Fragment, Disc, Option, Some, None}
+use Rattle.commands.specs.Types.{Lba, Fragment, Disc, Entry, Option, Some, None}
 use Rattle.fragments.specs.Address.{first_sector}
 use Rattle.fragments.specs.Fragment.{end, complete, first_unrecorded, takes}
-use Rattle.fragments.specs.List.{reach_found}
-use Rattle.search.specs.Search.{finds, halving, no_holder, held}
+use Rattle.fragments.specs.List.{record_numbered}
+use Rattle.fragments.specs.Entry.{entry}
+use Rattle.search.specs.Search.{finds, halving, held}
 use Rattle.disc.specs.Records.{pending_in, next_writable, used, numbered, at_address, writable_at}
 use Rattle.disc.specs.Rules.{at, Sound}
 use Rattle.disc.specs.Ready.{Ready}
@@ -44,20 +46,6 @@ module _ (d : Disc) (s : Sound d) where
         alone = λ gs same. seen_decides 8 d.fragments gs (halving a) same;
       }
 
-  -- number 0 has no pending sectors, so an unused record under it reaches nowhere
-  none-has-none : pending_in d 0 ≡ 0
-  none-has-none =
-      equal_cases d.pending 0 (λ z. none_pending d 0 z)
-      (λ z. other_pending d 0 (λ e. omega (arith, e, (s.owned z).number)))
-
-  pub held-reaches :
-      (x : Option ℕ)
-      → (let h = held d.fragments x in
-      record { recorded = first_sector (first_unrecorded h.fragment); readable = next_writable d h.number h.fragment }
-      ≡ reach_found d.fragments d.pending d.owner x)
-  held-reaches (Some n) = refl
-  held-reaches None = rw none-has-none
-
   -- a next writable address lies in its own fragment
   writable-at : (a : Lba) (n : ℕ) → Writable d a n → at_address d a ≡ Some n
   writable-at a n w =
@@ -70,67 +58,65 @@ module _ (d : Disc) (s : Sound d) where
       (and_both (le-leb (first_sector (at d i).start).0 a.0 (omega (arith, here, within.0))) (lt-ltb a.0 (first_sector (end (at d i))).0 (omega (arith, here, within.1))))
       ∙ ap Some (omega (arith, number))
 
--- its number, by what the search gives
+-- what the search gives: a fragment with its record, or none
+module _ (fs : List Fragment) where
+  pub held_some : (x : Option ℕ) (e : Entry) → held fs x ≡ Some e → (x ≡ Some e.number) × (e.fragment ≡ record_numbered fs e.number)
+  held_some (Some n) e h = let same : entry n (record_numbered fs n) ≡ e = cc in rw (← same) (refl, refl)
+  held_some None e h = let z : None ≡ Some e = h in cc
+
+  pub held_none : (x : Option ℕ) → held fs x ≡ None → x ≡ None
+  held_none (Some n) h = let z : Some (entry n (record_numbered fs n)) ≡ None = h in cc
+  held_none None h = refl
+
 module _ (d : Disc) (a : Lba) where
-  held_none : (x : Option ℕ) → ((n : ℕ) → x ≡ Some n → 1 ≤ n) → (held d.fragments x).number ≡ 0 → None ≡ x
-  held_none (Some n) some z = absurd (omega (arith, z, some n refl))
-  held_none None some z = refl
-
-  pub held-nowhere : (held d.fragments (at_address d a)).number ≡ 0 → None ≡ at_address d a
-  held-nowhere = held_none (at_address d a) (λ n e. (located d a.0 n e).from)
-
-  pub held-unwritable : (held d.fragments (writable_at d a)).number ≡ 0 → None ≡ writable_at d a
-  held-unwritable = held_none (writable_at d a) (λ n e. (writable_found d a n e).from)
-
-  pub held_number : (x : Option ℕ) → ((held d.fragments x).number ≡ 0 → ⊥) → Some (held d.fragments x).number ≡ x
-  held_number (Some n) z = refl
-  held_number None z = absurd (z refl)
-
-  -- the record that comes with it
-  pub held-record :
-      (x : Option ℕ) → ((held d.fragments x).number ≡ 0 → ⊥) → (held d.fragments x).fragment ≡ numbered d (held d.fragments x).number
-  held-record (Some n) z = refl
-  held-record None z = absurd (z refl)
-
-  pub held-writable :
-      (x : Option ℕ) → writable_at d a ≡ x → ((held d.fragments x).number ≡ 0 → ⊥) → Writable d a (held d.fragments x).number
-  held-writable (Some n) e z = writable_found d a n e
-  held-writable None e z = absurd (z refl)
+  -- where a WRITE goes, its next writable address is named
+  pub held-writable : (e : Entry) → held d.fragments (writable_at d a) ≡ Some e → Writable d a e.number
+  held-writable e h = writable_found d a e.number (held_some d.fragments (writable_at d a) e h).0
 
   -- a WRITE goes to the one that the address lies in, where that takes it, and else nowhere
   module _ (r : Ready d) where
-    writes-here :
-        (x : Option ℕ) → at_address d a ≡ x
-        → (let h = held d.fragments x in takes a (pending_in d h.number) h.fragment ≡ true → x ≡ writable_at d a)
-    writes-here (Some n) e t =
+    takes-here :
+        (n : ℕ) → at_address d a ≡ Some n → takes a (pending_in d n) (numbered d n) ≡ true → writable_at d a ≡ Some n
+    takes-here n e t =
         let w = located d a.0 n e in
         let f = numbered d n in
-        sym
-        (takes-found d a n r
+        takes-found d a n r
         (record {
           from = w.from;
           listed = w.listed;
           incomplete = not-true _ (and_left (not (complete f)) (eqb a.0 (next_writable d n f).0) t);
           here = eqb-true _ _ (and_right (not (complete f)) (eqb a.0 (next_writable d n f).0) t);
-        }))
-    writes-here None e t = absurd (contradiction t refl)
+        })
+
+    -- a fragment that takes the address has it
+    taken : (n : ℕ) → writable_at d a ≡ Some n → (at_address d a ≡ Some n) × (takes a (pending_in d n) (numbered d n) ≡ true)
+    taken n e =
+        let w = writable_found d a n e in
+        (writable-at d (sound-rules d r.sound) a n w,
+        and_both {a = not (complete (numbered d n))} (ap not w.incomplete) (eq-eqb _ _ w.here))
+
+    pub held-takes :
+        (e : Entry) → held d.fragments (at_address d a) ≡ Some e → takes a (pending_in d e.number) e.fragment ≡ true
+        → Some e ≡ held d.fragments (writable_at d a)
+    held-takes e h t =
+        let x = held_some d.fragments (at_address d a) e h in
+        rw (takes-here e.number x.0 (rw x.1 at t)) (ap (λ f. Some (entry e.number f)) x.1)
 
     writes-nowhere :
         (x : Option ℕ) → writable_at d a ≡ x
-        → (let h = held d.fragments (at_address d a) in takes a (pending_in d h.number) h.fragment ≡ false → None ≡ x)
-    writes-nowhere (Some n) e t =
-        let w = writable_found d a n e in
-        let same = writable-at d (sound-rules d r.sound) a n w in
-        let u : takes a (pending_in d n) (numbered d n) ≡ false = rw same at t in
-        absurd (contradiction (and_both {a = not (complete (numbered d n))} (ap not w.incomplete) (eq-eqb _ _ w.here)) u)
-    writes-nowhere None e t = refl
-
-    pub held-takes :
-        (let h = held d.fragments (at_address d a) in
-        takes a (pending_in d h.number) h.fragment ≡ true → h ≡ held d.fragments (writable_at d a))
-    held-takes t = ap (held d.fragments) (writes-here (at_address d a) refl t)
+        → ((n : ℕ) → at_address d a ≡ Some n → takes a (pending_in d n) (numbered d n) ≡ false) → None ≡ held d.fragments x
+    writes-nowhere (Some n) e f = let t = taken n e in absurd (contradiction t.1 (f n t.0))
+    writes-nowhere None e f = refl
 
     pub held-refuses :
-        (let h = held d.fragments (at_address d a) in
-        takes a (pending_in d h.number) h.fragment ≡ false → no_holder ≡ held d.fragments (writable_at d a))
-    held-refuses t = ap (held d.fragments) (writes-nowhere (writable_at d a) refl t)
+        (e : Entry) → held d.fragments (at_address d a) ≡ Some e → takes a (pending_in d e.number) e.fragment ≡ false
+        → None ≡ held d.fragments (writable_at d a)
+    held-refuses e h t =
+        let x = held_some d.fragments (at_address d a) e h in
+        writes-nowhere (writable_at d a) refl
+        (λ n at. let same : e.number ≡ n = let z : Some e.number ≡ Some n = sym x.0 ∙ at in cc in rw (← same) (rw x.1 at t))
+
+    pub held-nowhere : held d.fragments (at_address d a) ≡ None → None ≡ held d.fragments (writable_at d a)
+    held-nowhere h =
+        writes-nowhere (writable_at d a) refl
+        (λ n at. let z : None ≡ Some n = sym (held_none d.fragments (at_address d a) h) ∙ at in cc)

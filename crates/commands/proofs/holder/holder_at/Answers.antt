@@ -7,5 +7,5 @@ use Rattle.commands.proofs.holder.holder_at.Goals as goal
 pub returns : goal.returns
 returns c =
     let d = c.args.disc in
-    ap (λ (s : Sought). s.holder) c.halving-sought.ensures
+    ap (λ (s : Sought). s.holder) c.halving.ensures
     ∙ holder-found d (sound-rules d c.requires.sound) c.args.address

@@ -1,23 +1,20 @@
-use mathlib.Core.Path.{◌≡◌, sym, ◌∙◌}
-use mathlib.Core.Bool.{true, false}
-use Rattle.fragments.specs.Fragment.{takes}
-use Rattle.search.specs.Search.{held}
-use Rattle.disc.specs.Records.{pending_in, at_address}
-use Rattle.commands.proofs.Laws.Holder.{held-takes, held-refuses}
+use mathlib.Core.Path.{sym, ◌∙◌}
+use Rattle.commands.proofs.Laws.Holder.{held-takes, held-refuses, held-nowhere}
 use Rattle.commands.proofs.holder.writable_at.Goals as goal
+
+pub returns-in_err-holder : goal.returns-in_err-holder
+returns-in_err-holder c =
+    let h = sym c.holder_at.ensures ∙ c.in_err-holder.was in
+    c.from_residual.ensures ∙ held-nowhere c.args.disc c.args.address c.requires h
 
 pub returns-then-takes : goal.returns-then-takes
 returns-then-takes c =
-    let d = c.args.disc in
-    let a = c.args.address in
-    let h = held d.fragments (at_address d a) in
-    let t : takes a (pending_in d h.number) h.fragment ≡ true = rw c.holder_at-holder.ensures at (sym (rw c.pending_in.ensures at c.takes.ensures) ∙ c.if-takes.true) in
-    c.holder_at-holder.ensures ∙ held-takes d a c.requires t
+    let h = sym c.holder_at.ensures ∙ c.in_ok-holder.was in
+    let t = sym (rw c.pending_in.ensures at c.takes.ensures) ∙ c.if-takes.true in
+    held-takes c.args.disc c.args.address c.requires c.in_ok-holder.holder h t
 
 pub returns : goal.returns
 returns c =
-    let d = c.args.disc in
-    let a = c.args.address in
-    let h = held d.fragments (at_address d a) in
-    let t : takes a (pending_in d h.number) h.fragment ≡ false = rw c.holder_at-holder.ensures at (sym (rw c.pending_in.ensures at c.takes.ensures) ∙ c.if-takes.false) in
-    c.none.ensures ∙ held-refuses d a c.requires t
+    let h = sym c.holder_at.ensures ∙ c.in_ok-holder.was in
+    let t = sym (rw c.pending_in.ensures at c.takes.ensures) ∙ c.if-takes.false in
+    held-refuses c.args.disc c.args.address c.requires c.in_ok-holder.holder h t

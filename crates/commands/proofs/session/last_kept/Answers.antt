@@ -28,7 +28,7 @@ returns-then-f-ne0 c =
     let p = flush_pending d in
     let l : c.args.last ≡ last_of e.fragments = c.requires.last_value in
     let t : has_tail e ≡ true = rw l at (sym c.is_tail.ensures ∙ c.if-not-is_tail.false) in
-    rw (c.shortened-fragment.ensures, l) (kept-last-written e s p t (rw l at c.if-f-ne0.true))
+    rw (c.new.ensures, c.shortened.ensures, l) (kept-last-written e s p t (rw l at c.if-f-ne0.true))
 
 pub overflow_sub-number : goal.overflow_sub-number
 overflow_sub-number c =
@@ -51,7 +51,7 @@ returns-then-number-eq0 c =
     let t : has_tail e ≡ true = rw l at (sym c.is_tail.ensures ∙ c.if-not-is_tail.false) in
     let z : (last_record e).recorded ≡ 0 = rw l at c.if-f-ne0.false in
     let n : used e - 1 ≡ 0 = rw l at c.if-number-eq0.true in
-    rw (c.unused-fragment.ensures, l, n) (kept-last-none e s p t z n)
+    c.none.ensures ∙ kept-last-none e s p t z n
 
 pub returns : goal.returns
 returns c =
@@ -64,5 +64,5 @@ returns c =
     let t : has_tail e ≡ true = rw l at (sym c.is_tail.ensures ∙ c.if-not-is_tail.false) in
     let z : (last_record e).recorded ≡ 0 = rw l at c.if-f-ne0.false in
     let n : used e - 1 ≡ 0 → ⊥ = rw l at c.if-number-eq0.false in
-    let f = rw (c.numbered.ensures, c.requires.flushed_value, l) at c.over-fragment.ensures in
-    rw (f ∙ flush-numbered d r (used e - 1) (omega arith), l) (kept-last-before e s p t z n)
+    let f = rw (c.numbered.ensures, c.requires.flushed_value, l) at c.over.ensures in
+    rw (c.new-2.ensures, f ∙ flush-numbered d r (used e - 1) (omega arith), l) (kept-last-before e s p t z n)

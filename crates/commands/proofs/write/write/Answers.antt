@@ -1,14 +1,12 @@
-use mathlib.Core.Path.{◌≡◌, refl, sym, ◌∙◌, ap}
+use mathlib.Core.Path.{sym, ◌∙◌, ap}
 use borrow.Author.Tests.{eq-eqb, ne_eqb}
 use lib.Dec.{eqb}
 use Rattle.fragments.proofs.Laws.Bool.{cond_no}
-use Rattle.search.specs.Search.{held}
 use Rattle.disc.specs.Records.{writable_at}
 use Rattle.disc.specs.Verdict.{accept}
 use Rattle.disc.proofs.Laws.Apply.{refused_verdict, unchanged_verdict}
-use Rattle.commands.specs.Types.{Some, None, Entry}
 use Rattle.commands.specs.Write.{write, write_found, write_to}
-use Rattle.commands.proofs.Laws.Holder.{held-unwritable, held_number, held-record, held-writable}
+use Rattle.commands.proofs.Laws.Holder.{held_some, held_none, held-writable}
 use Rattle.commands.proofs.write.write.Goals as goal
 
 pub returns-then-sectors-eq0 : goal.returns-then-sectors-eq0
@@ -19,21 +17,23 @@ pub returns-then-disc : goal.returns-then-disc
 unfolding write write_found accept
 returns-then-disc c = simp (c.refused.ensures, refused_verdict, c.if-disc.true, ne_eqb _ _ c.if-sectors-eq0.false)
 
-pub returns-then-holder-eq0 : goal.returns-then-holder-eq0
+pub returns-in_default : goal.returns-in_default
 unfolding write write_found accept
-returns-then-holder-eq0 c =
+returns-in_default c =
     let d = c.args.disc in
-    let a = c.args.address in
-    let none : None ≡ writable_at d a = held-unwritable d a (rw c.writable_at-holder.ensures at c.if-holder-eq0.true) in
-    simp (c.refused-then-holder-eq0.ensures, refused_verdict, ← none, c.if-disc.false, ne_eqb _ _ c.if-sectors-eq0.false)
+    let none = held_none d.fragments (writable_at d c.args.address) (sym c.writable_at.ensures ∙ c.in_default.is) in
+    simp (c.refused-in_default.ensures, refused_verdict, none, c.if-disc.false, ne_eqb _ _ c.if-sectors-eq0.false)
 
 pub write_to-requires : goal.write_to-requires
 write_to-requires c =
     let d = c.args.disc in
     let a = c.args.address in
-    let h = c.writable_at-holder.ensures in
-    let some = rw h at c.if-holder-eq0.false in
-    record { ready = c.requires; writable = rw h (held-writable d a (writable_at d a) refl some); f_value = rw h (held-record d a (writable_at d a) some) }
+    let h = sym c.writable_at.ensures ∙ c.in-Some.is in
+    record {
+      ready = c.requires;
+      writable = held-writable d a _ h;
+      f_value = (held_some d.fragments (writable_at d a) _ h).1;
+    }
 
 pub returns : goal.returns
 unfolding write write_found accept
@@ -41,11 +41,9 @@ returns c =
     let d = c.args.disc in
     let a = c.args.address in
     let n = c.args.sectors in
-    let h = c.writable_at-holder.ensures in
-    let found : Some (held d.fragments (writable_at d a)).number ≡ writable_at d a = held_number d a (writable_at d a) (rw h at c.if-holder-eq0.false) in
+    let found = (held_some d.fragments (writable_at d a) _ (sym c.writable_at.ensures ∙ c.in-Some.is)).0 in
     c.write_to.ensures
-    ∙ (ap (λ (x : Holder). write_to d a n x.number) h
-    ∙ (ap (write_found d a n) found
+    ∙ (ap (write_found d a n) (sym found)
     ∙ sym
     (cond_no (eqb n 0) _ _ (ne_eqb _ _ c.if-sectors-eq0.false)
-    ∙ cond_no d.finalized _ _ c.if-disc.false)))
+    ∙ cond_no d.finalized _ _ c.if-disc.false))

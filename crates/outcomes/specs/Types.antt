@@ -13,8 +13,8 @@ pub use Rattle.fragments.specs.declared.fragment.Kind.{Kind}
 pub use Rattle.fragments.specs.declared.fragment.Kind.TheVariants.{Reserved, Appended}
 pub use Rattle.fragments.specs.declared.fragment.Fragment.{Fragment}
 pub use Rattle.disc.specs.declared.state.Disc.{Disc}
-pub use Rattle.fragments.specs.declared.list.Found.{Found}
-pub use Rattle.fragments.specs.declared.list.Found.TheVariants.{Number, Nowhere}
+pub use Rattle.std.specs.Prelude.{Option}
+pub use Rattle.std.specs.Prelude.{Some, None}
 pub use Rattle.protocol.specs.declared.reply.Reply.{Reply}
 pub use Rattle.decisions.specs.declared.plan.Flush.{Flush}
 pub use Rattle.decisions.specs.declared.plan.Flush.TheVariants.{Skip, Record}

@@ -6,7 +6,7 @@ use mathlib.Core.Bool.{true}
 use native.Mathlib.Omega.{arith}
 use borrow.Author.Tests.{ne_eqb, le-ltb, ltb-false}
 use lib.Dec.{eqb, ltb}
-use Rattle.outcomes.specs.Types.{Lba, Disc, Found, Number, Nowhere, Verdict, Accepted, Drive, WriteProtected, EndOfUserArea, AddressOutOfRange, BlankCheck, Skip}
+use Rattle.outcomes.specs.Types.{Lba, Disc, Option, Some, None, Verdict, Accepted, Drive, WriteProtected, EndOfUserArea, AddressOutOfRange, BlankCheck, Skip}
 use Rattle.fragments.specs.Address.{first_sector, lba, sectors_in}
 use Rattle.fragments.specs.Fragment.{end}
 use Rattle.disc.specs.Records.{pending_in, numbered, writable_at, is_readable}
@@ -44,13 +44,13 @@ takes-accepted d a n r t =
     (λ h. absurd (contradiction h (le-ltb _ _ t.fits)))
     (λ h. refl))))
 
-found-takes : (d : Disc) (a : Lba) (n : ℕ) (w : Found) → writable_at d a ≡ w → (write_found d a n w).answer ≡ Accepted → Takes d a n
+found-takes : (d : Disc) (a : Lba) (n : ℕ) (w : Option ℕ) → writable_at d a ≡ w → (write_found d a n w).answer ≡ Accepted → Takes d a n
 unfolding write_found write_to accept accepted refuse
-found-takes d a n (Number number) e h =
+found-takes d a n (Some number) e h =
     by_cases (ltb (first_sector (end (numbered d number))).0 (a.0 + n))
     (λ t. absurd (let k : Drive EndOfUserArea ≡ Accepted = rw t at h in let z : ◌≡◌ {A = ℕ} 0 1 = cc in omega arith))
     (λ t. record { number = number; here = writable_found d a number e; fits = ltb-false _ _ t })
-found-takes d a n Nowhere e h = absurd (let z : ◌≡◌ {A = ℕ} 0 1 = cc in omega arith)
+found-takes d a n None e h = absurd (let z : ◌≡◌ {A = ℕ} 0 1 = cc in omega arith)
 
 pub write-takes : (d : Disc) (a : Lba) (n : ℕ) → (n ≡ 0 → ⊥) → (write d a n).answer ≡ Accepted → Takes d a n
 unfolding write refuse
@@ -109,14 +109,14 @@ gathered_most d number n r =
     (λ e. rw e (omega (arith, s.few)))
     (λ e. rw e (omega (arith, flush_count_most d)))
 
-found_most : (d : Disc) (a : Lba) (n : ℕ) → Ready d → (w : Found) → writable_at d a ≡ w → (write_found d a n w).recorded ≤ 1 + n / 16
+found_most : (d : Disc) (a : Lba) (n : ℕ) → Ready d → (w : Option ℕ) → writable_at d a ≡ w → (write_found d a n w).recorded ≤ 1 + n / 16
 unfolding write_found write_to accept accepted refuse
-found_most d a n r (Number number) e =
+found_most d a n r (Some number) e =
     let w = writable_found d a number e in
     cond_cases (λ (v : Verdict). v.recorded ≤ 1 + n / 16) (ltb (first_sector (end (numbered d number))).0 (a.0 + n)) _ _
     (λ h. omega arith)
     (λ h. rw (write_count d number n r w.from (place d a number r w).slot) (gathered_most d number n r))
-found_most d a n r Nowhere e = omega arith
+found_most d a n r None e = omega arith
 
 pub write_most : (d : Disc) (a : Lba) (n : ℕ) → Ready d → (write d a n).recorded ≤ 1 + n / 16
 unfolding write accept accepted refuse

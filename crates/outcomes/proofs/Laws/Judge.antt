@@ -8,7 +8,7 @@ use borrow.Author.Tests.{not-false, eq-eqb, le-leb, ne_eqb}
 use native.Mathlib.Nat.{le_refl}
 use lib.ListN.{length, replicate, length-append}
 use lib.Dec.{eqb}
-use Rattle.outcomes.specs.Types.{Lba, Disc, Verdict, Found, Number, Nowhere, Command, TestUnitReady, RequestSense, Inquiry, ReadCapacity, Read, Write, SynchronizeCache, ReserveTrack, CloseTrackSession, GetConfiguration, ReadDiscInformation, ReadTrackInformation, Unlisted, InvalidOperationCode, InvalidFieldInCommand, AddressOutOfRange, BlankCheck, DriveRefusal, LinkRefusal, Accepted, Link, Drive, CommandBlockLength, MediumSize, UnsoundState, TransferLength, WriteProtected, InvalidAddressForWrite, IncompleteTrackInSession, EmptyTrack, NoMoreReservations, EndOfUserArea, Send}
+use Rattle.outcomes.specs.Types.{Lba, Disc, Verdict, Option, Some, None, Command, TestUnitReady, RequestSense, Inquiry, ReadCapacity, Read, Write, SynchronizeCache, ReserveTrack, CloseTrackSession, GetConfiguration, ReadDiscInformation, ReadTrackInformation, Unlisted, InvalidOperationCode, InvalidFieldInCommand, AddressOutOfRange, BlankCheck, DriveRefusal, LinkRefusal, Accepted, Link, Drive, CommandBlockLength, MediumSize, UnsoundState, TransferLength, WriteProtected, InvalidAddressForWrite, IncompleteTrackInSession, EmptyTrack, NoMoreReservations, EndOfUserArea, Send}
 use Rattle.fragments.specs.Address.{lba}
 use Rattle.protocol.specs.Answer.{allowed_sense, no_sense, refusal_sense, is_refusal_sense}
 use Rattle.protocol.specs.Command.{decode}
@@ -87,10 +87,10 @@ module _ (d : Disc) (t n m : ℕ) (r : Ready d) where
   unfolding track_verdict track_bytes reply_room
   track-report k = report-outcome d (ReadTrackInformation t n m) (track_bytes (track_report d k)) m (le_refl _) r
 
-  found-report : (w : Found) → Outcome d (ReadTrackInformation t n m) (track_found d m w)
+  found-report : (w : Option ℕ) → Outcome d (ReadTrackInformation t n m) (track_found d m w)
   unfolding track_found
-  found-report (Number k) = track-report k
-  found-report Nowhere = refused AddressOutOfRange
+  found-report (Some k) = track-report k
+  found-report None = refused AddressOutOfRange
 
   track-outcome : Outcome d (ReadTrackInformation t n m) (read_track_information d t n m)
   unfolding read_track_information track_numbered

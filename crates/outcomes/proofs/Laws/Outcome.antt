@@ -6,7 +6,7 @@ use native.Mathlib.Omega.{arith}
 use borrow.Author.Tests.{eq-eqb, eqb-false, ltb-false, not-false}
 use lib.Dec.{eqb, ltb}
 use lib.ListN.{length, set}
-use Rattle.outcomes.specs.Types.{Sense, Accepted, Drive, Lba, Kind, Reserved, Appended, Disc, Found, Number, Nowhere, Reply, Plan, Verdict, DriveRefusal, LinkRefusal, Link, Nothing, Command, Write, WriteProtected, InvalidFieldInCommand, InvalidAddressForWrite, IncompleteTrackInSession, EmptyTrack, NoMoreReservations, EndOfUserArea, Skip, Read, Gather, Fill}
+use Rattle.outcomes.specs.Types.{Sense, Accepted, Drive, Lba, Kind, Reserved, Appended, Disc, Option, Some, None, Reply, Plan, Verdict, DriveRefusal, LinkRefusal, Link, Nothing, Command, Write, WriteProtected, InvalidFieldInCommand, InvalidAddressForWrite, IncompleteTrackInSession, EmptyTrack, NoMoreReservations, EndOfUserArea, Skip, Read, Gather, Fill}
 use Rattle.fragments.specs.Address.{first_sector, sectors_in}
 use Rattle.protocol.specs.Answer.{no_sense, refusal_sense}
 use Rattle.fragments.specs.Fragment.{end, complete, next_fragment_start, next_session_start, first_unrecorded, shortened_record}
@@ -113,9 +113,9 @@ write-onward d a number n r w h =
     (λ x t. rw (blocks, ap (λ g. (first_unrecorded g).0) f) at t)
     (λ x t. rw (blocks, ap (λ g. (first_unrecorded g).0) f) t) grown))
 
-found-outcome : (d : Disc) (a : Lba) (n : ℕ) → Ready d → (w : Found) → writable_at d a ≡ w → Outcome d (Write a n) (write_found d a n w)
+found-outcome : (d : Disc) (a : Lba) (n : ℕ) → Ready d → (w : Option ℕ) → writable_at d a ≡ w → Outcome d (Write a n) (write_found d a n w)
 unfolding write_found write_to
-found-outcome d a n r (Number number) e =
+found-outcome d a n r (Some number) e =
     let w = writable_found d a number e in
     cond_cases (Outcome d (Write a n)) (ltb (first_sector (end (numbered d number))).0 (a.0 + n)) _ _ (λ h. refused EndOfUserArea)
     (λ h.
@@ -124,7 +124,7 @@ found-outcome d a n r (Number number) e =
     (gather_capacity d number n)
     (write-onward d a number n r w (ltb-false _ _ h)) (placed_gather d a number n r w (ltb-false _ _ h))
     (pending-gathered d number n r w.from (omega (arith, w.listed, used-limit d r))) (no_room (Write a n)))
-found-outcome d a n r Nowhere e = refused InvalidAddressForWrite
+found-outcome d a n r None e = refused InvalidAddressForWrite
 
 pub write-outcome : (d : Disc) (a : Lba) (n : ℕ) → Ready d → Outcome d (Write a n) (write d a n)
 unfolding write

@@ -1,10 +1,10 @@
 -- The search for the fragment that an address lies in, computed: what it finds, and which records it looks at on the way.
 use Rattle.std.specs.Prelude.{ℕ, zero, suc, ◌+◌, ◌-◌, ◌*◌, ◌≤◌, ◌≡◌, refl, true, false, List, [], ◌∷◌, ◌++◌, map, replicate}
-use Rattle.examples.specs.Types.{Lba, Fragment, Appended, Reserved, Disc, Left, Right, Here}
+use Rattle.examples.specs.Types.{Lba, Fragment, Appended, Reserved, Option, Some, None, Entry, Disc, Left, Right, Here}
 use Rattle.fragments.specs.Address.{lba}
 use Rattle.fragments.specs.Fragment.{fragment, unused_record}
 use Rattle.fragments.specs.List.{limit, listed, every, holder_of}
-use Rattle.search.specs.Search.{step, finds, seen, SameAt, sought, no_holder, halve, enough, halving, held}
+use Rattle.search.specs.Search.{step, finds, seen, SameAt, sought, halve, enough, halving, held}
 use Rattle.disc.specs.Sound.{used_first, first_at_zero, follows_from, in_order, ends_within, recorded_within, zeroed_within, incomplete_last, tail_last, tail_or_full, pending_named, finalized_complete, sound}
 use Rattle.disc.proofs.Laws.Rules.{sound-rules}
 use Rattle.commands.specs.Holder.{EightLooks}
@@ -22,15 +22,24 @@ abbrev three : List Fragment
 three =
     fragment 1 0 2 2 0 Reserved ∷ fragment 1 3 2 2 0 Appended ∷ fragment 2 133 167 0 0 Appended ∷ replicate (limit - 3) unused_record
 
+-- the number of what is found, and its record; 0 and an unused record where nothing is
+abbrev number_of : Option Entry → ℕ
+number_of (Some e) = e.number
+number_of None = 0
+
+abbrev record_of : Option Entry → Fragment
+record_of (Some e) = e.fragment
+record_of None = unused_record
+
 abbrev number : List Fragment → ℕ → ℕ
-number fs a = (finds fs (halving (lba a))).number
+number fs a = number_of (finds fs (halving (lba a)))
 
 -- first and last sectors, the dividing block, Closure and Intro, the end of the disc and addresses past it; the record comes with its number
 pub few_records :
     (map (number three) (0 ∷ 31 ∷ 32 ∷ 47 ∷ 48 ∷ 79 ∷ 80 ∷ 1104 ∷ 2127 ∷ 2128 ∷ 4799 ∷ 4800 ∷ 0xFFFFFFFF ∷ [])
     ≡ (1 ∷ 1 ∷ 0 ∷ 0 ∷ 2 ∷ 2 ∷ 0 ∷ 0 ∷ 0 ∷ 3 ∷ 3 ∷ 0 ∷ 0 ∷ []))
-    × (map (λ a. (finds three (halving (lba a))).fragment.start.0) (0 ∷ 48 ∷ 80 ∷ 4799 ∷ []) ≡ (0 ∷ 3 ∷ 0 ∷ 133 ∷ []))
-    × (map (λ a. (finds three (halving (lba a))).fragment.length) (0 ∷ 48 ∷ 80 ∷ 4799 ∷ []) ≡ (2 ∷ 2 ∷ 0 ∷ 167 ∷ []))
+    × (map (λ a. (record_of (finds three (halving (lba a)))).start.0) (0 ∷ 48 ∷ 80 ∷ 4799 ∷ []) ≡ (0 ∷ 3 ∷ 0 ∷ 133 ∷ []))
+    × (map (λ a. (record_of (finds three (halving (lba a)))).length) (0 ∷ 48 ∷ 80 ∷ 4799 ∷ []) ≡ (2 ∷ 2 ∷ 0 ∷ 167 ∷ []))
     × (seen three (halving (lba 0)) ≡ (80 ∷ 40 ∷ 20 ∷ 10 ∷ 5 ∷ 2 ∷ 1 ∷ 0 ∷ []))
     × (seen three (halving (lba 80)) ≡ (80 ∷ 40 ∷ 20 ∷ 10 ∷ 5 ∷ 2 ∷ 1 ∷ []))
 unfolding finds seen halve
@@ -51,9 +60,9 @@ every_record = (refl, refl)
 -- the last one is found by the seventh look, and an address past its end is found nowhere after seven; the first one needs eight
 pub looks_needed :
     (seen full_of_tail (halving (lba (16 * last_start))) ≡ (80 ∷ 120 ∷ 140 ∷ 150 ∷ 155 ∷ 158 ∷ 159 ∷ []))
-    × (sought full_of_tail (halving (lba (16 * (last_start + 130)))) ≡ record { holder = no_holder; looks = 7 })
+    × (sought full_of_tail (halving (lba (16 * (last_start + 130)))) ≡ record { holder = None; looks = 7 })
     × (seen full_of_tail (halving (lba 0)) ≡ (80 ∷ 40 ∷ 20 ∷ 10 ∷ 5 ∷ 2 ∷ 1 ∷ 0 ∷ []))
-    × ((finds full_of_tail (halve 8 (lba 0) 0 limit)).number ≡ 1) × ((finds full_of_tail (halve 7 (lba 0) 0 limit)).number ≡ 0)
+    × (number_of (finds full_of_tail (halve 8 (lba 0) 0 limit)) ≡ 1) × (number_of (finds full_of_tail (halve 7 (lba 0) 0 limit)) ≡ 0)
     × (enough ≡ 8)
 unfolding finds seen halve column
 looks_needed = (refl, refl, refl, refl, refl, refl)

@@ -7,9 +7,9 @@ ghost use Rattle.disc.specs.Apply.{with_entry, with_pending, settled, affected, 
 ghost use Rattle.fragments.specs.List.{limit};
 ghost use Rattle.drive.specs.Bytes.{splice};
 
-use decisions::{Change, Effect, Entry};
+use decisions::{Change, Effect};
 use disc::Disc;
-use fragments::{Block, Fragment, Kind};
+use fragments::{Block, Entry, Fragment, Kind};
 use protocol::Sense;
 
 // Words before the records, and words of a record.

@@ -1,6 +1,6 @@
 -- The texts of the printed lines, as bytes.
 use Rattle.std.specs.Prelude.{ℕ, zero, suc, ◌+◌, ◌-◌, ◌/◌, ◌%◌, cond, List, [], ◌∷◌, ◌++◌, nat_lt}
-use Rattle.playback.specs.Types.{Sense, TailNext, Address, NoTail}
+use Rattle.playback.specs.Types.{Sense, Lba, Option, Some, None}
 
 -- the sign of a hex digit: 0 to 9, then A to F
 abbrev pub digit : ℕ → ℕ
@@ -20,9 +20,9 @@ abbrev pub hex : ℕ → List ℕ
 hex b = digit (b / 0x10) ∷ digit (b % 0x10) ∷ []
 
 -- the tail's next writable address, or -
-unfoldable pub next_text : TailNext → List ℕ
-next_text (Address a) = decimal a.0
-next_text NoTail = 0x2D ∷ []
+unfoldable pub next_text : Option Lba → List ℕ
+next_text (Some a) = decimal a.0
+next_text None = 0x2D ∷ []
 
 -- words with a space between them, and the end of the line
 unfoldable pub words : List ℕ → List (List ℕ) → List ℕ
@@ -30,7 +30,7 @@ words w [] = w ++ (0x0A ∷ [])
 words w (v ∷ vs) = w ++ (0x20 ∷ words v vs)
 
 -- a record's line: n op key asc ascq next
-abbrev pub record_text : ℕ → ℕ → Sense → TailNext → List ℕ
+abbrev pub record_text : ℕ → ℕ → Sense → Option Lba → List ℕ
 record_text n op s next =
     words (decimal n) (hex op ∷ decimal s.key ∷ hex s.asc ∷ hex s.ascq ∷ next_text next ∷ [])
 

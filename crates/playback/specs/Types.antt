@@ -1,8 +1,7 @@
 -- The types of src/ by their short names, and those of the crates below.
-pub use Rattle.fragments.specs.declared.address.Lba.{Lba}
 pub use Rattle.protocol.specs.declared.answer.Sense.{Sense}
-pub use Rattle.disc.specs.declared.state.TailNext.{TailNext}
-pub use Rattle.disc.specs.declared.state.TailNext.TheVariants.{Address, NoTail}
+pub use Rattle.std.specs.Prelude.{Option, Some, None}
+pub use Rattle.fragments.specs.declared.address.Lba.{Lba}
 pub use Rattle.playback.specs.declared.line.Line.{Line}
 pub use Rattle.disc.specs.declared.state.Disc.{Disc}
 pub use Rattle.trace.specs.declared.record.Reading.{Reading}

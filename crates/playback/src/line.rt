@@ -3,7 +3,7 @@ ghost use Rattle.std.specs.Prelude.{◌≡◌, ◌/◌, ◌<◌, [], ◌∷◌};
 ghost use Rattle.playback.specs.Line.{line_of, push, append, Printed};
 ghost use Rattle.playback.specs.Text.{digit, decimal, hex, next_text, record_text, bad_text, cut_text};
 
-use disc::TailNext;
+use fragments::Lba;
 use protocol::Sense;
 
 // A line's bytes, zeros after them, and how many there are.
@@ -74,17 +74,17 @@ impl Line {
     }
 
     // The tail's next writable address, or that there is no tail.
-    fn next(self, next: TailNext) -> Line
+    fn next(self, next: Option<Lba>) -> Line
         ensures { result ≡ append self (next_text next) }
     {
         match next {
-            TailNext::Address(address) => self.decimal(address.0),
-            TailNext::NoTail => self.push(b'-'),
+            Some(address) => self.decimal(address.0),
+            None => self.push(b'-'),
         }
     }
 
     // A record's line: its number, the opcode, and the sense and the tail's next writable address after it.
-    pub fn of_record(number: u64, opcode: u8, sense: Sense, next: TailNext) -> Line
+    pub fn of_record(number: u64, opcode: u8, sense: Sense, next: Option<Lba>) -> Line
         ensures { Printed (record_text number opcode sense next) result }
     {
         let command = Line::new().decimal(number).space().hex(opcode).space();

@@ -1,7 +1,7 @@
 -- Digits: how many there are, and that more places change nothing.
 use Rattle.std.proofs.Common.{◌≡◌, ℕ, zero, suc, ◌+◌, ◌/◌, ◌%◌, ◌^◌, ◌<◌, ◌≤◌, Bool, true, false, ltb, List, [], ◌∷◌, ◌++◌, length, refl, ap, arith, length-append, le-ltb, lt-ltb}
 use native.Mathlib.Nat.{pow-succ'}
-use Rattle.playback.specs.Types.{Sense, TailNext, Address, NoTail}
+use Rattle.playback.specs.Types.{Sense, Lba, Option, Some, None}
 use Rattle.playback.specs.Text.{digit, digits, decimal, hex, next_text, words, record_text}
 
 by_cases {ℓ} : {P : Type ℓ} (b : Bool) → (b ≡ true → P) → (b ≡ false → P) → P
@@ -38,10 +38,10 @@ digits-length (suc k) n =
 decimal-length : (n : ℕ) → length (decimal n) ≤ 20
 decimal-length n = digits-length 20 n
 
-next_length : (next : TailNext) → length (next_text next) ≤ 20
+next_length : (next : Option Lba) → length (next_text next) ≤ 20
 unfolding next_text
-next_length (Address a) = decimal-length a.0
-next_length NoTail = omega arith
+next_length (Some a) = decimal-length a.0
+next_length None = omega arith
 
 words_last_length : (w : List ℕ) → length (words w []) ≡ length w + 1
 unfolding words
@@ -52,7 +52,7 @@ unfolding words
 words_more_length w v vs = length-append w (0x20 ∷ words v vs)
 
 -- every line fits
-pub record_fits_lem : (n op : ℕ) (s : Sense) (next : TailNext) → length (record_text n op s next) ≤ 80
+pub record_fits_lem : (n op : ℕ) (s : Sense) (next : Option Lba) → length (record_text n op s next) ≤ 80
 record_fits_lem n op s next =
     let key = decimal s.key in
     let asc = hex s.asc in

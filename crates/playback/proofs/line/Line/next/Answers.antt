@@ -2,10 +2,10 @@ use Rattle.playback.specs.Text.{next_text}
 use Rattle.playback.specs.Line.{append}
 use Rattle.playback.proofs.line.Line.next.Goals as goal
 
-pub returns-in-Address : goal.returns-in-Address
+pub returns-in-Some : goal.returns-in-Some
 unfolding next_text
-returns-in-Address c = rw (c.decimal.ensures, c.in-Address.is)
+returns-in-Some c = rw (c.decimal.ensures, c.in-Some.is)
 
-pub returns-in-NoTail : goal.returns-in-NoTail
+pub returns-in-None : goal.returns-in-None
 unfolding next_text append
-returns-in-NoTail c = rw (c.push.ensures, c.in-NoTail.is)
+returns-in-None c = rw (c.push.ensures, c.in-None.is)

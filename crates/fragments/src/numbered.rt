@@ -5,7 +5,8 @@ ghost use Rattle.fragments.specs.Entry.{entry, no_entry, put, over, over_last};
 use crate::fragment::Fragment;
 use crate::list::LIMIT;
 
-// A record and its number, from 1. Put into the list it stands there under its number; under the number 0 none is put.
+// A record and its number, from 1. Put into the list it stands there under its number; under 0 none is put. An Option beside it would say that a
+// second time: a number may be any, so what becomes of 0 is promised anyway.
 #[derive(Clone, Copy)]
 pub struct Entry {
     pub number: usize,

@@ -1,6 +1,6 @@
 -- The flush, and SYNCHRONIZE CACHE (35h).
 use Rattle.std.specs.Prelude.{ℕ, ◌+◌, ◌-◌, cond, set, eqb}
-use Rattle.commands.specs.Types.{Fragment, Disc, Flush, Skip, Record, Nothing, Entry, Flushing, Verdict}
+use Rattle.commands.specs.Types.{Fragment, Disc, Flush, Option, None, Some, Nothing, Entry, Flushing, Verdict}
 use Rattle.fragments.specs.Address.{missing}
 use Rattle.fragments.specs.Fragment.{first_unrecorded}
 use Rattle.disc.specs.Records.{numbered}
@@ -8,6 +8,7 @@ use Rattle.decisions.specs.Plan.{plan}
 use Rattle.disc.specs.Verdict.{accept}
 use Rattle.fragments.specs.Entry.{entry, no_entry}
 use Rattle.protocol.specs.Reply.{no_reply}
+use Rattle.decisions.specs.Plan.{recording}
 
 -- the record whose pending block, n sectors of it given, is recorded with zeros for the missing ones
 abbrev pub flushed_record : ℕ → Fragment → Fragment
@@ -35,8 +36,8 @@ flush d =
     })
 
 -- the same for the bytes
-unfoldable pub flush_plan : Disc → Flush
-flush_plan d = cond (eqb d.pending 0) Skip (Record (first_unrecorded (numbered d d.owner)) d.pending)
+unfoldable pub flush_plan : Disc → Option Flush
+flush_plan d = cond (eqb d.pending 0) None (Some (recording (first_unrecorded (numbered d d.owner)) d.pending))
 
 -- and the number of blocks that it records
 unfoldable pub flush_count : Disc → ℕ

@@ -1,6 +1,6 @@
 -- READ (28h, A8h): the decision, and which sectors are sent from where.
 use Rattle.std.specs.Prelude.{ℕ, zero, suc, ◌+◌, ◌-◌, Bool, true, cond, ◌&&◌, eqb, ltb}
-use Rattle.commands.specs.Types.{Lba, Disc, Skip, Transfer, Send, Verdict, AddressOutOfRange, BlankCheck}
+use Rattle.commands.specs.Types.{Lba, Disc, None, Transfer, Send, Verdict, AddressOutOfRange, BlankCheck}
 use Rattle.fragments.specs.Address.{lba, sectors_in, left_over}
 use Rattle.disc.specs.Records.{is_recorded, is_readable}
 use Rattle.decisions.specs.Plan.{no_plan, plan}
@@ -27,5 +27,5 @@ unfoldable pub read : Disc → Lba → ℕ → Verdict
 read d a n =
     cond (eqb n 0) (accept d d no_reply no_plan)
     (cond (ltb (sectors_in d.capacity) (a.0 + n)) (refuse d AddressOutOfRange)
-    (cond (all_readable d a n) (accept d d no_reply (plan Skip (sending d a n)))
+    (cond (all_readable d a n) (accept d d no_reply (plan None (sending d a n)))
     (refuse d BlankCheck)))

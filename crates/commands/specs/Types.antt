@@ -14,7 +14,6 @@ pub use Rattle.std.specs.Prelude.{Some, None}
 pub use Rattle.fragments.specs.declared.numbered.Entry.{Entry}
 pub use Rattle.search.specs.declared.search.Sought.{Sought}
 pub use Rattle.decisions.specs.declared.plan.Flush.{Flush}
-pub use Rattle.decisions.specs.declared.plan.Flush.TheVariants.{Skip, Record}
 pub use Rattle.decisions.specs.declared.plan.Transfer.{Transfer}
 pub use Rattle.decisions.specs.declared.plan.Transfer.TheVariants.{Nothing, Send, Gather, Fill}
 pub use Rattle.disc.specs.declared.verdict.Verdict.{Verdict}

@@ -1,6 +1,6 @@
 -- WRITE (2Ah, AAh): the decision, the new list and the plan.
 use Rattle.std.specs.Prelude.{ℕ, ◌+◌, ◌-◌, ◌/◌, ◌^◌, ◌≤◌, ◌<◌, ◌≡◌, false, cond, set, eqb, ltb}
-use Rattle.commands.specs.Types.{Lba, Fragment, Disc, Option, Some, None, Flush, Skip, Gather, Entry, Flushing, Verdict, WriteProtected, InvalidAddressForWrite, EndOfUserArea}
+use Rattle.commands.specs.Types.{Lba, Fragment, Disc, Option, Some, None, Flush, Gather, Entry, Flushing, Verdict, WriteProtected, InvalidAddressForWrite, EndOfUserArea}
 use Rattle.fragments.specs.Address.{first_sector, whole_blocks, left_over}
 use Rattle.fragments.specs.Fragment.{end, first_unrecorded, complete}
 use Rattle.disc.specs.Records.{pending_in, next_writable, used, numbered, writable_at}
@@ -15,8 +15,8 @@ use Rattle.fragments.specs.Entry.{no_entry}
 unfoldable pub flush_others : Disc → ℕ → Disc
 flush_others d n = cond (eqb d.owner n) d (flush d)
 
-unfoldable pub flush_others_plan : Disc → ℕ → Flush
-flush_others_plan d n = cond (eqb d.owner n) Skip (flush_plan d)
+unfoldable pub flush_others_plan : Disc → ℕ → Option Flush
+flush_others_plan d n = cond (eqb d.owner n) None (flush_plan d)
 
 unfoldable pub flush_others_count : Disc → ℕ → ℕ
 flush_others_count d n = cond (eqb d.owner n) 0 (flush_count d)

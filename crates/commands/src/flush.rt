@@ -26,10 +26,10 @@ pub(crate) fn flushing(disc: Disc) -> Flushing
     let entry = Entry::new(owner, change::flushed(f, pending));
     Flushing {
         entry,
-        plan: Flush::Record {
+        plan: Some(Flush {
             block,
             sectors: pending,
-        },
+        }),
         recorded: 1,
     }
 }

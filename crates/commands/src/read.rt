@@ -5,7 +5,7 @@ ghost use Rattle.disc.specs.Apply.{decided};
 ghost use Rattle.commands.specs.Read.{read};
 
 use crate::holder;
-use decisions::{Decision, Effect, Flush, Plan, Transfer};
+use decisions::{Decision, Effect, Plan, Transfer};
 use disc::Disc;
 use fragments::{Block, Lba};
 use protocol::{DriveRefusal, Reply};
@@ -36,10 +36,5 @@ pub(crate) fn read(disc: Disc, address: Lba, sectors: u32) -> Decision
         place,
         pending,
     };
-    Decision::accepted(
-        Effect::Keep,
-        0,
-        Reply::none(),
-        Plan::new(Flush::Skip, transfer),
-    )
+    Decision::accepted(Effect::Keep, 0, Reply::none(), Plan::new(None, transfer))
 }

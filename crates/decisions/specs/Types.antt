@@ -10,7 +10,7 @@ pub use Rattle.protocol.specs.declared.answer.Answer.{Answer}
 pub use Rattle.protocol.specs.declared.answer.Answer.TheVariants.{Accepted, Link, Drive}
 pub use Rattle.protocol.specs.declared.reply.Reply.{Reply}
 pub use Rattle.decisions.specs.declared.plan.Flush.{Flush}
-pub use Rattle.decisions.specs.declared.plan.Flush.TheVariants.{Skip, Record}
+pub use Rattle.std.specs.Prelude.{Option, Some, None}
 pub use Rattle.decisions.specs.declared.plan.Transfer.{Transfer}
 pub use Rattle.decisions.specs.declared.plan.Transfer.TheVariants.{Nothing, Send, Gather, Fill}
 pub use Rattle.decisions.specs.declared.plan.Plan.{Plan}

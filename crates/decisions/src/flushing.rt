@@ -12,7 +12,7 @@ use protocol::Reply;
 #[derive(Clone, Copy)]
 pub struct Flushing {
     pub entry: Entry,
-    pub plan: Flush,
+    pub plan: Option<Flush>,
     pub recorded: u32,
 }
 
@@ -24,7 +24,7 @@ impl Flushing {
         let entry = Entry::none();
         Flushing {
             entry,
-            plan: Flush::Skip,
+            plan: None,
             recorded: 0,
         }
     }

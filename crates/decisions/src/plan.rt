@@ -4,11 +4,11 @@ ghost use Rattle.decisions.specs.Plan.{plan, no_plan};
 
 use fragments::{Block, Lba};
 
-// Whether the pending block is recorded before anything else, its missing sectors zero.
+// The pending block is recorded, so many sectors of it pending and the missing ones zero.
 #[derive(Clone, Copy)]
-pub enum Flush {
-    Skip,
-    Record { block: Block, sectors: u8 },
+pub struct Flush {
+    pub block: Block,
+    pub sectors: u8,
 }
 
 // What moves after the flush.
@@ -35,14 +35,15 @@ pub enum Transfer {
     },
 }
 
+// A flush before anything else, if there is one; then the transfer.
 #[derive(Clone, Copy)]
 pub struct Plan {
-    pub flush: Flush,
+    pub flush: Option<Flush>,
     pub transfer: Transfer,
 }
 
 impl Plan {
-    pub fn new(flush: Flush, transfer: Transfer) -> Plan
+    pub fn new(flush: Option<Flush>, transfer: Transfer) -> Plan
         ensures { result ≡ plan flush transfer }
     {
         Plan { flush, transfer }
@@ -53,7 +54,7 @@ impl Plan {
         ensures { result ≡ no_plan }
     {
         Plan {
-            flush: Flush::Skip,
+            flush: None,
             transfer: Transfer::Nothing,
         }
     }

@@ -1,6 +1,6 @@
 -- What each part of a plan does to the medium and to the pending buffer.
 use Rattle.std.specs.Prelude.{ℕ, ◌+◌, ◌*◌, ◌/◌, List, [], ◌++◌, take, drop}
-use Rattle.drive.specs.Types.{Flush, Skip, Record, Transfer, Nothing, Send, Gather, Fill, Plan}
+use Rattle.drive.specs.Types.{Flush, Option, None, Some, Transfer, Nothing, Send, Gather, Fill, Plan}
 use Rattle.drive.specs.Bytes.{zeros, splice, padded}
 
 -- the pending sectors, then the data of a WRITE
@@ -17,13 +17,13 @@ unfoldable pub gathered_pending : ℕ → ℕ → List ℕ → List ℕ → List
 gathered_pending held n pending payload = padded (drop (32768 * ((held + n) / 16)) (stream held pending payload))
 
 -- a "flush": the pending block is recorded, its missing sectors zero, and the pending buffer becomes all zero
-unfoldable pub flushed_medium : Flush → List ℕ → List ℕ → List ℕ
-flushed_medium Skip medium pending = medium
-flushed_medium (Record b n) medium pending = splice medium (32768 * b.0) (padded (take (2048 * n) pending))
+unfoldable pub flushed_medium : Option Flush → List ℕ → List ℕ → List ℕ
+flushed_medium None medium pending = medium
+flushed_medium (Some f) medium pending = splice medium (32768 * f.block.0) (padded (take (2048 * f.sectors) pending))
 
-unfoldable pub flushed_pending : Flush → List ℕ → List ℕ
-flushed_pending Skip pending = pending
-flushed_pending (Record b n) pending = padded []
+unfoldable pub flushed_pending : Option Flush → List ℕ → List ℕ
+flushed_pending None pending = pending
+flushed_pending (Some f) pending = padded []
 
 -- then the transfer, on medium and pending buffer as the flush leaves them
 unfoldable pub transferred_medium : Transfer → List ℕ → List ℕ → List ℕ → List ℕ

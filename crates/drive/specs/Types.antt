@@ -14,7 +14,7 @@ pub use Rattle.disc.specs.declared.state.Disc.{Disc}
 pub use Rattle.disc.specs.declared.blank.Blank.{Blank}
 pub use Rattle.protocol.specs.declared.reply.Reply.{Reply}
 pub use Rattle.decisions.specs.declared.plan.Flush.{Flush}
-pub use Rattle.decisions.specs.declared.plan.Flush.TheVariants.{Skip, Record}
+pub use Rattle.std.specs.Prelude.{Option, Some, None}
 pub use Rattle.decisions.specs.declared.plan.Transfer.{Transfer}
 pub use Rattle.decisions.specs.declared.plan.Transfer.TheVariants.{Nothing, Send, Gather, Fill}
 pub use Rattle.decisions.specs.declared.plan.Plan.{Plan}

@@ -10,7 +10,6 @@ pub use Rattle.std.specs.Prelude.{Some, None}
 pub use Rattle.fragments.specs.declared.fragment.Kind.{Kind}
 pub use Rattle.fragments.specs.declared.fragment.Kind.TheVariants.{Reserved, Appended}
 pub use Rattle.fragments.specs.declared.fragment.Fragment.{Fragment}
-pub use Rattle.decisions.specs.declared.plan.Flush.TheVariants.{Skip, Record}
 pub use Rattle.decisions.specs.declared.plan.Transfer.{Transfer}
 pub use Rattle.decisions.specs.declared.plan.Transfer.TheVariants.{Nothing, Send, Gather, Fill}
 pub use Rattle.fragments.specs.declared.numbered.Entry.{Entry}

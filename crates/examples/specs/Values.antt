@@ -1,7 +1,7 @@
 -- What the simple promises of the lower crates say on chosen inputs. Each value rules out the wrong answers beside it: an off by one,
 -- the other direction, the neighbour's field.
 use Rattle.std.specs.Prelude.{ℕ, ◌+◌, ◌-◌, ◌≡◌, refl, Bool, true, false, List, [], ◌∷◌, ◌++◌, map, length, take, replicate}
-use Rattle.examples.specs.Types.{Sense, Fragment, Reserved, Appended, Disc, Option, Some, None, Accepted, Link, Drive, CommandBlockLength, MediumSize, UnsoundState, TransferLength, BlankCheck, Read, Write, RequestSense, ReadCapacity, SynchronizeCache, ReadDiscInformation, ReadTrackInformation, Keep, Settle, Reserve, Close, Grow, Effect, Skip, Record, Nothing, Send, Gather, Fill, Entry, Decision}
+use Rattle.examples.specs.Types.{Sense, Fragment, Reserved, Appended, Disc, Option, Some, None, Accepted, Link, Drive, CommandBlockLength, MediumSize, UnsoundState, TransferLength, BlankCheck, Read, Write, RequestSense, ReadCapacity, SynchronizeCache, ReadDiscInformation, ReadTrackInformation, Keep, Settle, Reserve, Close, Grow, Effect, Nothing, Send, Gather, Fill, Entry, Decision}
 use Rattle.fragments.specs.Address.{sectors_in, whole_blocks, left_over, missing, block, lba, first_sector, passes, sectors_before}
 use Rattle.fragments.specs.Fragment.{fragment, unused_record, is_reserved, complete, is_tail, is_incomplete_reserved, end, next_fragment_start, next_session_start, next_after, first_unrecorded, last_recorded, last_readable_of, reserved_at, shortened_record}
 use Rattle.fragments.specs.List.{limit, listed, record_numbered, last_of, holder_of, taker_of, pending_of, first_of_session, reach_at, highest_readable, some, find}
@@ -16,6 +16,7 @@ use Rattle.fragments.specs.Tail.{tail_entry, tail_after, tail_closed}
 use Rattle.decisions.specs.Flushing.{no_flushing, closing_last}
 use Rattle.decisions.specs.Run.{sent_within, pending_within}
 use Rattle.disc.specs.Apply.{with_entry, affected, changed}
+use Rattle.decisions.specs.Plan.{recording}
 
 -- sixteen sectors a block: 2 blocks and 1 sector are 33 sectors; a block of 4 lacks 12, one of 17 nothing
 pub conversions :
@@ -169,14 +170,14 @@ told d = number d.answer ∷ sense_number d.change.sense ∷ d.recorded ∷ d.re
 
 abbrev answered : List Decision
 answered =
-    accepting (Settle no_entry) 3 (report (capacity_bytes (lba 0)) 8) (plan (Record (block 2) 5) (Fill (block 3) 4))
+    accepting (Settle no_entry) 3 (report (capacity_bytes (lba 0)) 8) (plan (Some (recording (block 2) 5)) (Fill (block 3) 4))
     ∷ accepting Keep 0 (report (capacity_bytes (lba 0)) 7) no_plan ∷ refusing BlankCheck ∷ refusing_link (sense 0x5 0x21 0x02) UnsoundState ∷ []
 
 pub decisions :
     (map told answered
     ≡ ((0 ∷ 0 ∷ 3 ∷ 8 ∷ []) ∷ (0 ∷ 0 ∷ 0 ∷ 7 ∷ []) ∷ (0x080000 ∷ 0x080000 ∷ 0 ∷ 0 ∷ []) ∷ (3 ∷ 0x052102 ∷ 0 ∷ 0 ∷ []) ∷ []))
     × (map (λ d. d.change.effect) answered ≡ (Settle no_entry ∷ Keep ∷ Keep ∷ Keep ∷ []))
-    × (map (λ d. d.plan.flush) answered ≡ (Record (block 2) 5 ∷ Skip ∷ Skip ∷ Skip ∷ []))
+    × (map (λ d. d.plan.flush) answered ≡ (Some (recording (block 2) 5) ∷ None ∷ None ∷ None ∷ []))
     × (map (λ d. d.plan.transfer) answered ≡ (Fill (block 3) 4 ∷ Nothing ∷ Nothing ∷ Nothing ∷ []))
 unfolding accepting refusing refusing_link
 decisions = (refl, refl, refl, refl)
@@ -220,8 +221,8 @@ tails-closed = refl
 
 -- of a flush with the last record closed after it: the flush's record, block and count, the tail closed, the one begun, the flag
 pub closings :
-    (closing_last (record { entry = entry 2 first; plan = Record (block 132) 5; recorded = 1 }) (record { number = 3; fragment = third }) (entry 3 second) false
-    ≡ accepting (Close (entry 2 first) (entry 3 unused_record) (entry 3 second) false) 1 no_reply (plan (Record (block 132) 5) Nothing))
+    (closing_last (record { entry = entry 2 first; plan = Some (recording (block 132) 5); recorded = 1 }) (record { number = 3; fragment = third }) (entry 3 second) false
+    ≡ accepting (Close (entry 2 first) (entry 3 unused_record) (entry 3 second) false) 1 no_reply (plan (Some (recording (block 132) 5)) Nothing))
     × (closing_last no_flushing (record { number = 2; fragment = second }) no_entry true ≡ accepting (Close no_entry no_entry no_entry true) 0 no_reply no_plan)
 unfolding closing_last tail_closed
 closings = (refl, refl)

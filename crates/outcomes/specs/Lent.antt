@@ -1,12 +1,12 @@
 -- What a plan asks of the lent buffers. Every plan that is decided on finds it there (proofs/Laws/Lent).
 use Rattle.std.specs.Prelude.{ℕ, ◌+◌, ◌*◌, ◌/◌, ◌^◌, ◌≤◌, ◌<◌, ◌≡◌, length}
 use Rattle.protocol.specs.Reply.{said}
-use Rattle.outcomes.specs.Types.{Flush, Skip, Record, Transfer, Nothing, Send, Gather, Fill, Verdict}
+use Rattle.outcomes.specs.Types.{Flush, Option, None, Some, Transfer, Nothing, Send, Gather, Fill, Verdict}
 
 -- the pending block has 1 to 15 sectors, and its block lies in the medium
-abbrev pub FlushFits : ℕ → Flush → Type 0
-FlushFits mediumLent Skip = Unit {0}
-FlushFits mediumLent (Record b n) = (1 ≤ n) × (n < 16) × (32768 * (b.0 + 1) ≤ mediumLent)
+abbrev pub FlushFits : ℕ → Option Flush → Type 0
+FlushFits mediumLent None = Unit {0}
+FlushFits mediumLent (Some f) = (1 ≤ f.sectors) × (f.sectors < 16) × (32768 * (f.block.0 + 1) ≤ mediumLent)
 
 -- the recorded sectors of a READ lie in the medium, its pending ones in the pending buffer; those of a WRITE are the data, and the blocks
 -- that they fill lie in the medium, as do those filled with zeros. A block's number fits 32 bits

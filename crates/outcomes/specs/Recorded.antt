@@ -1,6 +1,6 @@
 -- The blocks that a plan records, and the sectors that it leaves pending.
 use Rattle.std.specs.Prelude.{ℕ, ◌+◌, ◌/◌, ◌%◌, Bool, false, ◌&&◌, ◌||◌, eqb, leb, ltb}
-use Rattle.outcomes.specs.Types.{Flush, Skip, Record, Transfer, Nothing, Send, Gather, Fill, Plan, Disc}
+use Rattle.outcomes.specs.Types.{Flush, Option, None, Some, Transfer, Nothing, Send, Gather, Fill, Plan, Disc}
 use Rattle.fragments.specs.Fragment.{first_unrecorded}
 use Rattle.disc.specs.Records.{numbered}
 
@@ -9,9 +9,9 @@ abbrev pub among : ℕ → ℕ → ℕ → Bool
 among b n k = leb b k && ltb k (b + n)
 
 -- the pending block of a flush
-unfoldable pub flushes : Flush → ℕ → Bool
-flushes Skip k = false
-flushes (Record b n) k = eqb k b.0
+unfoldable pub flushes : Option Flush → ℕ → Bool
+flushes None k = false
+flushes (Some f) k = eqb k f.block.0
 
 -- the blocks whose sixteenth sector is gathered, or that are filled with zeros
 unfoldable pub transfers : Transfer → ℕ → Bool
@@ -25,9 +25,9 @@ unfoldable pub records_block : Plan → ℕ → Bool
 records_block p k = flushes p.flush k || transfers p.transfer k
 
 -- the pending sectors after a flush, and after the transfer after it
-unfoldable pub flushed_count : Flush → ℕ → ℕ
-flushed_count Skip pending = pending
-flushed_count (Record b n) pending = 0
+unfoldable pub flushed_count : Option Flush → ℕ → ℕ
+flushed_count None pending = pending
+flushed_count (Some f) pending = 0
 
 unfoldable pub transferred_count : Transfer → ℕ → ℕ
 transferred_count Nothing pending = pending

@@ -17,7 +17,6 @@ pub use Rattle.std.specs.Prelude.{Option}
 pub use Rattle.std.specs.Prelude.{Some, None}
 pub use Rattle.protocol.specs.declared.reply.Reply.{Reply}
 pub use Rattle.decisions.specs.declared.plan.Flush.{Flush}
-pub use Rattle.decisions.specs.declared.plan.Flush.TheVariants.{Skip, Record}
 pub use Rattle.decisions.specs.declared.plan.Transfer.{Transfer}
 pub use Rattle.decisions.specs.declared.plan.Transfer.TheVariants.{Nothing, Send, Gather, Fill}
 pub use Rattle.decisions.specs.declared.plan.Plan.{Plan}

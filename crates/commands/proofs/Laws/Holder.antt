@@ -91,9 +91,10 @@ module _ (d : Disc) (a : Lba) where
     -- a fragment that takes the address has it
     taken : (n : ℕ) → writable_at d a ≡ Some n → (at_address d a ≡ Some n) × (takes a (pending_in d n) (numbered d n) ≡ true)
     taken n e =
-        let w = writable_found d a n e in
-        (writable-at d (sound-rules d r.sound) a n w,
-        and_both {a = not (complete (numbered d n))} (ap not w.incomplete) (eq-eqb _ _ w.here))
+        let w = writable_found d a n e in (
+          writable-at d (sound-rules d r.sound) a n w,
+          and_both {a = not (complete (numbered d n))} (ap not w.incomplete) (eq-eqb _ _ w.here),
+        )
 
     pub held-takes :
         (e : Entry) → held d.fragments (at_address d a) ≡ Some e → takes a (pending_in d e.number) e.fragment ≡ true

@@ -5,7 +5,7 @@ use mathlib.Core.Bool.{true, false}
 use native.Mathlib.Omega.{arith}
 use borrow.Author.Tests.{ltb-true, ltb-false, lt-ltb, le-ltb, ne_eqb, eqb-false}
 use lib.Dec.{eqb, ltb}
-use Rattle.commands.specs.Types.{Lba, Disc, Option, Some, None, DriveRefusal, AddressOutOfRange, BlankCheck, Skip, Transfer, Send, Verdict}
+use Rattle.commands.specs.Types.{Lba, Disc, Option, Some, None, DriveRefusal, AddressOutOfRange, BlankCheck, Transfer, Send, Verdict}
 use Rattle.fragments.specs.Address.{lba, sectors_in, left_over, first_sector, passes, sectors_before}
 use Rattle.fragments.specs.Fragment.{first_unrecorded}
 use Rattle.fragments.specs.List.{reach_found}
@@ -192,7 +192,7 @@ shared d s a n z e =
 -- what holds of every refusal, of a READ of no sectors and of the run sent where it can be, holds of a READ
 pub read_cases :
     (P : Verdict → Type 0) (d : Disc) (a : Lba) (n : ℕ) → P (accept d d no_reply no_plan) → ((r : DriveRefusal) → P (refuse d r))
-    → ((n ≡ 0 → ⊥) → a.0 + n ≤ sectors_in d.capacity → all_readable d a n ≡ true → P (accept d d no_reply (plan Skip (sending d a n))))
+    → ((n ≡ 0 → ⊥) → a.0 + n ≤ sectors_in d.capacity → all_readable d a n ≡ true → P (accept d d no_reply (plan None (sending d a n))))
     → P (read d a n)
 unfolding read
 read_cases P d a n none refused sent =
@@ -204,7 +204,7 @@ read_cases P d a n none refused sent =
 
 -- its outcomes within the disc
 module _ (d : Disc) (a : Lba) (n : ℕ) (z : n ≡ 0 → ⊥) (h : a.0 + n ≤ sectors_in d.capacity) where
-  pub read-sent : all_readable d a n ≡ true → read d a n ≡ accept d d no_reply (plan Skip (sending d a n))
+  pub read-sent : all_readable d a n ≡ true → read d a n ≡ accept d d no_reply (plan None (sending d a n))
   unfolding read
   read-sent r =
       cond_no (eqb n 0) _ _ (ne_eqb _ _ z)
@@ -256,7 +256,7 @@ module _ (d : Disc) (a : Lba) (n : ℕ) (z : n ≡ 0 → ⊥) (h : a.0 + n ≤ s
 
       found-read :
           a.0 + n ≤ (next_writable d number (numbered d number)).0
-          → accept d d no_reply (plan Skip (sending_before a n (first_sector (first_unrecorded (numbered d number))))) ≡ read d a n
+          → accept d d no_reply (plan None (sending_before a n (first_sector (first_unrecorded (numbered d number))))) ≡ read d a n
       unfolding sending
       found-read within =
           let to : a.0 + n ≤ reach d (number - 1) = omega (arith, within, reaches) in
@@ -272,7 +272,7 @@ module _ (d : Disc) (a : Lba) (n : ℕ) (z : n ≡ 0 → ⊥) (h : a.0 + n ≤ s
     read-found-at :
         (x : Option ℕ) → at_address d a ≡ x
         → (let w = reach_found d.fragments d.pending d.owner x in
-        a.0 + n ≤ w.readable.0 → accept d d no_reply (plan Skip (sending_before a n w.recorded)) ≡ read d a n)
+        a.0 + n ≤ w.readable.0 → accept d d no_reply (plan None (sending_before a n w.recorded)) ≡ read d a n)
     read-found-at (Some number) e within = found-read number e within
     read-found-at None e within = absurd (omega (arith, within, z))
 
@@ -281,5 +281,5 @@ module _ (d : Disc) (a : Lba) (n : ℕ) (z : n ≡ 0 → ⊥) (h : a.0 + n ≤ s
 
     pub read_found :
         passes a n (reach_around d a).readable ≡ false
-        → accept d d no_reply (plan Skip (sending_before a n (reach_around d a).recorded)) ≡ read d a n
+        → accept d d no_reply (plan None (sending_before a n (reach_around d a).recorded)) ≡ read d a n
     read_found t = read-found-at (at_address d a) refl (ltb-false (reach_around d a).readable.0 (a.0 + n) t)

@@ -21,7 +21,7 @@ use Rattle.fragments.proofs.Laws.Bool.{by_cases, or_cases}
 use Rattle.fragments.proofs.Laws.Numbers.{equal_cases}
 use Rattle.outcomes.proofs.Laws.Judge.{decided-link, decided-refused, decided-recorded, decided-fresh, decided-sends, decided-pending, decided-capacity}
 use Rattle.outcomes.proofs.Laws.Pending.{Pending}
-use Rattle.drive.specs.Types.{Lba, Block, Disc, LinkRefusal, DriveRefusal, Link, Drive as by_drive, CommandBlockLength, MediumSize, Record, Reply, Transfer, Nothing, Send, Gather, Fill, Verdict}
+use Rattle.drive.specs.Types.{Lba, Block, Disc, LinkRefusal, DriveRefusal, Link, Drive as by_drive, CommandBlockLength, MediumSize, Some, Reply, Transfer, Nothing, Send, Gather, Fill, Verdict}
 use Rattle.drive.specs.Moves.{flushed_medium, flushed_pending, transferred_medium, transferred_pending, moved_medium, moved_pending}
 use Rattle.drive.specs.Reply.{sent_bytes}
 use Rattle.drive.specs.Step.{Drive, drive, Request, request, Result, lent, verdict_on, carried_out, step, untouched}
@@ -30,6 +30,7 @@ use Rattle.drive.proofs.Laws.Bytes.{splice_nil, run_in_front}
 use Rattle.drive.proofs.Laws.Agree.{Agree, agree_run}
 use Rattle.drive.proofs.Laws.Kept.{length-flushed_medium, length-flushed_pending, length-moved-medium, length-moved-pending, moved-kept, flushed-agree, transferred-agree, flushed_sectors, transferred_sectors}
 use Rattle.drive.proofs.Laws.Step.{verdict_decided, verdict-block, verdict-lent, verdict-judge, Judgement, judgement, verdict_judges}
+use Rattle.decisions.specs.Plan.{recording}
 
 -- a verdict that moves nothing leaves every buffer as it is
 link_carried : (s : Drive) (q : Request) (x : LinkRefusal) → carried_out (refuse_link s.disc x) s q ≡ untouched s q (Link x) s.disc
@@ -200,7 +201,7 @@ module _
     pending : Pending d v.plan v.disc
     pending = decided-pending d v j.decided
 
-    flush-sectors : (c : Block) (l : ℕ) → v.plan.flush ≡ Record c l → take (2048 * l) p ≡ take (2048 * l) q
+    flush-sectors : (c : Block) (l : ℕ) → v.plan.flush ≡ Some (recording c l) → take (2048 * l) p ≡ take (2048 * l) q
     flush-sectors c l e = rw (pending.flushed c l e).0 held
 
     reply-alike : sent_bytes v.plan.transfer v.reply m p ≡ sent_bytes v.plan.transfer v.reply n q

@@ -21,7 +21,7 @@ use Rattle.commands.proofs.Laws.Judge.{allowed_ready}
 use Rattle.outcomes.proofs.Laws.Judge.{judge-writes, decided-served, decided-allowed, decided-capacity, judge_link}
 use Rattle.drive.proofs.Laws.Moves.{cut-pending, cut-medium}
 use Rattle.drive.proofs.Laws.Kept.{length-flushed_medium, length-flushed_pending}
-use Rattle.drive.specs.Types.{Lba, Disc, Accepted, LinkRefusal, Verdict, Block, Flush, Skip, Gather, Plan, Link, CommandBlockLength, TransferLength}
+use Rattle.drive.specs.Types.{Lba, Disc, Accepted, LinkRefusal, Verdict, Block, Flush, Option, None, Gather, Plan, Link, CommandBlockLength, TransferLength}
 use Rattle.drive.specs.Moves.{moved_medium, moved_pending, flushed_medium, flushed_pending, transferred_medium, transferred_pending}
 use Rattle.drive.specs.Step.{Drive, drive, Request, lent, verdict_on, carried_out, step}
 use Rattle.drive.specs.Requests.{WriteOf}
@@ -112,18 +112,18 @@ module _ (s : Drive) (q : Request) (a : Lba) (n : ℕ) (w : WriteOf q a n) (k : 
 
 -- the plans of two parts do what the plan of the whole does
 module _
-    (f : Flush) (b : Block) (h n k : ℕ) (m p x y : List ℕ) (hp : 2048 * h ≤ length (flushed_pending f p)) (hx : length x ≡ 2048 * n)
+    (f : Option Flush) (b : Block) (h n k : ℕ) (m p x y : List ℕ) (hp : 2048 * h ≤ length (flushed_pending f p)) (hx : length x ≡ 2048 * n)
     (hy : length y ≡ 2048 * k)
   where
     cut-moved-pending :
-        moved_pending (plan Skip (Gather (block (b.0 + (h + n) / 16)) ((h + n) % 16) k)) (moved_pending (plan f (Gather b h n)) p x) y
+        moved_pending (plan None (Gather (block (b.0 + (h + n) / 16)) ((h + n) % 16) k)) (moved_pending (plan f (Gather b h n)) p x) y
         ≡ moved_pending (plan f (Gather b h (n + k))) p (x ++ y)
     unfolding moved_pending transferred_pending flushed_pending
     cut-moved-pending = cut-pending h n k (flushed_pending f p) x y hp hx hy
 
     cut-moved-medium :
         32768 * b.0 ≤ length (flushed_medium f m p)
-        → moved_medium (plan Skip (Gather (block (b.0 + (h + n) / 16)) ((h + n) % 16) k)) (moved_medium (plan f (Gather b h n)) m p x)
+        → moved_medium (plan None (Gather (block (b.0 + (h + n) / 16)) ((h + n) % 16) k)) (moved_medium (plan f (Gather b h n)) m p x)
         (moved_pending (plan f (Gather b h n)) p x) y
         ≡ moved_medium (plan f (Gather b h (n + k))) m p (x ++ y)
     unfolding moved_medium moved_pending transferred_medium transferred_pending flushed_medium flushed_pending
@@ -201,7 +201,7 @@ module _
         let disc : (step s₁ two).after.disc ≡ (step s q).after.disc =
         write-after s₁ two (lba (a.0 + n)) m w₂ k₁
         ∙ (ap (λ (x : Disc). (write x (lba (a.0 + n)) m).disc) between ∙ (c.2 ∙ sym (write-after s q a (n + m) w k))) in
-        let second : (write s₁.disc (lba (a.0 + n)) m).plan ≡ plan Skip (Gather (block (p.from.0 + (p.held + n) / 16)) ((p.held + n) % 16) m) =
+        let second : (write s₁.disc (lba (a.0 + n)) m).plan ≡ plan None (Gather (block (p.from.0 + (p.held + n) / 16)) ((p.held + n) % 16) m) =
         ap (λ (x : Disc). (write x (lba (a.0 + n)) m).plan) between ∙ p.second in
         let pending₁ : s₁.pending ≡ moved_pending (plan p.flush (Gather p.from p.held n)) s.pending one.payload =
         write-pending s one a n w₁ k ∙ ap (λ (x : Plan). moved_pending x s.pending one.payload) p.first in

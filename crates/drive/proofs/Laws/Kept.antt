@@ -13,12 +13,13 @@ use Rattle.outcomes.specs.Lent.{FlushFits, TransferFits}
 use Rattle.outcomes.specs.Recorded.{flushes, transfers, records_block, flushed_count, transferred_count, among}
 use Rattle.fragments.proofs.Laws.Bool.{or_right, contradiction, by_cases, or_false_left}
 use Rattle.outcomes.proofs.Laws.Recorded.{among_between, among-from, among_below}
-use Rattle.drive.specs.Types.{Flush, Skip, Record, Transfer, Nothing, Send, Gather, Fill, Plan, Block}
+use Rattle.drive.specs.Types.{Flush, Option, None, Some, Transfer, Nothing, Send, Gather, Fill, Plan, Block}
 use Rattle.drive.specs.Bytes.{zeros, padded}
 use Rattle.drive.specs.Moves.{stream, gathered_medium, flushed_medium, flushed_pending, transferred_medium, transferred_pending, moved_medium, moved_pending}
 use Rattle.drive.proofs.Laws.Bytes.{length-zeros, length-splice, length-padded}
 use Rattle.drive.proofs.Laws.Moves.{length_whole, length-gathered-medium, length-gathered-pending, stale_stream, stale_pending_lem}
 use Rattle.drive.proofs.Laws.Agree.{Agree, agree_splice, kept_splice}
+use Rattle.decisions.specs.Plan.{recording}
 
 -- a byte of the medium that is not in block b, nor in any of n blocks from b on
 outside_blocks : (b n i : ℕ) → (b ≤ i / 32768 → i / 32768 < b + n → ⊥) → (i < 32768 * b) ⊎ (32768 * b + 32768 * n ≤ i)
@@ -29,17 +30,17 @@ outside_blocks b n i h =
     ]
 
 -- lengths stay
-pub length-flushed_medium : (f : Flush) (m p : List ℕ) → length p ≡ 32768 → FlushFits (length m) f → length (flushed_medium f m p) ≡ length m
+pub length-flushed_medium : (f : Option Flush) (m p : List ℕ) → length p ≡ 32768 → FlushFits (length m) f → length (flushed_medium f m p) ≡ length m
 unfolding flushed_medium
-length-flushed_medium Skip m p h w = refl
-length-flushed_medium (Record b n) m p h w =
-    let l : length (padded (take (2048 * n) p)) ≡ 32768 = length-padded (take (2048 * n) p) (rw (length-take (2048 * n) p) (omega arith)) in
-    length-splice m (32768 * b.0) (padded (take (2048 * n) p)) (omega (arith, l, w.2))
+length-flushed_medium None m p h w = refl
+length-flushed_medium (Some f) m p h w =
+    let l : length (padded (take (2048 * f.sectors) p)) ≡ 32768 = length-padded (take (2048 * f.sectors) p) (rw (length-take (2048 * f.sectors) p) (omega arith)) in
+    length-splice m (32768 * f.block.0) (padded (take (2048 * f.sectors) p)) (omega (arith, l, w.2))
 
-pub length-flushed_pending : (f : Flush) (p : List ℕ) → length p ≡ 32768 → length (flushed_pending f p) ≡ 32768
+pub length-flushed_pending : (f : Option Flush) (p : List ℕ) → length p ≡ 32768 → length (flushed_pending f p) ≡ 32768
 unfolding flushed_pending
-length-flushed_pending Skip p h = h
-length-flushed_pending (Record b n) p h = length-padded [] (omega arith)
+length-flushed_pending None p h = h
+length-flushed_pending (Some f) p h = length-padded [] (omega arith)
 
 pub length-transferred_medium :
     (t : Transfer) (m p x : List ℕ) → length p ≡ 32768 → TransferFits (length m) (length x) t → length (transferred_medium t m p x) ≡ length m
@@ -60,14 +61,14 @@ length-transferred_pending (Fill b n) k p x h w = h
 
 -- every byte outside of the blocks that are recorded stays
 pub flushed_kept :
-    (f : Flush) (m p : List ℕ) (i : ℕ) → length p ≡ 32768 → FlushFits (length m) f → flushes f (i / 32768) ≡ false
+    (f : Option Flush) (m p : List ℕ) (i : ℕ) → length p ≡ 32768 → FlushFits (length m) f → flushes f (i / 32768) ≡ false
     → get_or (flushed_medium f m p) i 0 ≡ get_or m i 0
 unfolding flushed_medium flushes
-flushed_kept Skip m p i h w none = refl
-flushed_kept (Record b n) m p i h w none =
-    let l : length (padded (take (2048 * n) p)) ≡ 32768 = length-padded (take (2048 * n) p) (rw (length-take (2048 * n) p) (omega arith)) in
-    let out = outside_blocks b.0 1 i (λ u v. contradiction (eq-eqb (i / 32768) b.0 (omega arith)) none) in
-    kept_splice m (32768 * b.0) (padded (take (2048 * n) p)) i (omega (arith, w.2))
+flushed_kept None m p i h w none = refl
+flushed_kept (Some f) m p i h w none =
+    let l : length (padded (take (2048 * f.sectors) p)) ≡ 32768 = length-padded (take (2048 * f.sectors) p) (rw (length-take (2048 * f.sectors) p) (omega arith)) in
+    let out = outside_blocks f.block.0 1 i (λ u v. contradiction (eq-eqb (i / 32768) f.block.0 (omega arith)) none) in
+    kept_splice m (32768 * f.block.0) (padded (take (2048 * f.sectors) p)) i (omega (arith, w.2))
     (⊎_elim (λ u. inl u) (λ u. inr (omega (arith, l, u))) out)
 
 pub transferred_kept :
@@ -123,17 +124,17 @@ module _ (w : Plan) (m p x : List ℕ) (hp : length p ≡ 32768) (flush : FlushF
 module _ (R : ℕ → Type 0) (m n p q : List ℕ) (hp : length p ≡ 32768) (hq : length q ≡ 32768) (hm : length m ≡ length n)
     (same : Agree R m n) where
   pub flushed-agree :
-      (f : Flush) → FlushFits (length m) f → ((b : Block) (k : ℕ) → f ≡ Record b k → take (2048 * k) p ≡ take (2048 * k) q)
+      (f : Option Flush) → FlushFits (length m) f → ((b : Block) (k : ℕ) → f ≡ Some (recording b k) → take (2048 * k) p ≡ take (2048 * k) q)
       → Agree (λ i. (R i) ⊎ (flushes f (i / 32768) ≡ true)) (flushed_medium f m p) (flushed_medium f n q)
   unfolding flushed_medium flushes
-  flushed-agree Skip w payload = λ i r. ⊎_elim (λ u. same i u) (λ u. absurd (contradiction u refl)) r
-  flushed-agree (Record b k) w sectors =
-      let x = padded (take (2048 * k) p) in
-      let y : padded (take (2048 * k) q) ≡ x = ap padded (sym (sectors b k refl)) in
-      let l : length x ≡ 32768 = length-padded (take (2048 * k) p) (rw (length-take (2048 * k) p) (omega arith)) in
+  flushed-agree None w payload = λ i r. ⊎_elim (λ u. same i u) (λ u. absurd (contradiction u refl)) r
+  flushed-agree (Some f) w sectors =
+      let x = padded (take (2048 * f.sectors) p) in
+      let y : padded (take (2048 * f.sectors) q) ≡ x = ap padded (sym (sectors f.block f.sectors refl)) in
+      let l : length x ≡ 32768 = length-padded (take (2048 * f.sectors) p) (rw (length-take (2048 * f.sectors) p) (omega arith)) in
       rw y
-      (agree_splice R (λ i. (R i) ⊎ (eqb (i / 32768) b.0 ≡ true)) m n (32768 * b.0) x (omega (arith, w.2)) (omega (arith, w.2, hm))
-      (λ i r out. ⊎_elim (λ u. u) (λ u. absurd (let e = eqb-true (i / 32768) b.0 u in ⊎_elim (λ v. omega (arith, e, v)) (λ v. omega (arith, e, v, l)) out)) r) same)
+      (agree_splice R (λ i. (R i) ⊎ (eqb (i / 32768) f.block.0 ≡ true)) m n (32768 * f.block.0) x (omega (arith, w.2)) (omega (arith, w.2, hm))
+      (λ i r out. ⊎_elim (λ u. u) (λ u. absurd (let e = eqb-true (i / 32768) f.block.0 u in ⊎_elim (λ v. omega (arith, e, v)) (λ v. omega (arith, e, v, l)) out)) r) same)
 
   pub transferred-agree :
       (t : Transfer) (x : List ℕ) → TransferFits (length m) (length x) t
@@ -169,11 +170,11 @@ module _ (R : ℕ → Type 0) (m n p q : List ℕ) (hp : length p ≡ 32768) (hq
 
 -- and the sectors that are pending then are the same
 pub flushed_sectors :
-    (f : Flush) (c : ℕ) (p q : List ℕ) → take (2048 * c) p ≡ take (2048 * c) q
+    (f : Option Flush) (c : ℕ) (p q : List ℕ) → take (2048 * c) p ≡ take (2048 * c) q
     → take (2048 * flushed_count f c) (flushed_pending f p) ≡ take (2048 * flushed_count f c) (flushed_pending f q)
 unfolding flushed_count flushed_pending
-flushed_sectors Skip c p q e = e
-flushed_sectors (Record b n) c p q e = refl
+flushed_sectors None c p q e = e
+flushed_sectors (Some f) c p q e = refl
 
 pub transferred_sectors :
     (t : Transfer) (c : ℕ) (p q x : List ℕ) → ((b : Block) (held n : ℕ) → t ≡ Gather b held n → held ≡ c) → take (2048 * c) p ≡ take (2048 * c) q

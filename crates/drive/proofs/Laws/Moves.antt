@@ -8,10 +8,11 @@ use lib.Seq.{drop-drop, take-add, take-append-le, drop-append-le, length-take-le
 use types.Run.{OneOf, miss}
 use denote.Enum.Declared.{tag_of}
 use Rattle.decisions.specs.contracts.plan.Transfer.{the_type}
-use Rattle.drive.specs.Types.{Block, Flush, Record, Transfer, Nothing, Send, Gather, Fill, Plan}
+use Rattle.drive.specs.Types.{Block, Flush, Option, Some, Transfer, Nothing, Send, Gather, Fill, Plan}
 use Rattle.drive.specs.Bytes.{zeros, splice, padded}
 use Rattle.drive.specs.Moves.{transferred_medium, transferred_pending, moved_medium, moved_pending, flushed_medium, flushed_pending, stream, gathered_medium, gathered_pending}
 use Rattle.drive.proofs.Laws.Bytes.{length-zeros, zeros_add, padded_nil, splice_nil, splice-splice, length-splice, length-padded, take-padded}
+use Rattle.decisions.specs.Plan.{recording}
 
 -- what n sectors after those held come to
 module _ (held n : ℕ) (pending sectors : List ℕ) (hp : 2048 * held ≤ length pending) (hx : length sectors ≡ 2048 * n) where
@@ -109,7 +110,7 @@ fill_none m a = sym (splice_nil m a)
 
 -- a flush, from what its two steps leave
 pub flushed_record_lem :
-    (f : Flush) (b : Block) (n : ℕ) (m p medium pending : List ℕ) → f ≡ Record b n → length p ≡ 32768
+    (f : Option Flush) (b : Block) (n : ℕ) (m p medium pending : List ℕ) → f ≡ Some (recording b n) → length p ≡ 32768
     → medium ≡ splice m (32768 * b.0) (padded (take (2048 * n - 0) p)) → pending ≡ zeros (length p)
     → (medium ≡ flushed_medium f m p) × (pending ≡ flushed_pending f p)
 unfolding flushed_medium flushed_pending

@@ -42,7 +42,7 @@ use Rattle.outcomes.proofs.Laws.Keep.{write_room}
 use Rattle.outcomes.proofs.Laws.Outcome.{append_pending}
 use Rattle.drive.specs.Moves.{gathered_medium, gathered_pending, flushed_medium, flushed_pending, transferred_medium, transferred_pending, moved_medium, moved_pending}
 use Rattle.drive.proofs.Laws.Kept.{length-flushed_medium, length-flushed_pending}
-use Rattle.history.specs.Types.{Lba, Fragment, Kind, Reserved, Appended, Disc, Option, Some, None, Accepted, DriveRefusal, WriteProtected, InvalidFieldInCommand, AddressOutOfRange, InvalidOperationCode, InvalidAddressForWrite, IncompleteTrackInSession, EmptyTrack, NoMoreReservations, EndOfUserArea, Reply, Plan, Verdict, Skip, Nothing, Gather, Command, TestUnitReady, RequestSense, Inquiry, ReadCapacity, Read, Write, SynchronizeCache, ReserveTrack, CloseTrackSession, GetConfiguration, ReadDiscInformation, ReadTrackInformation, Unlisted}
+use Rattle.history.specs.Types.{Lba, Fragment, Kind, Reserved, Appended, Disc, Option, Some, None, Accepted, DriveRefusal, WriteProtected, InvalidFieldInCommand, AddressOutOfRange, InvalidOperationCode, InvalidAddressForWrite, IncompleteTrackInSession, EmptyTrack, NoMoreReservations, EndOfUserArea, Reply, Plan, Verdict, Nothing, Gather, Command, TestUnitReady, RequestSense, Inquiry, ReadCapacity, Read, Write, SynchronizeCache, ReserveTrack, CloseTrackSession, GetConfiguration, ReadDiscInformation, ReadTrackInformation, Unlisted}
 use Rattle.history.specs.Account.{Account, extent_of, written, zeroed, flushed, filled, credited}
 use Rattle.history.proofs.Laws.Account.{Holds, same_holds, zeroed_none, flushed_none}
 use Rattle.history.proofs.Laws.Recording.{holds_as, holds_at, flush-holds, others-own, others-else, gather-holds-own, gather-holds-else, fill-holds-own, fill-holds-else}
@@ -133,9 +133,9 @@ module _
     unfolding moved_medium moved_pending flushed_medium flushed_pending transferred_medium transferred_pending
     noted-same l reply e = noted-accepted l d reply no_plan (λ f g. holds_as n refl refl refl e h)
 
-    noted-sent : (a : Lba) (count : ℕ) → Noted k (accept d d no_reply (plan Skip (sending d a count)))
+    noted-sent : (a : Lba) (count : ℕ) → Noted k (accept d d no_reply (plan None (sending d a count)))
     unfolding moved_medium moved_pending flushed_medium flushed_pending transferred_medium transferred_pending sending
-    noted-sent a count = noted-accepted k d no_reply (plan Skip (sending d a count)) (λ f g. h)
+    noted-sent a count = noted-accepted k d no_reply (plan None (sending d a count)) (λ f g. h)
 
     -- a flush and nothing else to the bytes; then perhaps a change of the list that records nothing
     noted-flush : (after : Disc) (reply : Reply) → SameCounts (flush d) after → after.pending ≡ 0

@@ -36,9 +36,10 @@ use Rattle.commands.proofs.Laws.Flush.{owner, flush_grows, flush-sound, flush-us
 use Rattle.commands.proofs.Laws.Write.{writable_found}
 use Rattle.commands.proofs.Laws.Reserve.{reserve_cases}
 use Rattle.outcomes.proofs.Laws.Counts.{blank_only_none}
-use Rattle.history.specs.Types.{Lba, Fragment, Kind, Reserved, Appended, Disc, Option, Some, None, Accepted, DriveRefusal, WriteProtected, InvalidFieldInCommand, AddressOutOfRange, InvalidOperationCode, InvalidAddressForWrite, IncompleteTrackInSession, EmptyTrack, NoMoreReservations, EndOfUserArea, Reply, Flush, Plan, Verdict, Skip, Record, Nothing, Gather, Fill, Command, TestUnitReady, RequestSense, Inquiry, ReadCapacity, Read, Write, SynchronizeCache, ReserveTrack, CloseTrackSession, GetConfiguration, ReadDiscInformation, ReadTrackInformation, Unlisted}
+use Rattle.history.specs.Types.{Lba, Fragment, Kind, Reserved, Appended, Disc, Option, Some, None, Accepted, DriveRefusal, WriteProtected, InvalidFieldInCommand, AddressOutOfRange, InvalidOperationCode, InvalidAddressForWrite, IncompleteTrackInSession, EmptyTrack, NoMoreReservations, EndOfUserArea, Reply, Flush, Plan, Verdict, Nothing, Gather, Fill, Command, TestUnitReady, RequestSense, Inquiry, ReadCapacity, Read, Write, SynchronizeCache, ReserveTrack, CloseTrackSession, GetConfiguration, ReadDiscInformation, ReadTrackInformation, Unlisted}
 use Rattle.history.specs.Account.{extent_of}
 use Rattle.history.specs.Past.{Past, block_recorded, sector_gathered, sectors_gathered, past_flushed, past_filled, past_after}
+use Rattle.decisions.specs.Plan.{recording}
 
 -- tests joined by ||
 or_none : (a : Bool) → (a || false) ≡ a
@@ -168,7 +169,7 @@ module _ (d : Disc) (h : Past) (r : Ready d) (w : Recalls d h) where
   tells_none =
       record { recorded = λ k. or_none (h.recorded k); held = refl; next = λ z. w.next (λ q. z (sym w.held ∙ q)) ∙ ap (λ (n : ℕ). 16 * pending_block d + n) w.held }
 
-  tells-sent : (a : Lba) (n : ℕ) → Tells d h h (plan Skip (sending d a n))
+  tells-sent : (a : Lba) (n : ℕ) → Tells d h h (plan None (sending d a n))
   unfolding records_block flushes transfers transferred_count flushed_count transferred_block sending
   tells-sent a n =
       record { recorded = λ k. or_none (h.recorded k); held = refl; next = λ z. w.next (λ q. z (sym w.held ∙ q)) ∙ ap (λ (n : ℕ). 16 * pending_block d + n) w.held }
@@ -188,11 +189,11 @@ module _ (d : Disc) (h : Past) (r : Ready d) (w : Recalls d h) where
       let place : h.next / 16 ≡ pending_block d = ap (λ (n : ℕ). n / 16) (w.next z) ∙ omega (arith, few) in
       cond_no (eqb h.held 0) h _ (ne_eqb h.held 0 (λ q. z (w.held ∙ q))) ∙ ap (λ (b : ℕ). block_recorded b h) place
 
-  plan-idle : d.pending ≡ 0 → flush_plan d ≡ Skip
+  plan-idle : d.pending ≡ 0 → flush_plan d ≡ None
   unfolding flush_plan
   plan-idle z = cond_yes (eqb d.pending 0) _ _ (eq-eqb d.pending 0 z)
 
-  plan-some : (d.pending ≡ 0 → ⊥) → flush_plan d ≡ Record (first_unrecorded (numbered d d.owner)) d.pending
+  plan-some : (d.pending ≡ 0 → ⊥) → flush_plan d ≡ Some (recording (first_unrecorded (numbered d d.owner)) d.pending)
   unfolding flush_plan
   plan-some z = cond_no (eqb d.pending 0) _ _ (ne_eqb d.pending 0 z)
 
@@ -202,15 +203,15 @@ module _ (d : Disc) (h : Past) (r : Ready d) (w : Recalls d h) where
   flush-tells k =
       equal_cases d.pending 0
       (λ z.
-      ap (λ (f : Flush). h.recorded k || flushes f k) (plan-idle z)
+      ap (λ (f : Option Flush). h.recorded k || flushes f k) (plan-idle z)
       ∙ (or_none (h.recorded k) ∙ sym (ap (λ (g : Past). g.recorded k) (flushed-idle z))))
-      (λ z. ap (λ (f : Flush). h.recorded k || flushes f k) (plan-some z) ∙ sym (ap (λ (g : Past). g.recorded k) (flushed-some z)))
+      (λ z. ap (λ (f : Option Flush). h.recorded k || flushes f k) (plan-some z) ∙ sym (ap (λ (g : Past). g.recorded k) (flushed-some z)))
 
   flush-count : flushed_count (flush_plan d) h.held ≡ 0
   unfolding flushed_count
   flush-count =
-      equal_cases d.pending 0 (λ z. ap (λ (f : Flush). flushed_count f h.held) (plan-idle z) ∙ (sym w.held ∙ z))
-      (λ z. ap (λ (f : Flush). flushed_count f h.held) (plan-some z))
+      equal_cases d.pending 0 (λ z. ap (λ (f : Option Flush). flushed_count f h.held) (plan-idle z) ∙ (sym w.held ∙ z))
+      (λ z. ap (λ (f : Option Flush). flushed_count f h.held) (plan-some z))
 
   flush-held : (past_flushed h).held ≡ 0
   flush-held =
@@ -266,22 +267,22 @@ module _ (d : Disc) (h : Past) (r : Ready d) (w : Recalls d h) where
     few-held : pending_in d j < 16
     few-held = pending-in-few d (sound-rules d r.sound) j
 
-    same_meets : flush_others_plan d j ≡ Skip → d.pending ≡ pending_in d j → Meets h
+    same_meets : flush_others_plan d j ≡ None → d.pending ≡ pending_in d j → Meets h
     unfolding flushes
     same_meets skip own =
-        record { recorded = λ k. ap (λ (f : Flush). h.recorded k || flushes f k) skip ∙ or_none (h.recorded k); held = sym w.held ∙ own }
+        record { recorded = λ k. ap (λ (f : Option Flush). h.recorded k || flushes f k) skip ∙ or_none (h.recorded k); held = sym w.held ∙ own }
 
     flush-meets : flush_others_plan d j ≡ flush_plan d → pending_in d j ≡ 0 → Meets (past_flushed h)
     flush-meets whole none =
-        record { recorded = λ k. ap (λ (f : Flush). h.recorded k || flushes f k) whole ∙ flush-tells k; held = flush-held ∙ sym none }
+        record { recorded = λ k. ap (λ (f : Option Flush). h.recorded k || flushes f k) whole ∙ flush-tells k; held = flush-held ∙ sym none }
 
-    own-plan : d.owner ≡ j → flush_others_plan d j ≡ Skip
+    own-plan : d.owner ≡ j → flush_others_plan d j ≡ None
     unfolding flush_others_plan
-    own-plan e = cond_yes (eqb d.owner j) Skip (flush_plan d) (eq-eqb d.owner j e)
+    own-plan e = cond_yes (eqb d.owner j) None (flush_plan d) (eq-eqb d.owner j e)
 
     other-plan : (d.owner ≡ j → ⊥) → flush_others_plan d j ≡ flush_plan d
     unfolding flush_others_plan
-    other-plan e = cond_no (eqb d.owner j) Skip (flush_plan d) (ne_eqb d.owner j e)
+    other-plan e = cond_no (eqb d.owner j) None (flush_plan d) (ne_eqb d.owner j e)
 
     meets : Meets flushedElsewhere
     meets =
@@ -538,7 +539,7 @@ module _ (d : Disc) (h : Past) (r : Ready d) (w : Recalls d h) where
   recalled-read : (a : Lba) (n : ℕ) → Recalled h (read d a n)
   recalled-read a n =
       read_cases (Recalled h) d a n (recalled-same no_reply) (recalled-refused h)
-      (λ z l t. recalled-accepted h d no_reply (plan Skip (sending d a n)) (tells-sent a n))
+      (λ z l t. recalled-accepted h d no_reply (plan None (sending d a n)) (tells-sent a n))
 
   recalled-track-found : (allocation : ℕ) (x : Option ℕ) → Recalled h (track_found d allocation x)
   unfolding track_found track_verdict

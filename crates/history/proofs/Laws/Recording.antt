@@ -28,10 +28,11 @@ use Rattle.drive.specs.Bytes.{zeros, splice, padded}
 use Rattle.drive.specs.Moves.{stream, gathered_medium, gathered_pending, flushed_medium, flushed_pending}
 use Rattle.drive.proofs.Laws.Bytes.{length-zeros, length-padded}
 use Rattle.drive.proofs.Laws.Moves.{length_whole}
-use Rattle.history.specs.Types.{Fragment, Disc, Skip, Record}
+use Rattle.history.specs.Types.{Fragment, Disc, None, Some}
 use Rattle.history.specs.Account.{Account, Extent, extent_of, written, zeroed, missing, flushed, filled}
 use Rattle.history.proofs.Laws.Regions.{Grows, grown_medium}
 use Rattle.history.proofs.Laws.Account.{Holds, else-holds, zeroed-holds, written-holds, flushed_none, flushed-some}
+use Rattle.decisions.specs.Plan.{recording}
 
 -- the same by other names
 pub holds_as :
@@ -59,7 +60,7 @@ module _ (d : Disc) (m p : List ℕ) (r : Ready d) (block : length p ≡ 32768) 
     unfolding flush
     flush-list = rw (ne_eqb d.pending 0 z)
 
-    flush-plan : flush_plan d ≡ Record (first_unrecorded (numbered d d.owner)) d.pending
+    flush-plan : flush_plan d ≡ Some (recording (first_unrecorded (numbered d d.owner)) d.pending)
     unfolding flush_plan
     flush-plan = rw (ne_eqb d.pending 0 z)
 
@@ -91,7 +92,7 @@ module _ (d : Disc) (m p : List ℕ) (r : Ready d) (block : length p ≡ 32768) 
         ∙ ap (λ (n : ℕ). take (2048 * n) p ++ zeros (2048 * (16 - d.pending))) (sym own)
 
   module _ (z : d.pending ≡ 0) where
-    idle-plan : flush_plan d ≡ Skip
+    idle-plan : flush_plan d ≡ None
     unfolding flush_plan
     idle-plan = rw (eq-eqb d.pending 0 z)
 

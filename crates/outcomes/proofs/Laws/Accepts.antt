@@ -6,7 +6,7 @@ use mathlib.Core.Bool.{true}
 use native.Mathlib.Omega.{arith}
 use borrow.Author.Tests.{ne_eqb, le-ltb, ltb-false}
 use lib.Dec.{eqb, ltb}
-use Rattle.outcomes.specs.Types.{Lba, Disc, Option, Some, None, Verdict, Accepted, Drive, WriteProtected, EndOfUserArea, AddressOutOfRange, BlankCheck, Skip}
+use Rattle.outcomes.specs.Types.{Lba, Disc, Option, Some, None, Verdict, Accepted, Drive, WriteProtected, EndOfUserArea, AddressOutOfRange, BlankCheck}
 use Rattle.fragments.specs.Address.{first_sector, lba, sectors_in}
 use Rattle.fragments.specs.Fragment.{end}
 use Rattle.disc.specs.Records.{pending_in, numbered, writable_at, is_readable}
@@ -68,7 +68,7 @@ write-takes d a n z e =
 -- a READ of 1 up within the disc is accepted exactly when every sector touched is readable
 pub read_done :
     (d : Disc) (a : Lba) (n : ℕ) → (n ≡ 0 → ⊥) → a.0 + n ≤ sectors_in d.capacity
-    → ((k : ℕ) → k < n → is_readable d (lba (a.0 + k)) ≡ true) → read d a n ≡ accept d d no_reply (plan Skip (sending d a n))
+    → ((k : ℕ) → k < n → is_readable d (lba (a.0 + k)) ≡ true) → read d a n ≡ accept d d no_reply (plan None (sending d a n))
 read_done d a n z h r = read-sent d a n z h (at-all_readable d a n r)
 
 pub read-accepted :

@@ -7,7 +7,7 @@ use borrow.Author.Tests.{eq-eqb, ne_eqb, eqb-true, le-ltb}
 use lib.Dec.{eqb, ltb}
 use lib.ListN.{length, set}
 use lib.Seq.{get_or-set_same, set-set}
-use Rattle.outcomes.specs.Types.{Lba, Fragment, Disc, Verdict, Accepted, Gather, Write, Block, Flush, Skip, Plan}
+use Rattle.outcomes.specs.Types.{Lba, Fragment, Disc, Verdict, Accepted, Gather, Write, Block, Flush, Option, None, Plan}
 use Rattle.fragments.specs.Fragment.{unused_record, end, first_unrecorded}
 use Rattle.disc.specs.Records.{pending_in, next_writable, used, numbered, with_sense}
 use Rattle.fragments.specs.Address.{lba, first_sector, block}
@@ -132,7 +132,7 @@ module _ (d : Disc) (number n : ℕ) (from : 1 ≤ number) where
       let own : eqb (cond (eqb held 0) 0 number) number ≡ true = rw z (eq-eqb number number refl) in
       cond_yes (eqb (cond (eqb held 0) 0 number) number) _ _ own)
 
-  gathered-plan : flush_others_plan (with_sense (gather d number n) no_sense) number ≡ Skip
+  gathered-plan : flush_others_plan (with_sense (gather d number n) no_sense) number ≡ None
   unfolding flush_others_plan flush_plan gather
   gathered-plan =
       let held = (pending_in d number + n) % 16 in
@@ -158,11 +158,11 @@ module _ (d : Disc) (number n : ℕ) (from : 1 ≤ number) where
 
 -- the plans of two parts of a WRITE and of the whole
 pub record CutPlans (one two all : Plan) (n m : ℕ) : Type 0 where
-  pub flush : Flush
+  pub flush : Option Flush
   pub from : Block
   pub held : ℕ
   pub first : one ≡ plan flush (Gather from held n)
-  pub second : two ≡ plan Skip (Gather (block (from.0 + (held + n) / 16)) ((held + n) % 16) m)
+  pub second : two ≡ plan None (Gather (block (from.0 + (held + n) / 16)) ((held + n) % 16) m)
   pub whole : all ≡ plan flush (Gather from held (n + m))
 
 -- the second part of a WRITE that was cut in two takes what is left
@@ -266,10 +266,10 @@ module _ (d : Disc) (a : Lba) (n m : ℕ) (r : Ready d) (z : n ≡ 0 → ⊥) (y
       let two = ap (λ (v : Verdict). v.plan) (write_done between (lba (a.0 + n)) m between-ready y second-takes) in
       let whole = ap (λ (v : Verdict). v.plan) (write_done d a (n + m) r sum-some t) in
       let second : plan (flush_others_plan between k) (Gather (first_unrecorded (numbered between k)) (pending_in between k) m)
-      ≡ plan Skip (Gather (block ((first_unrecorded (numbered d k)).0 + (p + n) / 16)) ((p + n) % 16) m) =
+      ≡ plan None (Gather (block ((first_unrecorded (numbered d k)).0 + (p + n) / 16)) ((p + n) % 16) m) =
       ap (λ x. plan x (Gather (first_unrecorded (numbered between k)) (pending_in between k) m)) (gathered-plan e k n w.from)
-      ∙ (ap (λ x. plan Skip (Gather x (pending_in between k) m)) here
-      ∙ ap (λ x. plan Skip (Gather (block ((first_unrecorded (numbered d k)).0 + (p + n) / 16)) x m)) held) in
+      ∙ (ap (λ x. plan None (Gather x (pending_in between k) m)) here
+      ∙ ap (λ x. plan None (Gather (block ((first_unrecorded (numbered d k)).0 + (p + n) / 16)) x m)) held) in
       record {
         flush = flush_others_plan d k;
         from = first_unrecorded (numbered d k);

@@ -7,7 +7,7 @@ use native.Mathlib.Omega.{arith}
 use borrow.Author.Tests.{eq-eqb, eqb-true, leb-true}
 use lib.Dec.{eqb, leb}
 use lib.ListN.{length}
-use Rattle.outcomes.specs.Types.{Lba, Disc, Flush, Transfer, Send, Verdict, Command}
+use Rattle.outcomes.specs.Types.{Lba, Disc, Flush, Option, Transfer, Send, Verdict, Command}
 use Rattle.protocol.specs.Command.{decode}
 use Rattle.disc.specs.Rules.{Sound}
 use Rattle.disc.specs.Blank.{in_range}
@@ -26,7 +26,7 @@ use Rattle.outcomes.proofs.Laws.Outcome.{outcome_placed, outcome_room}
 use Rattle.commands.proofs.Laws.Judge.{allowed_ready}
 use Rattle.outcomes.proofs.Laws.Judge.{allowed-outcome, Decided, on_link, by_drive, judge-decided}
 
-flush-fits : (d : Disc) (f : Flush) (m : ℕ) → Sound d → m ≡ 32768 * d.capacity → Flushed d f → FlushFits m f
+flush-fits : (d : Disc) (f : Option Flush) (m : ℕ) → Sound d → m ≡ 32768 * d.capacity → Flushed d f → FlushFits m f
 flush-fits d f m s e skips = tt
 flush-fits d f m s e (records b n some few u) = (some, few, omega (arith, unrecorded-inside d s b.0 1 u, e))
 

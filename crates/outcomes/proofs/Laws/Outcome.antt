@@ -6,7 +6,7 @@ use native.Mathlib.Omega.{arith}
 use borrow.Author.Tests.{eq-eqb, eqb-false, ltb-false, not-false}
 use lib.Dec.{eqb, ltb}
 use lib.ListN.{length, set}
-use Rattle.outcomes.specs.Types.{Sense, Accepted, Drive, Lba, Kind, Reserved, Appended, Disc, Option, Some, None, Reply, Plan, Verdict, DriveRefusal, LinkRefusal, Link, Nothing, Command, Write, WriteProtected, InvalidFieldInCommand, InvalidAddressForWrite, IncompleteTrackInSession, EmptyTrack, NoMoreReservations, EndOfUserArea, Skip, Read, Gather, Fill}
+use Rattle.outcomes.specs.Types.{Sense, Accepted, Drive, Lba, Kind, Reserved, Appended, Disc, Option, Some, None, Reply, Plan, Verdict, DriveRefusal, LinkRefusal, Link, Nothing, Command, Write, WriteProtected, InvalidFieldInCommand, InvalidAddressForWrite, IncompleteTrackInSession, EmptyTrack, NoMoreReservations, EndOfUserArea, Read, Gather, Fill}
 use Rattle.fragments.specs.Address.{first_sector, sectors_in}
 use Rattle.protocol.specs.Answer.{no_sense, refusal_sense}
 use Rattle.fragments.specs.Fragment.{end, complete, next_fragment_start, next_session_start, first_unrecorded, shortened_record}
@@ -64,11 +64,11 @@ same_outcome d c r m k =
 -- a READ that is accepted
 pub sent-outcome :
     (d : Disc) (a : Lba) (n : ℕ) → (n ≡ 0 → ⊥) → a.0 + n ≤ sectors_in d.capacity → all_readable d a n ≡ true → Ready d
-    → Outcome d (Read a n) (accept d d no_reply (plan Skip (sending d a n)))
+    → Outcome d (Read a n) (accept d d no_reply (plan None (sending d a n)))
 unfolding sending
 sent-outcome d a n z h t k =
     let s = sound-rules d k.sound in
-    done d no_reply (plan Skip (sending d a n)) s refl (sent-records d a _ _ _) (placed_send d a n s z h t) (pending_sent d a _ _ _) (no_room (Read a n))
+    done d no_reply (plan None (sending d a n)) s refl (sent-records d a _ _ _) (placed_send d a n s z h t) (pending_sent d a _ _ _) (no_room (Read a n))
 
 -- and moves no byte
 pub unchanged-outcome : (d : Disc) (c : Command) → Ready d → Outcome d c (accept d d no_reply no_plan)

@@ -7,7 +7,7 @@ use borrow.Author.Tests.{eqb-true, ne_eqb}
 use lib.Dec.{eqb}
 use lib.ListN.{length, get_or, set}
 use lib.Seq.{get_or-set_same, get_or-set_other}
-use Rattle.outcomes.specs.Types.{Block, Lba, Disc, Skip, Record, Transfer, Nothing, Send, Gather, Fill, Plan}
+use Rattle.outcomes.specs.Types.{Flush, Block, Lba, Disc, None, Some, Transfer, Nothing, Send, Gather, Fill, Plan}
 use Rattle.fragments.specs.Fragment.{unused_record, first_unrecorded, reserved_at}
 use Rattle.disc.specs.Records.{pending_in, is_blank, used, numbered, last_record, has_tail, has_blank_tail}
 use Rattle.fragments.specs.List.{limit}
@@ -22,10 +22,11 @@ use Rattle.disc.proofs.Laws.Rules.{sound-rules}
 use Rattle.commands.proofs.Laws.Write.{others-pending, others-numbered, others_length}
 use Rattle.outcomes.proofs.Laws.Keep.{blank_unowned}
 use Rattle.commands.proofs.Laws.Flush.{owner}
+use Rattle.decisions.specs.Plan.{recording}
 
 pub record Pending (d : Disc) (p : Plan) (after : Disc) : Type 0 where
   -- a flush is of all pending sectors, to their block
-  pub flushed : (b : Block) (n : ℕ) → p.flush ≡ Record b n → (n ≡ d.pending) × (b.0 ≡ pending_block d)
+  pub flushed : (b : Block) (n : ℕ) → p.flush ≡ Some (recording b n) → (n ≡ d.pending) × (b.0 ≡ pending_block d)
   -- sectors gather after those that the flush leaves, in their block
   pub gathered :
       (b : Block) (held n : ℕ) → p.transfer ≡ Gather b held n
@@ -45,7 +46,7 @@ pending_same d after e f =
       place = f;
     }
 
-pub pending_sent : (d : Disc) (a : Lba) (n i k : ℕ) → Pending d (plan Skip (Send a n i k)) d
+pub pending_sent : (d : Disc) (a : Lba) (n i k : ℕ) → Pending d (plan None (Send a n i k)) d
 unfolding flushed_count transferred_count transferred_block
 pending_sent d a n i k =
     record {
@@ -56,16 +57,15 @@ pending_sent d a n i k =
     }
 
 -- the plan of a flush
-pub plan-flushed : (d : Disc) (b : Block) (n : ℕ) → flush_plan d ≡ Record b n → (n ≡ d.pending) × (b.0 ≡ pending_block d)
+pub plan-flushed : (d : Disc) (b : Block) (n : ℕ) → flush_plan d ≡ Some (recording b n) → (n ≡ d.pending) × (b.0 ≡ pending_block d)
 unfolding flush_plan
 plan-flushed d b n e =
     by_cases (eqb d.pending 0)
-    (λ z. absurd (let q : Skip ≡ Record b n = rw z at e in let w : ◌≡◌ {A = ℕ} 0 1 = cc in omega arith))
+    (λ z. absurd (let q : None ≡ Some (recording b n) = rw z at e in let w : ◌≡◌ {A = ℕ} 0 1 = cc in omega arith))
     (λ z.
-    let q : Record (first_unrecorded (numbered d d.owner)) d.pending ≡ Record b n = rw z at e in
-    let count : d.pending ≡ n = cc in
-    let place : first_unrecorded (numbered d d.owner) ≡ b = cc in
-    (sym count, ap (λ c. c.0) (sym place)))
+    let q : Some (recording (first_unrecorded (numbered d d.owner)) d.pending) ≡ Some (recording b n) = rw z at e in
+    let same : recording (first_unrecorded (numbered d d.owner)) d.pending ≡ recording b n = cc in
+    (sym (ap (λ (f : Flush). f.sectors) same), sym (ap (λ (f : Flush). f.block.0) same)))
 
 pub plan_count : (d : Disc) → flushed_count (flush_plan d) d.pending ≡ 0
 unfolding flush_plan flushed_count
@@ -93,11 +93,11 @@ pending_filled d after c k e = pending_settled d after (Fill c k) (λ b h n q. l
 
 -- a WRITE gathers after the pending sectors of its fragment
 module _ (d : Disc) (number : ℕ) where
-  others-flushed : (b : Block) (n : ℕ) → flush_others_plan d number ≡ Record b n → (n ≡ d.pending) × (b.0 ≡ pending_block d)
+  others-flushed : (b : Block) (n : ℕ) → flush_others_plan d number ≡ Some (recording b n) → (n ≡ d.pending) × (b.0 ≡ pending_block d)
   unfolding flush_others_plan
   others-flushed b n e =
       by_cases (eqb d.owner number)
-      (λ o. absurd (let q : Skip ≡ Record b n = rw o at e in let w : ◌≡◌ {A = ℕ} 0 1 = cc in omega arith))
+      (λ o. absurd (let q : None ≡ Some (recording b n) = rw o at e in let w : ◌≡◌ {A = ℕ} 0 1 = cc in omega arith))
       (λ o. plan-flushed d b n (rw o at e))
 
   others-left : pending_in d number ≡ flushed_count (flush_others_plan d number) d.pending

@@ -5,7 +5,7 @@ use mathlib.Core.Bool.{true}
 use native.Mathlib.Omega.{arith}
 use borrow.Author.Tests.{eqb-false, eqb-true}
 use lib.Dec.{eqb}
-use Rattle.outcomes.specs.Types.{Block, Lba, Disc, Flush, Skip, Record, Transfer, Nothing, Send, Gather, Fill, Plan, Command, Read, Write}
+use Rattle.outcomes.specs.Types.{Block, Lba, Disc, Flush, Option, None, Some, Transfer, Nothing, Send, Gather, Fill, Plan, Command, Read, Write}
 use Rattle.fragments.specs.Address.{first_sector, sectors_in}
 use Rattle.fragments.specs.Fragment.{end, first_unrecorded}
 use Rattle.disc.specs.Records.{pending_in, used, numbered, is_recorded}
@@ -24,6 +24,7 @@ use Rattle.disc.proofs.Laws.Sound.{starts-rise, pending-in-few}
 use Rattle.disc.proofs.Laws.Readable.{recorded-cases, recorded-from, recorded-below}
 use Rattle.commands.proofs.Laws.Read.{Shared, shared}
 use Rattle.commands.proofs.Laws.Flush.{owner, flush_grows, flush-sound, flush-used}
+use Rattle.decisions.specs.Plan.{recording}
 
 -- k blocks from block b on lie in one fragment, after its recorded blocks
 pub record Unrecorded (d : Disc) (b k : ℕ) : Type 0 where
@@ -52,9 +53,9 @@ module _ (d : Disc) (s : Sound d) (b k : ℕ) (u : Unrecorded d b k) where
       t
 
 -- the pending block, which has 1 to 15 sectors
-pub data Flushed (d : Disc) : Flush → Type 0 where
-  skips : Flushed d Skip
-  records : (b : Block) (n : ℕ) → 1 ≤ n → n < 16 → Unrecorded d b.0 1 → Flushed d (Record b n)
+pub data Flushed (d : Disc) : Option Flush → Type 0 where
+  skips : Flushed d None
+  records : (b : Block) (n : ℕ) → 1 ≤ n → n < 16 → Unrecorded d b.0 1 → Flushed d (Some (recording b n))
 
 -- only a READ sends, readable sectors, and only a WRITE gathers, each its own
 pub data Moved (d : Disc) (c : Command) : Transfer → Type 0 where
@@ -76,7 +77,7 @@ placed_none d c = record { flushed = skips; moved = nothing }
 
 pub placed_send :
     (d : Disc) (a : Lba) (n : ℕ) → Sound d → (n ≡ 0 → ⊥) → a.0 + n ≤ sectors_in d.capacity → all_readable d a n ≡ true
-    → Placed d (Read a n) (plan Skip (sending d a n))
+    → Placed d (Read a n) (plan None (sending d a n))
 unfolding sending
 placed_send d a n s z h t = record { flushed = skips; moved = sends a n _ _ _ refl h (shared d s a n z t) }
 
@@ -141,7 +142,7 @@ pub moved_sends : {P : Type 0} (d : Disc) (c : Command) (a : Lba) (m i k : ℕ) 
 moved_sends d c a m i k p (sends x n y j l q h w) = p n w
 
 -- no block that a plan records has a recorded sector
-flush_fresh : (d : Disc) (f : Flush) (a : Lba) → Sound d → Flushed d f → flushes f (a.0 / 16) ≡ true → is_recorded d a ≡ true → ⊥
+flush_fresh : (d : Disc) (f : Option Flush) (a : Lba) → Sound d → Flushed d f → flushes f (a.0 / 16) ≡ true → is_recorded d a ≡ true → ⊥
 unfolding flushes
 flush_fresh d f a s skips t r = contradiction t refl
 flush_fresh d f a s (records b n some few u) t r =

@@ -9,7 +9,7 @@ use borrow.Author.Tests.{eq-eqb, eqb-true, eqb-false, leb-true, le-leb, ltb-true
 use lib.Dec.{eqb, leb, ltb}
 use lib.ListN.{length, get_or, set}
 use lib.Seq.{get_or-set_same, get_or-set_other}
-use Rattle.outcomes.specs.Types.{Lba, Fragment, Disc, Flush, Skip, Transfer, Nothing, Send, Plan}
+use Rattle.outcomes.specs.Types.{Lba, Fragment, Disc, Flush, Option, None, Transfer, Nothing, Send, Plan}
 use Rattle.fragments.specs.Fragment.{unused_record, first_unrecorded}
 use Rattle.disc.specs.Records.{used, numbered}
 use Rattle.disc.specs.Rules.{at, Sound}
@@ -102,14 +102,14 @@ others_onward d number r =
     (λ e. rw e (flush-onward d r))
 
 -- what a plan's two parts record together is what the plan records
-pub flush-records : (d e : Disc) (f : Flush) → Onward d e (λ x. flushes f x ≡ true) → Onward d e (Records (plan f Nothing))
+pub flush-records : (d e : Disc) (f : Option Flush) → Onward d e (λ x. flushes f x ≡ true) → Onward d e (Records (plan f Nothing))
 unfolding records_block transfers
 flush-records d e f o =
     onward_as d e (λ x. flushes f x ≡ true) (Records (plan f Nothing)) (λ x t. or_left false t)
     (λ x t. or_cases (flushes f x) false (λ h. h) (λ h. absurd (contradiction h refl)) t) o
 
 pub both_record :
-    (d e : Disc) (f : Flush) (t : Transfer) → Onward d e (λ x. (flushes f x ≡ true) ⊎ (transfers t x ≡ true)) → Onward d e (Records (plan f t))
+    (d e : Disc) (f : Option Flush) (t : Transfer) → Onward d e (λ x. (flushes f x ≡ true) ⊎ (transfers t x ≡ true)) → Onward d e (Records (plan f t))
 unfolding records_block
 both_record d e f t o =
     onward_as d e (λ x. (flushes f x ≡ true) ⊎ (transfers t x ≡ true)) (Records (plan f t))
@@ -120,6 +120,6 @@ pub nothing_records : (d e : Disc) → Onward d e NoBlock → Onward d e (Record
 unfolding records_block flushes transfers
 nothing_records d e o = no_block d e (records_block no_plan) (λ x. refl) o
 
-pub sent-records : (d : Disc) (a : Lba) (n i k : ℕ) → Onward d d (Records (plan Skip (Send a n i k)))
+pub sent-records : (d : Disc) (a : Lba) (n i k : ℕ) → Onward d d (Records (plan None (Send a n i k)))
 unfolding records_block flushes transfers
-sent-records d a n i k = no_block d d (records_block (plan Skip (Send a n i k))) (λ x. refl) (same_onward d)
+sent-records d a n i k = no_block d d (records_block (plan None (Send a n i k))) (λ x. refl) (same_onward d)

@@ -4,11 +4,11 @@ use mathlib.Core.Path.{refl}
 use native.Mathlib.Omega.{arith}
 use Rattle.drive.proofs.medium.flush.Goals as goal
 
-pub returns-in-Skip : goal.returns-in-Skip
+pub returns-in_default : goal.returns-in_default
 unfolding flushed_medium flushed_pending
-returns-in-Skip c = rw c.in-Skip.is record { medium = refl; pending = refl }
+returns-in_default c = rw c.in_default.is record { medium = refl; pending = refl }
 
-pub returns-in-Record : goal.returns-in-Record
-returns-in-Record c =
-    let b = flushed_record_lem c.args.flush c.in-Record.block c.in-Record.sectors c.args.medium.now c.args.pending.now c.record_block.new.medium c.clear.new.target c.in-Record.is (omega arith) c.record_block.ensures c.clear.ensures in
+pub returns-in-Some : goal.returns-in-Some
+returns-in-Some c =
+    let b = flushed_record_lem c.args.flush c.in-Some.flush.block c.in-Some.flush.sectors c.args.medium.now c.args.pending.now c.record_block.new.medium c.clear.new.target c.in-Some.is (omega arith) c.record_block.ensures c.clear.ensures in
     record { medium = b.0; pending = b.1 }

@@ -1,5 +1,6 @@
 // CLOSE TRACK/SESSION (5Bh): of a fragment (001) here, of the session (010) and of the disc (110) in session.rt.
 ghost use Rattle.std.specs.Prelude.{◌≡◌, ◌≤◌};
+ghost use Rattle.commands.specs.Conclusion.{concluded};
 ghost use Rattle.commands.specs.Types.{Reserved, Appended};
 ghost use Rattle.disc.specs.Records.{used, numbered};
 ghost use Rattle.disc.specs.Apply.{decided};
@@ -52,36 +53,40 @@ impl ReadyDisc {
     }
 
     // CLOSE of a fragment (001).
-    fn close_fragment(self, number: usize) -> Decision
-        ensures { decided self.disc result ≡ close_fragment self.disc number }
+    fn close_fragment(self, number: usize) -> Result<Decision, DriveRefusal>
+        ensures { concluded self.disc result ≡ close_fragment self.disc number }
     {
         if !self.disc.is_listed(number) {
-            return Decision::refused(DriveRefusal::InvalidFieldInCommand);
+            return Err(DriveRefusal::InvalidFieldInCommand);
         }
         let before = self.disc.numbered(number);
         if self.disc.is_blank(number, before) {
-            return Decision::refused(DriveRefusal::EmptyTrack);
+            return Err(DriveRefusal::EmptyTrack);
         }
         let first = self.flushing();
         let f = first.entry.over(number, before);
         if f.is_complete() {
-            return self.synchronize_cache();
+            return Ok(self.synchronize_cache());
         }
         match f.kind {
-            Kind::Reserved => self.close_reserved(first, number, f),
-            Kind::Appended => self.close_appended(first, number, f),
+            Kind::Reserved => Ok(self.close_reserved(first, number, f)),
+            Kind::Appended => Ok(self.close_appended(first, number, f)),
         }
     }
 
     // CLOSE TRACK/SESSION by its function.
-    pub(crate) fn close_track_session(self, function: u8, number: usize) -> Decision
-        ensures { decided self.disc result ≡ close self.disc function number }
+    pub(crate) fn close_track_session(
+        self,
+        function: u8,
+        number: usize,
+    ) -> Result<Decision, DriveRefusal>
+        ensures { concluded self.disc result ≡ close self.disc function number }
     {
         match function {
             0b001 => self.close_fragment(number),
             0b010 => self.close_session(),
             0b110 => self.finalize(),
-            _ => Decision::refused(DriveRefusal::InvalidFieldInCommand),
+            _ => Err(DriveRefusal::InvalidFieldInCommand),
         }
     }
 }

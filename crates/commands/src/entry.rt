@@ -37,7 +37,7 @@ pub fn decide(disc: Disc, cdb: &[u8], data_length: usize, reply_length: usize) -
     ensures { Judged disc cdb.now data_length reply_length (decided disc result) }
 {
     match admitted(disc, cdb, data_length, reply_length) {
-        Ok((ready, command)) => ready.perform(command),
+        Ok((ready, command)) => ready.perform(command).unwrap_or_else(Decision::refused),
         Err(refusal) => Decision::refused_link(disc.sense, refusal),
     }
 }

@@ -1,6 +1,6 @@
 // What each command is decided to, past the link.
 ghost use Rattle.std.specs.Prelude.{◌≡◌};
-ghost use Rattle.disc.specs.Apply.{decided};
+ghost use Rattle.commands.specs.Conclusion.{concluded};
 ghost use Rattle.commands.specs.Judge.{perform};
 
 use crate::ready::ReadyDisc;
@@ -9,20 +9,22 @@ use protocol::{Command, DriveRefusal, Reply};
 
 impl ReadyDisc {
     // Each listed command; an opcode that is not listed is refused.
-    pub(crate) fn perform(self, command: Command) -> Decision
-        ensures { decided self.disc result ≡ perform self.disc command }
+    pub(crate) fn perform(self, command: Command) -> Result<Decision, DriveRefusal>
+        ensures { concluded self.disc result ≡ perform self.disc command }
     {
         match command {
-            Command::TestUnitReady => Decision::unchanged(Reply::none()),
-            Command::RequestSense { allocation } => reporting::request_sense(self.disc, allocation),
+            Command::TestUnitReady => Ok(Decision::unchanged(Reply::none())),
+            Command::RequestSense { allocation } => Ok(reporting::request_sense(
+                self.disc, allocation,
+            )),
             Command::Inquiry {
                 page_bit,
                 allocation,
-            } => reporting::inquiry(self.disc, page_bit, allocation),
-            Command::ReadCapacity => reporting::read_capacity(self.disc),
+            } => Ok(reporting::inquiry(self.disc, page_bit, allocation)),
+            Command::ReadCapacity => Ok(reporting::read_capacity(self.disc)),
             Command::Read { address, length } => self.read(address, length),
             Command::Write { address, length } => self.write(address, length),
-            Command::SynchronizeCache => self.synchronize_cache(),
+            Command::SynchronizeCache => Ok(self.synchronize_cache()),
             Command::ReserveTrack { size } => self.reserve_track(size),
             Command::CloseTrackSession { function, number } => {
                 self.close_track_session(function, number as usize)
@@ -31,17 +33,17 @@ impl ReadyDisc {
                 request_type,
                 start,
                 allocation,
-            } => reporting::get_configuration(self.disc, request_type, start, allocation),
+            } => Ok(reporting::get_configuration(self.disc, request_type, start, allocation)),
             Command::ReadDiscInformation {
                 data_type,
                 allocation,
-            } => reporting::read_disc_information(self.disc, data_type, allocation),
+            } => Ok(reporting::read_disc_information(self.disc, data_type, allocation)),
             Command::ReadTrackInformation {
                 address_type,
                 number,
                 allocation,
             } => self.read_track_information(address_type, number, allocation),
-            Command::Unlisted => Decision::refused(DriveRefusal::InvalidOperationCode),
+            Command::Unlisted => Err(DriveRefusal::InvalidOperationCode),
         }
     }
 }

@@ -1,6 +1,6 @@
 // READ (28h, A8h): the run must end within the disc, and every sector of it must be recorded or pending.
 ghost use Rattle.std.specs.Prelude.{◌≡◌};
-ghost use Rattle.disc.specs.Apply.{decided};
+ghost use Rattle.commands.specs.Conclusion.{concluded};
 ghost use Rattle.commands.specs.Read.{read};
 
 use crate::ready::ReadyDisc;
@@ -10,33 +10,27 @@ use protocol::{DriveRefusal, Reply};
 
 impl ReadyDisc {
     // READ: sends the run. A fragment's readable sectors are its recorded ones, on the medium, and after them those pending in it.
-    pub(crate) fn read(self, address: Lba, sectors: u32) -> Decision
-        ensures { decided self.disc result ≡ read self.disc address sectors }
+    pub(crate) fn read(self, address: Lba, sectors: u32) -> Result<Decision, DriveRefusal>
+        ensures { concluded self.disc result ≡ read self.disc address sectors }
     {
         if sectors == 0 {
-            return Decision::unchanged(Reply::none());
+            return Ok(Decision::unchanged(Reply::none()));
         }
         if address.passes(sectors, Block(self.disc.capacity).first_sector()) {
-            return Decision::refused(DriveRefusal::AddressOutOfRange);
+            return Err(DriveRefusal::AddressOutOfRange);
         }
         let reach = self.reach_around(address);
         if address.passes(sectors, reach.readable) {
-            return Decision::refused(DriveRefusal::BlankCheck);
+            return Err(DriveRefusal::BlankCheck);
         }
         let recorded = address.sectors_before(sectors, reach.recorded);
-        let pending = sectors - recorded;
-        let place = Lba(address.0 + recorded as u64).place();
         let transfer = Transfer::Send {
             address,
             recorded,
-            place,
-            pending,
+            place: Lba(address.0 + recorded as u64).place(),
+            pending: sectors - recorded,
         };
-        Decision::accepted(
-            Effect::Keep,
-            0,
-            Reply::none(),
-            Plan::new(Flush::Skip, transfer),
-        )
+        let plan = Plan::new(Flush::Skip, transfer);
+        Ok(Decision::accepted(Effect::Keep, 0, Reply::none(), plan))
     }
 }

@@ -1,7 +1,8 @@
 // RESERVE TRACK (53h): the blank tail becomes a reserved fragment and a tail after it.
 ghost use Rattle.std.specs.Prelude.{◌≡◌};
 ghost use Rattle.fragments.specs.List.{last_of};
-ghost use Rattle.disc.specs.Apply.{affected, decided};
+ghost use Rattle.disc.specs.Apply.{affected};
+ghost use Rattle.commands.specs.Conclusion.{concluded};
 ghost use Rattle.commands.specs.Reserve.{Splitting, split_tail, reserve};
 
 use crate::ready::ReadyDisc;
@@ -29,31 +30,27 @@ impl ReadyDisc {
     }
 
     // RESERVE TRACK: its refusals in order, then the tail is split.
-    pub(crate) fn reserve_track(self, size: u32) -> Decision
-        ensures { decided self.disc result ≡ reserve self.disc size }
+    pub(crate) fn reserve_track(self, size: u32) -> Result<Decision, DriveRefusal>
+        ensures { concluded self.disc result ≡ reserve self.disc size }
     {
         if self.disc.finalized {
-            return Decision::refused(DriveRefusal::WriteProtected);
+            return Err(DriveRefusal::WriteProtected);
         }
         if (size == 0) | (fragments::left_over(size as usize) != 0) {
-            return Decision::refused(DriveRefusal::InvalidFieldInCommand);
+            return Err(DriveRefusal::InvalidFieldInCommand);
         }
         let last = self.disc.last();
         if !self.disc.is_blank_tail(last) {
-            return Decision::refused(DriveRefusal::NoMoreReservations);
+            return Err(DriveRefusal::NoMoreReservations);
         }
         if last.number == Disc::LIMIT {
-            return Decision::refused(DriveRefusal::NoMoreReservations);
+            return Err(DriveRefusal::NoMoreReservations);
         }
         let blocks = fragments::whole_blocks(size as usize) as u32;
         if self.disc.capacity as u64 <= last.fragment.reserved(blocks).next_start().0 {
-            return Decision::refused(DriveRefusal::EndOfUserArea);
+            return Err(DriveRefusal::EndOfUserArea);
         }
-        Decision::accepted(
-            self.split_tail(last, blocks),
-            0,
-            Reply::none(),
-            Plan::none(),
-        )
+        let effect = self.split_tail(last, blocks);
+        Ok(Decision::accepted(effect, 0, Reply::none(), Plan::none()))
     }
 }

@@ -1,23 +1,28 @@
 // CLOSE TRACK/SESSION (5Bh) of the session (010) and of the disc (110).
-ghost use Rattle.std.specs.Prelude.{◌≡◌};
+ghost use Rattle.std.specs.Prelude.{◌≡◌, true, false, IfOk, IfErr};
+ghost use Rattle.commands.specs.Types.{IncompleteTrackInSession};
 ghost use Rattle.fragments.specs.List.{last_of};
-ghost use Rattle.disc.specs.Apply.{decided};
-ghost use Rattle.commands.specs.Flush.{flush, flush_entry};
+ghost use Rattle.commands.specs.Conclusion.{concluded};
+ghost use Rattle.commands.specs.Flush.{flush, flush_entry, flushing};
 ghost use Rattle.commands.specs.Close.{has_incomplete_reserved, close_tail, close_session, finalize};
 
 use crate::ready::ReadyDisc;
-use decisions::{Decision, Entry};
+use decisions::{Decision, Entry, Flushing};
 use disc::Disc;
 use fragments::{Fragment, Last};
 use protocol::{DriveRefusal, Reply};
 
 impl ReadyDisc {
-    // Some reserved fragment is incomplete after the flush that leaves `flushed`.
-    fn stays_incomplete(self, flushed: Entry) -> bool
-        requires flushed_value { flushed ≡ flush_entry self.disc }
-        ensures { result ≡ has_incomplete_reserved (flush self.disc) }
+    // The flush that comes first; refused where it leaves some reserved fragment incomplete.
+    fn flush_of_complete(self) -> Result<Flushing, DriveRefusal>
+        ensures ok { IfOk result (λ first. (first ≡ flushing self.disc) × (has_incomplete_reserved (flush self.disc) ≡ false)) }
+        ensures err { IfErr result (λ refusal. (refusal ≡ IncompleteTrackInSession) × (has_incomplete_reserved (flush self.disc) ≡ true)) }
     {
-        fragments::has_incomplete_reserved(flushed.put(self.disc.fragments))
+        let first = self.flushing();
+        if fragments::has_incomplete_reserved(first.entry.put(self.disc.fragments)) {
+            return Err(DriveRefusal::IncompleteTrackInSession);
+        }
+        Ok(first)
     }
 
     // The last record that is left with the tail closed, after that flush, whose last record is `last`.
@@ -48,25 +53,22 @@ impl ReadyDisc {
     }
 
     // CLOSE of the session (010).
-    pub(crate) fn close_session(self) -> Decision
-        ensures { decided self.disc result ≡ close_session self.disc }
+    pub(crate) fn close_session(self) -> Result<Decision, DriveRefusal>
+        ensures { concluded self.disc result ≡ close_session self.disc }
     {
         let before = self.disc.last();
         if self.disc.finalized | self.disc.is_only_tail(before) {
-            return Decision::unchanged(Reply::none());
+            return Ok(Decision::unchanged(Reply::none()));
         }
-        let first = self.flushing();
-        if self.stays_incomplete(first.entry) {
-            return Decision::refused(DriveRefusal::IncompleteTrackInSession);
-        }
+        let first = self.flush_of_complete()?;
         let last = first.entry.over_last(before);
         let kept = self.last_kept(first.entry, last);
         if kept.number == Disc::LIMIT {
-            return Decision::refused(DriveRefusal::NoMoreReservations);
+            return Err(DriveRefusal::NoMoreReservations);
         }
         let start = kept.fragment.next_session_start();
         if (self.disc.capacity as u64) < start.0 + 1 {
-            return Decision::refused(DriveRefusal::EndOfUserArea);
+            return Err(DriveRefusal::EndOfUserArea);
         }
         let tail = Entry::tail(
             self.disc.capacity,
@@ -74,25 +76,22 @@ impl ReadyDisc {
             kept.fragment.session + 1,
             start,
         );
-        first.closing(last, tail, self.disc.finalized)
+        Ok(first.closing(last, tail, self.disc.finalized))
     }
 
     // CLOSE of the disc (110): finalized.
-    pub(crate) fn finalize(self) -> Decision
-        ensures { decided self.disc result ≡ finalize self.disc }
+    pub(crate) fn finalize(self) -> Result<Decision, DriveRefusal>
+        ensures { concluded self.disc result ≡ finalize self.disc }
     {
         if self.disc.finalized {
-            return Decision::unchanged(Reply::none());
+            return Ok(Decision::unchanged(Reply::none()));
         }
-        let first = self.flushing();
-        if self.stays_incomplete(first.entry) {
-            return Decision::refused(DriveRefusal::IncompleteTrackInSession);
-        }
+        let first = self.flush_of_complete()?;
         let before = self.disc.last();
         if self.disc.is_only_tail(before) & (before.fragment.session == 1) {
-            return Decision::refused(DriveRefusal::EmptyTrack);
+            return Err(DriveRefusal::EmptyTrack);
         }
         let last = first.entry.over_last(before);
-        first.closing(last, Entry::none(), true)
+        Ok(first.closing(last, Entry::none(), true))
     }
 }

@@ -2,7 +2,8 @@
 ghost use Rattle.std.specs.Prelude.{◌≡◌, cond, eqb, ◌≤◌};
 ghost use Rattle.fragments.specs.List.{limit};
 ghost use Rattle.disc.specs.Records.{numbered};
-ghost use Rattle.disc.specs.Apply.{affected, decided};
+ghost use Rattle.disc.specs.Apply.{affected};
+ghost use Rattle.commands.specs.Conclusion.{concluded};
 ghost use Rattle.commands.specs.Write.{flush_others, flush_others_entry, gather, Gathering, write_to, Writable, write};
 
 use crate::change;
@@ -41,13 +42,19 @@ impl ReadyDisc {
     }
 
     // A WRITE of 1 up at the next writable address of the fragment with a number, whose record is `f`.
-    fn write_to(self, address: Lba, sectors: u32, number: usize, f: Fragment) -> Decision
+    fn write_to(
+        self,
+        address: Lba,
+        sectors: u32,
+        number: usize,
+        f: Fragment,
+    ) -> Result<Decision, DriveRefusal>
         requires writable { Writable self.disc address number }
         requires f_value { f ≡ numbered self.disc number }
-        ensures { decided self.disc result ≡ write_to self.disc address sectors number }
+        ensures { concluded self.disc result ≡ write_to self.disc address sectors number }
     {
         if address.passes(sectors, f.end_address()) {
-            return Decision::refused(DriveRefusal::EndOfUserArea);
+            return Err(DriveRefusal::EndOfUserArea);
         }
         let pending = self.disc.pending_in(number);
         let block = change::first_unrecorded(f);
@@ -60,22 +67,22 @@ impl ReadyDisc {
         let first = self.flushing_others(number);
         let plan = Plan::new(first.plan, transfer);
         let effect = self.gather(first.entry, number, f, sectors);
-        Decision::accepted(effect, first.recorded + gathered, Reply::none(), plan)
+        Ok(Decision::accepted(effect, first.recorded + gathered, Reply::none(), plan))
     }
 
     // WRITE: goes to the fragment whose next writable address it names.
-    pub(crate) fn write(self, address: Lba, sectors: u32) -> Decision
-        ensures { decided self.disc result ≡ write self.disc address sectors }
+    pub(crate) fn write(self, address: Lba, sectors: u32) -> Result<Decision, DriveRefusal>
+        ensures { concluded self.disc result ≡ write self.disc address sectors }
     {
         if sectors == 0 {
-            return Decision::unchanged(Reply::none());
+            return Ok(Decision::unchanged(Reply::none()));
         }
         if self.disc.finalized {
-            return Decision::refused(DriveRefusal::WriteProtected);
+            return Err(DriveRefusal::WriteProtected);
         }
         let holder = self.writable_at(address);
         if holder.number == 0 {
-            return Decision::refused(DriveRefusal::InvalidAddressForWrite);
+            return Err(DriveRefusal::InvalidAddressForWrite);
         }
         self.write_to(address, sectors, holder.number, holder.fragment)
     }

@@ -4,7 +4,6 @@ use Rattle.commands.specs.Close.{close_fragment}
 use Rattle.disc.proofs.Laws.Records.{listed-number}
 use Rattle.commands.proofs.Laws.Flush.{flush-used, flush-sound}
 use Rattle.commands.proofs.Laws.Close.{close-blank, close-complete, close-incomplete, appended_last}
-use Rattle.disc.proofs.Laws.Apply.{refused_verdict}
 use Rattle.commands.proofs.Laws.Effect.{flush-numbered}
 use mathlib.Core.Path.{sym, ◌∙◌}
 use native.Mathlib.Omega.{arith}
@@ -12,7 +11,7 @@ use Rattle.commands.proofs.ready.ReadyDisc.close_fragment.Goals as goal
 
 pub returns-then-not-is_listed : goal.returns-then-not-is_listed
 unfolding close_fragment
-returns-then-not-is_listed c = rw (c.refused.ensures, refused_verdict, ← c.is_listed.ensures, c.if-not-is_listed.true)
+returns-then-not-is_listed c = rw (← c.is_listed.ensures, c.if-not-is_listed.true)
 
 pub returns-then-is_blank : goal.returns-then-is_blank
 returns-then-is_blank c =
@@ -21,7 +20,7 @@ returns-then-is_blank c =
     let r = c.args.self.ready in
     let li = sym c.is_listed.ensures ∙ c.if-not-is_listed.false in
     let l = listed-number d n li in
-    rw (c.refused-then-is_blank.ensures, refused_verdict) (sym (close-blank d n li (rw c.numbered-before.ensures at (sym c.is_blank.ensures ∙ c.if-is_blank.true))))
+    sym (close-blank d n li (rw c.numbered-before.ensures at (sym c.is_blank.ensures ∙ c.if-is_blank.true)))
 
 pub returns-then-is_complete : goal.returns-then-is_complete
 returns-then-is_complete c =

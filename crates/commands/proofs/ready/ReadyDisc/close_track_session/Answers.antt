@@ -1,7 +1,6 @@
 use native.Mathlib.Omega.{arith}
 use borrow.Author.Tests.{ne_eqb}
 use Rattle.commands.specs.Close.{close}
-use Rattle.disc.proofs.Laws.Apply.{refused_verdict}
 use Rattle.commands.proofs.ready.ReadyDisc.close_track_session.Goals as goal
 
 pub returns-in-1 : goal.returns-in-1
@@ -20,4 +19,4 @@ pub returns-in_default : goal.returns-in_default
 unfolding close
 returns-in_default c =
     let k = c.args.function in
-    rw (c.refused.ensures, refused_verdict, ne_eqb k 1 (λ e. omega (arith, e)), ne_eqb k 2 (λ e. omega (arith, e)), ne_eqb k 6 (λ e. omega (arith, e)))
+    rw (ne_eqb k 1 (λ e. omega (arith, e)), ne_eqb k 2 (λ e. omega (arith, e)), ne_eqb k 6 (λ e. omega (arith, e)))

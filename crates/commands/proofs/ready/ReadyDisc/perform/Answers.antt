@@ -1,4 +1,4 @@
-use Rattle.disc.proofs.Laws.Apply.{refused_verdict, unchanged_verdict}
+use Rattle.disc.proofs.Laws.Apply.{unchanged_verdict}
 use Rattle.commands.specs.Judge.{perform, test_unit_ready}
 use Rattle.commands.proofs.ready.ReadyDisc.perform.Goals as goal
 
@@ -52,4 +52,4 @@ returns-in-ReadTrackInformation c = simp (c.read_track_information.ensures, c.in
 
 pub returns-in-Unlisted : goal.returns-in-Unlisted
 unfolding perform test_unit_ready
-returns-in-Unlisted c = simp (c.refused.ensures, refused_verdict, c.in-Unlisted.is)
+returns-in-Unlisted c = simp (c.in-Unlisted.is)

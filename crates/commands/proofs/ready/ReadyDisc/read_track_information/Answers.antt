@@ -1,16 +1,16 @@
-use Rattle.disc.proofs.Laws.Apply.{refused_verdict}
 use Rattle.reporting.specs.Reports.{read_track_information}
-use borrow.Author.Tests.{eq-eqb, ne_eqb}
+use native.Mathlib.Omega.{arith}
+use borrow.Author.Tests.{ne_eqb}
 use Rattle.commands.proofs.ready.ReadyDisc.read_track_information.Goals as goal
 
-pub returns-then-address_type-eq0 : goal.returns-then-address_type-eq0
+pub returns-in-0 : goal.returns-in-0
 unfolding read_track_information
-returns-then-address_type-eq0 c = simp (c.track_found.ensures, c.at_address-found.ensures, eq-eqb _ _ c.if-address_type-eq0.true)
+returns-in-0 c = rw (c.track_found.ensures, c.at_address-found.ensures, c.in-0.is)
 
-pub returns-then-address_type-eq1 : goal.returns-then-address_type-eq1
+pub returns-in-1 : goal.returns-in-1
 unfolding read_track_information
-returns-then-address_type-eq1 c = simp (c.track_numbered.ensures, eq-eqb _ _ c.if-address_type-eq1.true, ne_eqb _ _ c.if-address_type-eq0.false)
+returns-in-1 c = rw (c.track_numbered.ensures, c.in-1.is)
 
-pub returns : goal.returns
+pub returns-in_default : goal.returns-in_default
 unfolding read_track_information
-returns c = simp (c.refused.ensures, refused_verdict, ne_eqb _ _ c.if-address_type-eq1.false, ne_eqb _ _ c.if-address_type-eq0.false)
+returns-in_default c = rw (ne_eqb c.args.address_type 0 (λ e. omega (arith, e)), ne_eqb c.args.address_type 1 (λ e. omega (arith, e)))

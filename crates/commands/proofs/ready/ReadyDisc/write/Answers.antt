@@ -5,7 +5,7 @@ use Rattle.fragments.proofs.Laws.Bool.{cond_no}
 use Rattle.search.specs.Search.{held}
 use Rattle.disc.specs.Records.{writable_at}
 use Rattle.disc.specs.Verdict.{accept}
-use Rattle.disc.proofs.Laws.Apply.{refused_verdict, unchanged_verdict}
+use Rattle.disc.proofs.Laws.Apply.{unchanged_verdict}
 use Rattle.commands.specs.Types.{Number, Nowhere, Holder}
 use Rattle.commands.specs.Write.{write, write_found, write_to}
 use Rattle.commands.proofs.Laws.Holder.{held-unwritable, held_number, held-record, held-writable}
@@ -17,7 +17,7 @@ returns-then-sectors-eq0 c = simp (c.unchanged.ensures, unchanged_verdict, c.non
 
 pub returns-then-self : goal.returns-then-self
 unfolding write write_found accept
-returns-then-self c = simp (c.refused.ensures, refused_verdict, c.if-self.true, ne_eqb _ _ c.if-sectors-eq0.false)
+returns-then-self c = simp (c.if-self.true, ne_eqb _ _ c.if-sectors-eq0.false)
 
 pub returns-then-holder-eq0 : goal.returns-then-holder-eq0
 unfolding write write_found accept
@@ -25,7 +25,7 @@ returns-then-holder-eq0 c =
     let d = c.args.self.disc in
     let a = c.args.address in
     let none : Nowhere ≡ writable_at d a = held-unwritable d a (rw c.writable_at-holder.ensures at c.if-holder-eq0.true) in
-    simp (c.refused-then-holder-eq0.ensures, refused_verdict, ← none, c.if-self.false, ne_eqb _ _ c.if-sectors-eq0.false)
+    simp (← none, c.if-self.false, ne_eqb _ _ c.if-sectors-eq0.false)
 
 pub write_to-requires : goal.write_to-requires
 write_to-requires c =

@@ -7,14 +7,14 @@ use Rattle.disc.specs.Verdict.{accept}
 use Rattle.fragments.specs.Address.{first_sector}
 use Rattle.fragments.specs.Fragment.{end}
 use Rattle.commands.proofs.Laws.Write.{place, fit, gathering, write_count, others_count_most}
-use Rattle.disc.proofs.Laws.Apply.{refused_verdict, accepted_verdict}
+use Rattle.disc.proofs.Laws.Apply.{accepted_verdict}
 use mathlib.Core.Path.{sym, ◌∙◌, ap}
 use native.Mathlib.Omega.{arith}
 use Rattle.commands.proofs.ready.ReadyDisc.write_to.Goals as goal
 
 pub returns-then-passes : goal.returns-then-passes
 unfolding write_to
-returns-then-passes c = rw (c.refused.ensures, refused_verdict, (sym (c.passes.ensures ∙ ap (λ e. ltb e.0 (c.args.address.0 + c.args.sectors)) (c.end_address.ensures ∙ ap (λ f. first_sector (end f)) c.requires.f_value)) ∙ c.if-passes.true))
+returns-then-passes c = rw ((sym (c.passes.ensures ∙ ap (λ e. ltb e.0 (c.args.address.0 + c.args.sectors)) (c.end_address.ensures ∙ ap (λ f. first_sector (end f)) c.requires.f_value)) ∙ c.if-passes.true))
 
 pub first_unrecorded-block-requires : goal.first_unrecorded-block-requires
 first_unrecorded-block-requires c =

@@ -16,6 +16,7 @@ pub use Rattle.search.specs.declared.search.Sought.{Sought}
 pub use Rattle.decisions.specs.declared.plan.Flush.{Flush}
 pub use Rattle.decisions.specs.declared.plan.Transfer.{Transfer}
 pub use Rattle.decisions.specs.declared.plan.Transfer.TheVariants.{Nothing, Send, Gather, Fill}
+pub use Rattle.decisions.specs.declared.decision.Decision.{Decision}
 pub use Rattle.disc.specs.declared.verdict.Verdict.{Verdict}
 pub use Rattle.decisions.specs.declared.flushing.Flushing.{Flushing}
 pub use Rattle.decisions.specs.declared.change.Effect.TheVariants.{Keep, Settle, Reserve, Close, Grow}

@@ -1,100 +1,92 @@
 // CLOSE TRACK/SESSION (5Bh): of a fragment (001) here, of the session (010) and of the disc (110) in session.rt.
 ghost use Rattle.std.specs.Prelude.{◌≡◌, ◌≤◌};
+ghost use Rattle.commands.specs.Conclusion.{concluded};
 ghost use Rattle.commands.specs.Types.{Reserved, Appended};
 ghost use Rattle.disc.specs.Records.{used, numbered};
-ghost use Rattle.disc.specs.Ready.{Ready};
 ghost use Rattle.disc.specs.Apply.{decided};
 ghost use Rattle.commands.specs.Flush.{flush, flushing};
 ghost use Rattle.commands.specs.Close.{close_incomplete, close_fragment, close};
 
-use crate::{change, flush, session};
+use crate::change;
+use crate::ready::ReadyDisc;
 use decisions::{Decision, Effect, Flushing, Plan, Transfer};
-use disc::Disc;
 use fragments::{Entry, Fragment, Kind};
 use protocol::{DriveRefusal, Reply};
 
-// An incomplete reserved fragment is closed; `f` is its record after the flush.
-fn close_reserved(disc: Disc, first: Flushing, number: usize, f: Fragment) -> Decision
-    requires ready { Ready disc }
-    requires first_value { first ≡ flushing disc }
-    requires le_number { (1 ≤ number) × (number ≤ used (flush disc)) }
-    requires f_value { f ≡ numbered (flush disc) number }
-    ensures { decided disc result ≡ close_incomplete disc (flush disc) number Reserved }
-{
-    let blocks = f.length - f.recorded;
-    let block = change::first_unrecorded(f);
-    let transfer = Transfer::Fill { block, blocks };
-    let flush = first.plan;
-    let plan = Plan::new(flush, transfer);
-    let flushed = first.entry;
-    let closed = Entry::new(number, change::filled(f));
-    let tail = Entry::none();
-    let effect = Effect::Close {
-        flushed,
-        closed,
-        tail,
-        finalized: disc.finalized,
-    };
-    Decision::accepted(effect, first.recorded + blocks, Reply::none(), plan)
-}
+impl ReadyDisc {
+    // An incomplete reserved fragment is closed; `f` is its record after the flush.
+    fn close_reserved(self, first: Flushing, number: usize, f: Fragment) -> Decision
+        requires first_value { first ≡ flushing self.disc }
+        requires le_number { (1 ≤ number) × (number ≤ used (flush self.disc)) }
+        requires f_value { f ≡ numbered (flush self.disc) number }
+        ensures { decided self.disc result ≡ close_incomplete self.disc (flush self.disc) number Reserved }
+    {
+        let blocks = f.length - f.recorded;
+        let block = change::first_unrecorded(f);
+        let transfer = Transfer::Fill { block, blocks };
+        let plan = Plan::new(first.plan, transfer);
+        let effect = Effect::Close {
+            flushed: first.entry,
+            closed: Entry::new(number, change::filled(f)),
+            tail: Entry::none(),
+            finalized: self.disc.finalized,
+        };
+        Decision::accepted(effect, first.recorded + blocks, Reply::none(), plan)
+    }
 
-// A written tail is closed; `f` is its record after the flush.
-fn close_appended(disc: Disc, first: Flushing, number: usize, f: Fragment) -> Decision
-    requires ready { Ready disc }
-    requires first_value { first ≡ flushing disc }
-    requires number_value { number ≡ used (flush disc) }
-    requires f_value { f ≡ numbered (flush disc) number }
-    ensures { decided disc result ≡ close_incomplete disc (flush disc) number Appended }
-{
-    let flush = first.plan;
-    let plan = Plan::new(flush, Transfer::Nothing);
-    let short = f.shortened();
-    let flushed = first.entry;
-    let closed = Entry::new(number, short);
-    let tail = Entry::tail_after(disc.capacity, number, short);
-    let effect = Effect::Close {
-        flushed,
-        closed,
-        tail,
-        finalized: disc.finalized,
-    };
-    Decision::accepted(effect, first.recorded, Reply::none(), plan)
-}
+    // A written tail is closed; `f` is its record after the flush.
+    fn close_appended(self, first: Flushing, number: usize, f: Fragment) -> Decision
+        requires first_value { first ≡ flushing self.disc }
+        requires number_value { number ≡ used (flush self.disc) }
+        requires f_value { f ≡ numbered (flush self.disc) number }
+        ensures { decided self.disc result ≡ close_incomplete self.disc (flush self.disc) number Appended }
+    {
+        let plan = Plan::new(first.plan, Transfer::Nothing);
+        let short = f.shortened();
+        let effect = Effect::Close {
+            flushed: first.entry,
+            closed: Entry::new(number, short),
+            tail: Entry::tail_after(self.disc.capacity, number, short),
+            finalized: self.disc.finalized,
+        };
+        Decision::accepted(effect, first.recorded, Reply::none(), plan)
+    }
 
-// CLOSE of a fragment (001).
-fn close_fragment(disc: Disc, number: usize) -> Decision
-    requires { Ready disc }
-    ensures { decided disc result ≡ close_fragment disc number }
-{
-    if !disc.is_listed(number) {
-        return Decision::refused(DriveRefusal::InvalidFieldInCommand);
+    // CLOSE of a fragment (001).
+    fn close_fragment(self, number: usize) -> Result<Decision, DriveRefusal>
+        ensures { concluded self.disc result ≡ close_fragment self.disc number }
+    {
+        if !self.disc.is_listed(number) {
+            return Err(DriveRefusal::InvalidFieldInCommand);
+        }
+        let before = self.disc.numbered(number);
+        if self.disc.is_blank(number, before) {
+            return Err(DriveRefusal::EmptyTrack);
+        }
+        let first = self.flushing();
+        let f = first.entry.over(number, before);
+        if f.is_complete() {
+            return Ok(self.synchronize_cache());
+        }
+        match f.kind {
+            Kind::Reserved => Ok(self.close_reserved(first, number, f)),
+            Kind::Appended => Ok(self.close_appended(first, number, f)),
+        }
     }
-    let before = disc.numbered(number);
-    if disc.is_blank(number, before) {
-        return Decision::refused(DriveRefusal::EmptyTrack);
-    }
-    let first = flush::flushing(disc);
-    let flushed = first.entry;
-    let f = flushed.over(number, before);
-    if f.is_complete() {
-        return flush::synchronize_cache(disc);
-    }
-    let kind = f.kind;
-    match kind {
-        Kind::Reserved => close_reserved(disc, first, number, f),
-        Kind::Appended => close_appended(disc, first, number, f),
-    }
-}
 
-// CLOSE TRACK/SESSION by its function.
-pub(crate) fn close_track_session(disc: Disc, function: u8, number: usize) -> Decision
-    requires { Ready disc }
-    ensures { decided disc result ≡ close disc function number }
-{
-    match function {
-        0b001 => close_fragment(disc, number),
-        0b010 => session::close_session(disc),
-        0b110 => session::finalize(disc),
-        _ => Decision::refused(DriveRefusal::InvalidFieldInCommand),
+    // CLOSE TRACK/SESSION by its function.
+    pub(crate) fn close_track_session(
+        self,
+        function: u8,
+        number: usize,
+    ) -> Result<Decision, DriveRefusal>
+        ensures { concluded self.disc result ≡ close self.disc function number }
+    {
+        match function {
+            0b001 => self.close_fragment(number),
+            0b010 => self.close_session(),
+            0b110 => self.finalize(),
+            _ => Err(DriveRefusal::InvalidFieldInCommand),
+        }
     }
 }

@@ -1,32 +1,45 @@
 // What the drive decides about a command, from the disc, the command block and the lengths of data and reply buffer alone.
+ghost use Rattle.std.specs.Prelude.{◌≡◌, IfOk, IfErr};
 ghost use Rattle.disc.specs.Apply.{decided};
-ghost use Rattle.commands.specs.Judge.{Judged, JudgedAsAsked};
+ghost use Rattle.disc.specs.Verdict.{refuse_link};
+ghost use Rattle.commands.specs.Judge.{perform, judge, Judged, JudgedAsAsked};
 
-use crate::perform;
+use crate::ready::ReadyDisc;
 use decisions::Decision;
 use disc::{Disc, Verdict};
 use protocol::{Command, LinkRefusal};
+
+// What is to be performed on which disc: the link refusals that need no buffer, in order.
+fn admitted(
+    disc: Disc,
+    cdb: &[u8],
+    data_length: usize,
+    reply_length: usize,
+) -> Result<(ReadyDisc, Command), LinkRefusal>
+    ensures same_disc { IfOk result (λ admitted. admitted.0.disc ≡ disc) }
+    ensures ok { IfOk result (λ admitted. judge disc cdb.now data_length reply_length ≡ perform disc admitted.1) }
+    ensures err { IfErr result (λ refusal. judge disc cdb.now data_length reply_length ≡ refuse_link disc refusal) }
+{
+    if cdb.len() != protocol::CDB_LENGTH {
+        return Err(LinkRefusal::CommandBlockLength);
+    }
+    let ready = ReadyDisc::of(disc)?;
+    let command = Command::decode(cdb);
+    if !command.lengths_fit(data_length, reply_length) {
+        return Err(LinkRefusal::TransferLength);
+    }
+    Ok((ready, command))
+}
 
 // The decision about a command block, with data and a reply buffer of these lengths: the link refusals that need no buffer, in order,
 // then the drive.
 pub fn decide(disc: Disc, cdb: &[u8], data_length: usize, reply_length: usize) -> Decision
     ensures { Judged disc cdb.now data_length reply_length (decided disc result) }
 {
-    let sense = disc.sense;
-    if cdb.len() != protocol::CDB_LENGTH {
-        return Decision::refused_link(sense, LinkRefusal::CommandBlockLength);
+    match admitted(disc, cdb, data_length, reply_length) {
+        Ok((ready, command)) => ready.perform(command).unwrap_or_else(Decision::refused),
+        Err(refusal) => Decision::refused_link(disc.sense, refusal),
     }
-    let command = Command::decode(cdb);
-    if !Disc::in_range(disc.capacity) {
-        return Decision::refused_link(sense, LinkRefusal::MediumSize);
-    }
-    if !disc.is_allowed() {
-        return Decision::refused_link(sense, LinkRefusal::UnsoundState);
-    }
-    if !command.lengths_fit(data_length, reply_length) {
-        return Decision::refused_link(sense, LinkRefusal::TransferLength);
-    }
-    perform::perform(disc, command)
 }
 
 // The decision applied.

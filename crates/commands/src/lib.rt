@@ -10,6 +10,7 @@ mod flush;
 mod holder;
 mod perform;
 mod read;
+mod ready;
 mod reserve;
 mod session;
 mod track_information;

@@ -1,40 +1,36 @@
 // READ (28h, A8h): the run must end within the disc, and every sector of it must be recorded or pending.
 ghost use Rattle.std.specs.Prelude.{◌≡◌};
-ghost use Rattle.disc.specs.Ready.{Ready};
-ghost use Rattle.disc.specs.Apply.{decided};
+ghost use Rattle.commands.specs.Conclusion.{concluded};
 ghost use Rattle.commands.specs.Read.{read};
 
-use crate::holder;
+use crate::ready::ReadyDisc;
 use decisions::{Decision, Effect, Plan, Transfer};
-use disc::Disc;
 use fragments::{Block, Lba};
 use protocol::{DriveRefusal, Reply};
 
-// READ: sends the run. A fragment's readable sectors are its recorded ones, on the medium, and after them those pending in it.
-pub(crate) fn read(disc: Disc, address: Lba, sectors: u32) -> Decision
-    requires { Ready disc }
-    ensures { decided disc result ≡ read disc address sectors }
-{
-    if sectors == 0 {
-        return Decision::unchanged(Reply::none());
+impl ReadyDisc {
+    // READ: sends the run. A fragment's readable sectors are its recorded ones, on the medium, and after them those pending in it.
+    pub(crate) fn read(self, address: Lba, sectors: u32) -> Result<Decision, DriveRefusal>
+        ensures { concluded self.disc result ≡ read self.disc address sectors }
+    {
+        if sectors == 0 {
+            return Ok(Decision::unchanged(Reply::none()));
+        }
+        if address.passes(sectors, Block(self.disc.capacity).first_sector()) {
+            return Err(DriveRefusal::AddressOutOfRange);
+        }
+        let reach = self.reach_around(address);
+        if address.passes(sectors, reach.readable) {
+            return Err(DriveRefusal::BlankCheck);
+        }
+        let recorded = address.sectors_before(sectors, reach.recorded);
+        let transfer = Transfer::Send {
+            address,
+            recorded,
+            place: Lba(address.0 + recorded as u64).place(),
+            pending: sectors - recorded,
+        };
+        let plan = Plan::new(None, transfer);
+        Ok(Decision::accepted(Effect::Keep, 0, Reply::none(), plan))
     }
-    if address.passes(sectors, Block(disc.capacity).first_sector()) {
-        return Decision::refused(DriveRefusal::AddressOutOfRange);
-    }
-    let reach = holder::reach_around(disc, address);
-    let readable_end = reach.readable;
-    if address.passes(sectors, readable_end) {
-        return Decision::refused(DriveRefusal::BlankCheck);
-    }
-    let recorded_end = reach.recorded;
-    let recorded = address.sectors_before(sectors, recorded_end);
-    let pending = sectors - recorded;
-    let place = Lba(address.0 + recorded as u64).place();
-    let transfer = Transfer::Send {
-        address,
-        recorded,
-        place,
-        pending,
-    };
-    Decision::accepted(Effect::Keep, 0, Reply::none(), Plan::new(None, transfer))
 }

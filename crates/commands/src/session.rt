@@ -1,94 +1,90 @@
 // CLOSE TRACK/SESSION (5Bh) of the session (010) and of the disc (110).
-ghost use Rattle.std.specs.Prelude.{◌≡◌};
+ghost use Rattle.std.specs.Prelude.{◌≡◌, true, false, IfOk, IfErr};
+ghost use Rattle.commands.specs.Types.{IncompleteTrackInSession};
 ghost use Rattle.fragments.specs.List.{last_of};
-ghost use Rattle.disc.specs.Ready.{Ready};
-ghost use Rattle.disc.specs.Apply.{decided};
-ghost use Rattle.commands.specs.Flush.{flush, flush_entry};
+ghost use Rattle.commands.specs.Conclusion.{concluded};
+ghost use Rattle.commands.specs.Flush.{flush, flush_entry, flushing};
 ghost use Rattle.commands.specs.Close.{has_incomplete_reserved, close_tail, close_session, finalize};
 
-use crate::flush;
-use decisions::Decision;
+use crate::ready::ReadyDisc;
+use decisions::{Decision, Flushing};
 use disc::Disc;
-use fragments::{Entry, Fragment};
+use fragments::Entry;
 use protocol::{DriveRefusal, Reply};
 
-// Some reserved fragment is incomplete after the flush that leaves `flushed`.
-fn stays_incomplete(disc: Disc, flushed: Entry) -> bool
-    requires ready { Ready disc }
-    requires flushed_value { flushed ≡ flush_entry disc }
-    ensures { result ≡ has_incomplete_reserved (flush disc) }
-{
-    let before = disc.fragments;
-    let records = flushed.put(before);
-    fragments::has_incomplete_reserved(records)
-}
+impl ReadyDisc {
+    // The flush that comes first; refused where it leaves some reserved fragment incomplete.
+    fn flush_of_complete(self) -> Result<Flushing, DriveRefusal>
+        ensures ok { IfOk result (λ first. (first ≡ flushing self.disc) × (has_incomplete_reserved (flush self.disc) ≡ false)) }
+        ensures err { IfErr result (λ refusal. (refusal ≡ IncompleteTrackInSession) × (has_incomplete_reserved (flush self.disc) ≡ true)) }
+    {
+        let first = self.flushing();
+        if fragments::has_incomplete_reserved(first.entry.put(self.disc.fragments)) {
+            return Err(DriveRefusal::IncompleteTrackInSession);
+        }
+        Ok(first)
+    }
 
-// The last record that is left with the tail closed, after that flush, whose last record is `last`.
-fn last_kept(disc: Disc, flushed: Entry, last: Entry) -> Entry
-    requires ready { Ready disc }
-    requires flushed_value { flushed ≡ flush_entry disc }
-    requires last_value { last ≡ last_of (flush disc).fragments }
-    ensures { result ≡ last_of (close_tail (flush disc)).fragments }
-{
-    let f = last.fragment;
-    if !f.is_tail() {
-        return last;
+    // The last record that is left with the tail closed, after that flush, whose last record is `last`.
+    fn last_kept(self, flushed: Entry, last: Entry) -> Entry
+        requires flushed_value { flushed ≡ flush_entry self.disc }
+        requires last_value { last ≡ last_of (flush self.disc).fragments }
+        ensures { result ≡ last_of (close_tail (flush self.disc)).fragments }
+    {
+        let f = last.fragment;
+        if !f.is_tail() {
+            return last;
+        }
+        if f.recorded != 0 {
+            return Entry::new(last.number, f.shortened());
+        }
+        let number = last.number - 1;
+        if number == 0 {
+            return Entry::none();
+        }
+        Entry::new(number, flushed.over(number, self.disc.numbered(number)))
     }
-    if f.recorded != 0 {
-        return Entry::new(last.number, f.shortened());
-    }
-    let number = last.number - 1;
-    if number == 0 {
-        return Entry::none();
-    }
-    Entry::new(number, flushed.over(number, disc.numbered(number)))
-}
 
-// CLOSE of the session (010).
-pub(crate) fn close_session(disc: Disc) -> Decision
-    requires { Ready disc }
-    ensures { decided disc result ≡ close_session disc }
-{
-    let before = disc.last();
-    if disc.finalized | disc.is_only_tail(before) {
-        return Decision::unchanged(Reply::none());
+    // CLOSE of the session (010).
+    pub(crate) fn close_session(self) -> Result<Decision, DriveRefusal>
+        ensures { concluded self.disc result ≡ close_session self.disc }
+    {
+        let before = self.disc.last();
+        if self.disc.finalized | self.disc.is_only_tail(before) {
+            return Ok(Decision::unchanged(Reply::none()));
+        }
+        let first = self.flush_of_complete()?;
+        let last = first.entry.over_last(before);
+        let kept = self.last_kept(first.entry, last);
+        if kept.number == Disc::LIMIT {
+            return Err(DriveRefusal::NoMoreReservations);
+        }
+        let start = kept.fragment.next_session_start();
+        if (self.disc.capacity as u64) < start.0 + 1 {
+            return Err(DriveRefusal::EndOfUserArea);
+        }
+        let tail = Entry::tail(
+            self.disc.capacity,
+            kept.number + 1,
+            kept.fragment.session + 1,
+            start,
+        );
+        Ok(first.closing(last, tail, self.disc.finalized))
     }
-    let first = flush::flushing(disc);
-    let flushed = first.entry;
-    if stays_incomplete(disc, flushed) {
-        return Decision::refused(DriveRefusal::IncompleteTrackInSession);
-    }
-    let last = flushed.over_last(before);
-    let kept = last_kept(disc, flushed, last);
-    if kept.number == Disc::LIMIT {
-        return Decision::refused(DriveRefusal::NoMoreReservations);
-    }
-    let f = kept.fragment;
-    let start = f.next_session_start();
-    if (disc.capacity as u64) < start.0 + 1 {
-        return Decision::refused(DriveRefusal::EndOfUserArea);
-    }
-    let tail = Entry::tail(disc.capacity, kept.number + 1, f.session + 1, start);
-    first.closing(last, tail, disc.finalized)
-}
 
-// CLOSE of the disc (110): finalized.
-pub(crate) fn finalize(disc: Disc) -> Decision
-    requires { Ready disc }
-    ensures { decided disc result ≡ finalize disc }
-{
-    if disc.finalized {
-        return Decision::unchanged(Reply::none());
+    // CLOSE of the disc (110): finalized.
+    pub(crate) fn finalize(self) -> Result<Decision, DriveRefusal>
+        ensures { concluded self.disc result ≡ finalize self.disc }
+    {
+        if self.disc.finalized {
+            return Ok(Decision::unchanged(Reply::none()));
+        }
+        let first = self.flush_of_complete()?;
+        let before = self.disc.last();
+        if self.disc.is_only_tail(before) & (before.fragment.session == 1) {
+            return Err(DriveRefusal::EmptyTrack);
+        }
+        let last = first.entry.over_last(before);
+        Ok(first.closing(last, Entry::none(), true))
     }
-    let first = flush::flushing(disc);
-    let flushed = first.entry;
-    if stays_incomplete(disc, flushed) {
-        return Decision::refused(DriveRefusal::IncompleteTrackInSession);
-    }
-    let before = disc.last();
-    if disc.is_only_tail(before) & (before.fragment.session == 1) {
-        return Decision::refused(DriveRefusal::EmptyTrack);
-    }
-    let last = flushed.over_last(before);
-    first.closing(last, Entry::none(), true)
 }

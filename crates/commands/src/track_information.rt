@@ -1,31 +1,30 @@
 // READ TRACK INFORMATION (52h): which fragment it reports. What it says of that one is decided in `reporting`.
 ghost use Rattle.std.specs.Prelude.{◌≡◌};
-ghost use Rattle.disc.specs.Ready.{Ready};
-ghost use Rattle.disc.specs.Apply.{decided};
+ghost use Rattle.commands.specs.Conclusion.{concluded};
 ghost use Rattle.reporting.specs.Reports.{read_track_information};
 
-use crate::holder;
+use crate::ready::ReadyDisc;
 use decisions::Decision;
-use disc::Disc;
 use fragments::Lba;
 use protocol::DriveRefusal;
 
-// By its address type: 0 for an address, 1 for a number.
-pub(crate) fn read_track_information(
-    disc: Disc,
-    address_type: u8,
-    number: u32,
-    allocation: u16,
-) -> Decision
-    requires { Ready disc }
-    ensures { decided disc result ≡ read_track_information disc address_type number allocation }
-{
-    if address_type == 0 {
-        let found = holder::at_address(disc, Lba(number as u64));
-        return reporting::track_found(disc, found, allocation);
+impl ReadyDisc {
+    // By its address type: 0 for an address, 1 for a number.
+    pub(crate) fn read_track_information(
+        self,
+        address_type: u8,
+        number: u32,
+        allocation: u16,
+    ) -> Result<Decision, DriveRefusal>
+        ensures { concluded self.disc result ≡ read_track_information self.disc address_type number allocation }
+    {
+        match address_type {
+            0 => {
+                let found = self.at_address(Lba(number as u64));
+                Ok(reporting::track_found(self.disc, found, allocation))
+            }
+            1 => Ok(reporting::track_numbered(self.disc, number as usize, allocation)),
+            _ => Err(DriveRefusal::InvalidFieldInCommand),
+        }
     }
-    if address_type == 1 {
-        return reporting::track_numbered(disc, number as usize, allocation);
-    }
-    Decision::refused(DriveRefusal::InvalidFieldInCommand)
 }

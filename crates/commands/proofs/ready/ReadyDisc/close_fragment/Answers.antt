@@ -1,0 +1,84 @@
+use Rattle.commands.specs.Types.{Reserved, Appended}
+use Rattle.commands.specs.Flush.{flush}
+use Rattle.commands.specs.Close.{close_fragment}
+use Rattle.disc.proofs.Laws.Records.{listed-number}
+use Rattle.commands.proofs.Laws.Flush.{flush-used, flush-sound}
+use Rattle.commands.proofs.Laws.Close.{close-blank, close-complete, close-incomplete, appended_last}
+use Rattle.commands.proofs.Laws.Effect.{flush-numbered}
+use mathlib.Core.Path.{sym, ◌∙◌}
+use native.Mathlib.Omega.{arith}
+use Rattle.commands.proofs.ready.ReadyDisc.close_fragment.Goals as goal
+
+pub returns-then-not-is_listed : goal.returns-then-not-is_listed
+unfolding close_fragment
+returns-then-not-is_listed c = rw (← c.is_listed.ensures, c.if-not-is_listed.true)
+
+pub returns-then-is_blank : goal.returns-then-is_blank
+returns-then-is_blank c =
+    let d = c.args.self.disc in
+    let n = c.args.number in
+    let r = c.args.self.ready in
+    let li = sym c.is_listed.ensures ∙ c.if-not-is_listed.false in
+    let l = listed-number d n li in
+    sym (close-blank d n li (rw c.numbered-before.ensures at (sym c.is_blank.ensures ∙ c.if-is_blank.true)))
+
+pub returns-then-is_complete : goal.returns-then-is_complete
+returns-then-is_complete c =
+    let d = c.args.self.disc in
+    let n = c.args.number in
+    let r = c.args.self.ready in
+    let li = sym c.is_listed.ensures ∙ c.if-not-is_listed.false in
+    let l = listed-number d n li in
+    let fo = rw (c.flushing-first.ensures, c.numbered-before.ensures) at c.over-f.ensures ∙ flush-numbered d r n l.0 in
+    let b = rw c.numbered-before.ensures at (sym c.is_blank.ensures ∙ c.if-is_blank.false) in
+    c.synchronize_cache.ensures ∙ sym (close-complete d n li b (rw fo at (sym c.is_complete.ensures ∙ c.if-is_complete.true)))
+
+pub close_reserved-requires : goal.close_reserved-requires
+close_reserved-requires c =
+    let d = c.args.self.disc in
+    let n = c.args.number in
+    let r = c.args.self.ready in
+    let li = sym c.is_listed.ensures ∙ c.if-not-is_listed.false in
+    let l = listed-number d n li in
+    let fo = rw (c.flushing-first.ensures, c.numbered-before.ensures) at c.over-f.ensures ∙ flush-numbered d r n l.0 in
+    record { first_value = c.flushing-first.ensures; le_number = (l.0, omega (arith, l, flush-used d r)); f_value = fo }
+
+pub close_appended-requires : goal.close_appended-requires
+close_appended-requires c =
+    let d = c.args.self.disc in
+    let n = c.args.number in
+    let r = c.args.self.ready in
+    let li = sym c.is_listed.ensures ∙ c.if-not-is_listed.false in
+    let l = listed-number d n li in
+    let fo = rw (c.flushing-first.ensures, c.numbered-before.ensures) at c.over-f.ensures ∙ flush-numbered d r n l.0 in
+    let b = rw c.numbered-before.ensures at (sym c.is_blank.ensures ∙ c.if-is_blank.false) in
+    let cf = rw fo at (sym c.is_complete.ensures ∙ c.if-is_complete.false) in
+    record {
+      first_value = c.flushing-first.ensures;
+      number_value = appended_last (flush d) n (flush-sound d r) l.0 (omega (arith, l, flush-used d r)) cf (rw fo at c.in-Appended.is);
+      f_value = fo;
+    }
+
+pub returns-in-Reserved : goal.returns-in-Reserved
+returns-in-Reserved c =
+    let d = c.args.self.disc in
+    let n = c.args.number in
+    let r = c.args.self.ready in
+    let li = sym c.is_listed.ensures ∙ c.if-not-is_listed.false in
+    let l = listed-number d n li in
+    let fo = rw (c.flushing-first.ensures, c.numbered-before.ensures) at c.over-f.ensures ∙ flush-numbered d r n l.0 in
+    let b = rw c.numbered-before.ensures at (sym c.is_blank.ensures ∙ c.if-is_blank.false) in
+    let cf = rw fo at (sym c.is_complete.ensures ∙ c.if-is_complete.false) in
+    c.close_reserved.ensures ∙ sym (close-incomplete d n li b Reserved cf (rw fo at c.in-Reserved.is))
+
+pub returns-in-Appended : goal.returns-in-Appended
+returns-in-Appended c =
+    let d = c.args.self.disc in
+    let n = c.args.number in
+    let r = c.args.self.ready in
+    let li = sym c.is_listed.ensures ∙ c.if-not-is_listed.false in
+    let l = listed-number d n li in
+    let fo = rw (c.flushing-first.ensures, c.numbered-before.ensures) at c.over-f.ensures ∙ flush-numbered d r n l.0 in
+    let b = rw c.numbered-before.ensures at (sym c.is_blank.ensures ∙ c.if-is_blank.false) in
+    let cf = rw fo at (sym c.is_complete.ensures ∙ c.if-is_complete.false) in
+    c.close_appended.ensures ∙ sym (close-incomplete d n li b Appended cf (rw fo at c.in-Appended.is))

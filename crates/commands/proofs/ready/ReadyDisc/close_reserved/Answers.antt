@@ -1,0 +1,72 @@
+use Prim.Native.Nat.{◌+◌, ◌-◌}
+use Rattle.decisions.specs.Plan.{plan}
+use Rattle.disc.specs.Verdict.{accepted}
+use Rattle.commands.specs.Types.{Fill}
+use Rattle.protocol.specs.Reply.{no_reply}
+use Rattle.fragments.specs.Fragment.{first_unrecorded}
+use Rattle.commands.specs.Flush.{flush, flush_plan, flush_count}
+use Rattle.commands.specs.Close.{close_incomplete, filled_record}
+use Rattle.disc.specs.Records.{numbered}
+use Rattle.commands.proofs.Laws.Flush.{numbers, flush_ready}
+use Rattle.disc.proofs.Laws.Verdict.{accept_count}
+use Rattle.commands.proofs.Laws.Write.{flush_count_most}
+use Rattle.commands.proofs.Laws.Close.{fill_count}
+use Rattle.disc.proofs.Laws.Apply.{accepted_verdict}
+use Rattle.commands.proofs.Laws.Effect.{affected-filled}
+use mathlib.Core.Path.{sym, ◌∙◌, ap}
+use native.Mathlib.Omega.{arith}
+use Rattle.commands.proofs.ready.ReadyDisc.close_reserved.Goals as goal
+
+pub overflow_sub-blocks : goal.overflow_sub-blocks
+overflow_sub-blocks c =
+    let d = c.args.self.disc in
+    let n = c.args.number in
+    let r = c.args.self.ready in
+    let first = c.requires.first_value in
+    let f = c.requires.f_value in
+    let m = numbers (flush d) n (flush_ready d r) c.requires.le_number.0 c.requires.le_number.1 in
+    rw f m.recorded
+
+pub first_unrecorded-block-requires : goal.first_unrecorded-block-requires
+first_unrecorded-block-requires c =
+    let d = c.args.self.disc in
+    let n = c.args.number in
+    let r = c.args.self.ready in
+    let first = c.requires.first_value in
+    let f = c.requires.f_value in
+    let m = numbers (flush d) n (flush_ready d r) c.requires.le_number.0 c.requires.le_number.1 in
+    rw f (omega (arith, m.ends, m.recorded))
+
+pub filled-requires : goal.filled-requires
+filled-requires c =
+    let d = c.args.self.disc in
+    let n = c.args.number in
+    let r = c.args.self.ready in
+    let first = c.requires.first_value in
+    let f = c.requires.f_value in
+    let m = numbers (flush d) n (flush_ready d r) c.requires.le_number.0 c.requires.le_number.1 in
+    rw f (m.recorded, omega (arith, m.ends), m.zeroed)
+
+pub overflow_add-first : goal.overflow_add-first
+overflow_add-first c =
+    let d = c.args.self.disc in
+    let n = c.args.number in
+    let r = c.args.self.ready in
+    let first = c.requires.first_value in
+    let f = c.requires.f_value in
+    let m = numbers (flush d) n (flush_ready d r) c.requires.le_number.0 c.requires.le_number.1 in
+    rw (f, first) (omega (arith, m.ends, flush_count_most d))
+
+pub returns : goal.returns
+unfolding close_incomplete
+returns c =
+    let d = c.args.self.disc in
+    let n = c.args.number in
+    let r = c.args.self.ready in
+    let first = c.requires.first_value in
+    let f = c.requires.f_value in
+    let m = numbers (flush d) n (flush_ready d r) c.requires.le_number.0 c.requires.le_number.1 in
+    let g = numbered (flush d) n in
+    rw (c.accepted.ensures, accepted_verdict, c.none.ensures, c.none-2.ensures, c.new.ensures, c.filled.ensures, c.new-plan.ensures, c.first_unrecorded-block.ensures, f, first)
+    (ap (λ x. accepted x (flush_count d + (g.length - g.recorded)) no_reply (plan (flush_plan d) (Fill (first_unrecorded g) (g.length - g.recorded)))) (affected-filled d n (filled_record g) r c.requires.le_number.0)
+    ∙ sym (accept_count d _ _ _ _ (fill_count d n r c.requires.le_number.0 c.requires.le_number.1)))

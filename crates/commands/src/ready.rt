@@ -1,0 +1,34 @@
+// A disc that a command may work on.
+ghost use Rattle.std.specs.Prelude.{◌≡◌, ℕ, true, IfOk, IfErr, OnOk};
+ghost use Rattle.disc.specs.Sound.{allowed_state};
+ghost use Rattle.disc.specs.Ready.{Ready};
+ghost use Rattle.disc.specs.Verdict.{refuse_link};
+ghost use Rattle.commands.specs.Types.{Command};
+ghost use Rattle.commands.specs.Judge.{judge_command};
+
+use disc::Disc;
+use protocol::LinkRefusal;
+
+// Its capacity is in range, and it is in a state that a command can leave: made by the tests of the link alone, and asked by every command.
+#[derive(Clone, Copy)]
+pub(crate) struct ReadyDisc {
+    pub(crate) disc: Disc,
+    ghost ready: { Ready disc },
+}
+
+impl ReadyDisc {
+    // The tests in order: L2 of the capacity, then L3.
+    pub(crate) fn of(disc: Disc) -> Result<ReadyDisc, LinkRefusal>
+        ensures same_disc { IfOk result (λ ready. ready.disc ≡ disc) }
+        ensures allowed { OnOk result (allowed_state disc ≡ true) }
+        ensures err { IfErr result (λ refusal. (c : Command) (n m : ℕ) → judge_command disc c n m ≡ refuse_link disc refusal) }
+    {
+        if !Disc::in_range(disc.capacity) {
+            return Err(LinkRefusal::MediumSize);
+        }
+        if !disc.is_allowed() {
+            return Err(LinkRefusal::UnsoundState);
+        }
+        Ok(ReadyDisc { disc })
+    }
+}

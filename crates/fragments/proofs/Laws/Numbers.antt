@@ -29,13 +29,6 @@ equal_cases a b same other = by_cases (eqb a b) (λ e. same (eqb-true a b e)) (�
 pub below_limit : {a b : ℕ} → a ≤ b → (a ≡ b → ⊥) → a < b
 below_limit h n = omega arith
 
--- the test whether a run passes an end, without the sum
-pub rest-passes : (a n e : ℕ) → a ≤ e → ltb (e - a) n ≡ ltb e (a + n)
-rest-passes a n e h =
-    same_test
-    (λ t. let l = ltb-true (e - a) n t in lt-ltb e (a + n) (omega arith))
-    (λ t. let l = ltb-true e (a + n) t in lt-ltb (e - a) n (omega arith))
-
 -- numbers joined bit by bit are zero where each of them is
 pub or_zero : (a b : ℕ) → eqb (bit_or a b) 0 ≡ (eqb a 0 && eqb b 0)
 or_zero a b =

@@ -40,3 +40,12 @@ walk capacity fin o p (f ∷ fs) =
 unfoldable pub list_sound : ℕ → Bool → List Fragment → Bool
 list_sound capacity fin [] = false
 list_sound capacity fin (f ∷ fs) = begins_list f && within capacity f && walk capacity fin (not (complete f)) f fs
+
+-- the same rules in two parts, as the code goes along them: those of the records in use, of which p is the one before, and that the rest is zero
+unfoldable pub walk_in_use : ℕ → Bool → Bool → Bool → Fragment → List Fragment → Bool
+walk_in_use capacity fin full o p [] = ends_list capacity fin full o p
+walk_in_use capacity fin full o p (f ∷ fs) = within capacity f && continues o p f && walk_in_use capacity fin full (open_after o p f) f fs
+
+unfoldable pub in_use_sound : ℕ → Bool → Bool → List Fragment → Bool
+in_use_sound capacity fin full [] = false
+in_use_sound capacity fin full (f ∷ fs) = begins_list f && within capacity f && walk_in_use capacity fin full (not (complete f)) f fs

@@ -1,17 +1,17 @@
 // Block numbers and sector addresses: two kinds of number. The conversion between them by 16 stands in this file alone.
-ghost use Rattle.std.specs.Prelude.{◌≡◌, ◌+◌, eqb};
-ghost use Rattle.fragments.specs.Address.{sectors_in, whole_blocks, left_over, missing, block, lba, first_sector, passes, sectors_before};
+ghost use Rattle.std.specs.Prelude.{◌≡◌, ◌+◌};
+ghost use Rattle.fragments.specs.Address.{sectors_in, whole_blocks, left_over, missing, block, wide, lba, first_sector, passes, sectors_before};
 
 // The number of an ECC block, from 0. A disc's block numbers fit 32 bits.
-#[derive(Clone, Copy)]
+#[derive(Clone, Copy, PartialEq, Eq, PartialOrd, Ord, Default, Debug)]
 pub struct Block(pub u32);
 
 // A block number computed from the fields of a record, which may hold any numbers: it has 64 bits, so that no sum wraps.
-#[derive(Clone, Copy)]
+#[derive(Clone, Copy, PartialEq, Eq, PartialOrd, Ord, Default, Debug)]
 pub struct WideBlock(pub u64);
 
 // A sector's logical block address. It has 64 bits, so that an address of a command block and a length add up without wrapping.
-#[derive(Clone, Copy)]
+#[derive(Clone, Copy, PartialEq, Eq, PartialOrd, Ord, Default, Debug)]
 pub struct Lba(pub u64);
 
 // Sectors in an ECC block.
@@ -21,7 +21,7 @@ const SECTORS_PER_BLOCK: u32 = 16;
 pub fn sectors_in(blocks: u32) -> u64
     ensures { result ≡ sectors_in blocks }
 {
-    SECTORS_PER_BLOCK as u64 * (blocks as u64)
+    u64::from(SECTORS_PER_BLOCK) * u64::from(blocks)
 }
 
 // How many blocks that many sectors fill.
@@ -42,20 +42,19 @@ pub fn left_over(sectors: usize) -> usize
 pub fn missing(sectors: usize) -> usize
     ensures { result ≡ missing sectors }
 {
-    if sectors < SECTORS_PER_BLOCK as usize {
-        return SECTORS_PER_BLOCK as usize - sectors;
+    (SECTORS_PER_BLOCK as usize).saturating_sub(sectors)
+}
+
+// The same block, where its number may be past every disc.
+impl From<Block> for WideBlock {
+    fn from(block: Block) -> WideBlock
+        ensures { result ≡ wide block }
+    {
+        WideBlock(u64::from(block.0))
     }
-    0
 }
 
 impl Block {
-    // Whether it is the block with a number that may be past every disc.
-    pub(crate) fn is(self, other: WideBlock) -> bool
-        ensures { result ≡ eqb self.0 other.0 }
-    {
-        self.0 as u64 == other.0
-    }
-
     // The address of the block's first sector.
     pub fn first_sector(self) -> Lba
         ensures { result ≡ first_sector self }
@@ -67,14 +66,14 @@ impl Block {
     pub(crate) fn sector_after(self, blocks: u32) -> Lba
         ensures { result ≡ first_sector (block (self.0 + blocks)) }
     {
-        Lba(SECTORS_PER_BLOCK as u64 * (self.0 as u64 + blocks as u64))
+        Lba(u64::from(SECTORS_PER_BLOCK) * (u64::from(self.0) + u64::from(blocks)))
     }
 
     // The address of a sector, counted from 0, in the block that is so many blocks on.
     pub(crate) fn sector_in(self, blocks: u32, sector: u8) -> Lba
         ensures { result ≡ lba ((first_sector (block (self.0 + blocks))).0 + sector) }
     {
-        Lba(SECTORS_PER_BLOCK as u64 * (self.0 as u64 + blocks as u64) + sector as u64)
+        Lba(self.sector_after(blocks).0 + u64::from(sector))
     }
 }
 
@@ -83,30 +82,20 @@ impl Lba {
     pub fn passes(self, sectors: u32, end: Lba) -> bool
         ensures { result ≡ passes self sectors «end» }
     {
-        if self.0 > end.0 {
-            return true;
-        }
-        end.0 - self.0 < sectors as u64
+        self > end || end.0 - self.0 < u64::from(sectors)
     }
 
     // Of a run of sectors, how many lie before an end.
     pub fn sectors_before(self, sectors: u32, end: Lba) -> u32
         ensures { result ≡ sectors_before self sectors «end» }
     {
-        if end.0 <= self.0 {
-            return 0;
-        }
-        let before = end.0 - self.0;
-        if before >= sectors as u64 {
-            return sectors;
-        }
-        before as u32
+        end.0.saturating_sub(self.0).min(u64::from(sectors)) as u32
     }
 
     // The sector's place in its block, from 0.
     pub fn place(self) -> u32
         ensures { result ≡ left_over self.0 }
     {
-        (self.0 % SECTORS_PER_BLOCK as u64) as u32
+        (self.0 % u64::from(SECTORS_PER_BLOCK)) as u32
     }
 }

@@ -1,42 +1,26 @@
-// The check of the records against the rules of a sound list, in one pass.
+// The check of the records against the rules of a sound list: along those in use, then along the rest.
 // It is total: the fields may hold any numbers, and no sum wraps.
 ghost use Rattle.std.specs.Prelude.{◌≡◌, ◌&&◌};
 ghost use Rattle.fragments.specs.Fragment.{is_zero};
-ghost use Rattle.fragments.specs.Check.{within, begins_list, continues, open_after, ends_list, list_sound};
+ghost use Rattle.fragments.specs.List.{every};
+ghost use Rattle.fragments.specs.Check.{within, begins_list, continues, open_after, ends_list, in_use_sound, list_sound};
 
-use crate::address;
-use crate::address::Block;
+use crate::address::{self, Block, WideBlock};
 use crate::fragment::Fragment;
-use crate::list::LIMIT;
+use crate::list::{LIMIT, in_use};
 
 impl Fragment {
-    // Every field is zero.
-    fn is_zero(self) -> bool
-        ensures { result ≡ is_zero self }
-    {
-        let kind = self.kind;
-        (self.session == 0)
-            & (self.start.0 == 0)
-            & (self.length == 0)
-            & (self.recorded == 0)
-            & (self.zeroed == 0)
-            & kind.is_reserved()
-    }
-
     // The fields of both joined bit by bit: all zero where those of both are.
     fn joined(self, other: Fragment) -> Fragment
         ensures { is_zero result ≡ (is_zero self && is_zero other) }
     {
-        let mine = self.kind;
-        let its = other.kind;
-        let kind = mine.joined(its);
         Fragment {
             start: Block(self.start.0 | other.start.0),
             length: self.length | other.length,
             recorded: self.recorded | other.recorded,
             zeroed: self.zeroed | other.zeroed,
             session: self.session | other.session,
-            kind,
+            kind: self.kind.max(other.kind),
         }
     }
 
@@ -44,26 +28,26 @@ impl Fragment {
     fn is_within(self, capacity: u32) -> bool
         ensures { result ≡ within capacity self }
     {
-        (self.end().0 <= capacity as u64)
+        (self.end().0 <= u64::from(capacity))
             & (self.recorded <= self.length)
-            & (self.zeroed as u64 <= address::sectors_in(self.recorded))
+            & (u64::from(self.zeroed) <= address::sectors_in(self.recorded))
     }
 
     // The record may be the first one.
     fn begins_list(self) -> bool
         ensures { result ≡ begins_list self }
     {
-        (self.length != 0) & (self.session == 1) & (self.start.0 == 0)
+        (self.length != 0) & (self.session == 1) & (self.start == Block(0))
     }
 
     // The record may stand after `before`; `incomplete` says that a fragment of that one's session is incomplete.
     fn continues(self, before: Fragment, incomplete: bool) -> bool
         ensures { result ≡ continues incomplete before self }
     {
-        let session = self.session as u32;
-        let same = (self.session == before.session) & self.start.is(before.next_start());
-        let next = (session == before.session as u32 + 1)
-            & self.start.is(before.next_session_start());
+        let start = WideBlock::from(self.start);
+        let same = (self.session == before.session) & (start == before.next_start());
+        let next = (u32::from(self.session) == u32::from(before.session) + 1)
+            & (start == before.next_session_start());
         !before.is_tail() & (same | !incomplete & next)
     }
 
@@ -82,47 +66,50 @@ impl Fragment {
             return !incomplete;
         }
         if self.is_tail() {
-            return self.end().0 == capacity as u64;
+            return self.end().0 == u64::from(capacity);
         }
-        if full {
-            return true;
-        }
-        capacity as u64 <= self.end().0 + 1
+        full || u64::from(capacity) <= self.end().0 + 1
     }
 }
 
-// The rules that speak of the records alone, for a disc of a capacity that is finalized or not: first along those in use, then the rest.
-// Both loops stand here, since a function takes a copy of the records that it goes along.
-pub fn list_is_sound(capacity: u32, finalized: bool, fragments: [Fragment; LIMIT]) -> bool
-    ensures { result ≡ list_sound capacity finalized fragments }
+// The rules of the records in use; `full` says that no record is free.
+fn in_use_is_sound(capacity: u32, finalized: bool, full: bool, records: &[Fragment]) -> bool
+    ensures { result ≡ in_use_sound capacity finalized full records.now }
 {
-    let first = fragments[0];
+    let [first, others @ ..] = records else {
+        return false;
+    };
     if !(first.begins_list() & first.is_within(capacity)) {
         return false;
     }
-    let mut before = first;
+    let mut before = *first;
     let mut incomplete = !first.is_complete();
-    let mut i: usize = 1;
-    let mut end: usize = LIMIT;
-    while i < end {
-        let f = fragments[i];
-        if f.length == 0 {
-            end = i;
-            continue;
-        }
+    for f in others {
         if !(f.is_within(capacity) & f.continues(before, incomplete)) {
             return false;
         }
         incomplete = f.leaves_open(before, incomplete);
-        before = f;
-        i += 1;
+        before = *f;
     }
-    let ends = before.ends_list(capacity, finalized, end == LIMIT, incomplete);
-    let mut rest = Fragment::unused();
-    while i < LIMIT {
-        let f = fragments[i];
-        rest = rest.joined(f);
-        i += 1;
+    before.ends_list(capacity, finalized, full, incomplete)
+}
+
+// Every field of every record is zero. The bits are joined, so that no record makes a branch.
+fn are_zero(records: &[Fragment]) -> bool
+    ensures { result ≡ every is_zero records.now }
+{
+    let mut joined = Fragment::unused();
+    for f in records {
+        joined = joined.joined(*f);
     }
-    ends & rest.is_zero()
+    joined == Fragment::unused()
+}
+
+// The rules that speak of the records alone, for a disc of a capacity that is finalized or not.
+pub fn list_is_sound(capacity: u32, finalized: bool, fragments: [Fragment; LIMIT]) -> bool
+    ensures { result ≡ list_sound capacity finalized fragments }
+{
+    let records = in_use(&fragments);
+    let rest = &fragments[records.len()..];
+    in_use_is_sound(capacity, finalized, rest.is_empty(), records) && are_zero(rest)
 }

@@ -13,13 +13,14 @@ const CLOSURE: u64 = 64;
 const INTRO: u64 = 64;
 
 // Reserved stands first: it is the kind of an unused record, which is all zero.
-#[derive(Clone, Copy)]
+#[derive(Clone, Copy, PartialEq, Eq, PartialOrd, Ord, Default, Debug)]
 pub enum Kind {
+    #[default]
     Reserved,
     Appended,
 }
 
-#[derive(Clone, Copy)]
+#[derive(Clone, Copy, PartialEq, Eq, Default, Debug)]
 pub struct Fragment {
     // The first block.
     pub start: Block,
@@ -38,20 +39,7 @@ impl Kind {
     pub fn is_reserved(self) -> bool
         ensures { result ≡ is_reserved self }
     {
-        match self {
-            Kind::Reserved => true,
-            Kind::Appended => false,
-        }
-    }
-
-    // Reserved where both are.
-    pub(crate) fn joined(self, other: Kind) -> Kind
-        ensures { is_reserved result ≡ (is_reserved self && is_reserved other) }
-    {
-        match self {
-            Kind::Reserved => other,
-            Kind::Appended => Kind::Appended,
-        }
+        self == Kind::Reserved
     }
 }
 
@@ -60,44 +48,36 @@ impl Fragment {
     pub fn unused() -> Fragment
         ensures { result ≡ unused_record }
     {
-        Fragment {
-            session: 0,
-            start: Block(0),
-            length: 0,
-            recorded: 0,
-            zeroed: 0,
-            kind: Kind::Reserved,
-        }
+        Fragment::default()
     }
 
     // A reserved record of so many blocks in the place of the tail.
     pub fn reserved(self, blocks: u32) -> Fragment
         ensures { result ≡ reserved_at self blocks }
     {
-        let start = self.start;
         Fragment {
             session: self.session,
-            start,
+            start: self.start,
             length: blocks,
-            recorded: 0,
-            zeroed: 0,
-            kind: Kind::Reserved,
+            ..Fragment::unused()
         }
     }
 
     // The record that ends with its recorded blocks.
-    pub fn shortened(mut self) -> Fragment
+    pub fn shortened(self) -> Fragment
         ensures { result ≡ shortened_record self }
     {
-        self.length = self.recorded;
-        self
+        Fragment {
+            length: self.recorded,
+            ..self
+        }
     }
 
     // The first block after the fragment.
     pub(crate) fn end(self) -> WideBlock
         ensures { result ≡ wide (end self) }
     {
-        WideBlock(self.start.0 as u64 + self.length as u64)
+        WideBlock(u64::from(self.start.0) + u64::from(self.length))
     }
 
     // Where the next fragment of the session starts.
@@ -137,15 +117,13 @@ impl Fragment {
     pub fn is_tail(self) -> bool
         ensures { result ≡ is_tail self }
     {
-        let kind = self.kind;
-        !kind.is_reserved() & !self.is_complete()
+        !self.kind.is_reserved() & !self.is_complete()
     }
 
     pub(crate) fn is_incomplete_reserved(self) -> bool
         ensures { result ≡ is_incomplete_reserved self }
     {
-        let kind = self.kind;
-        kind.is_reserved() & !self.is_complete()
+        self.kind.is_reserved() & !self.is_complete()
     }
 
     // The next writable address, after the recorded blocks and the sectors pending in the fragment.
@@ -159,7 +137,7 @@ impl Fragment {
     pub fn takes(self, address: Lba, pending: u8) -> bool
         ensures { result ≡ takes address pending self }
     {
-        !self.is_complete() & (address.0 == self.next_writable(pending).0)
+        !self.is_complete() & (address == self.next_writable(pending))
     }
 
     // The address of the last recorded sector, or 0.

@@ -14,7 +14,7 @@ pub use address::{Block, Lba, WideBlock, left_over, missing, sectors_in, whole_b
 pub use check::list_is_sound;
 pub use fragment::{Fragment, Kind};
 pub use list::{
-    LIMIT, Reach, first_of_session, has_incomplete_reserved, highest_readable, last_record,
+    LIMIT, Reach, first_of_session, has_incomplete_reserved, highest_readable, in_use, last_record,
     pending_of, record_numbered, used,
 };
 pub use numbered::Entry;

@@ -15,6 +15,7 @@ pub struct Sought {
 }
 
 // What one look at one record tells of the fragment that an address lies in.
+// Not an Ordering: `sides` of examples/specs/Searches.antt names what a look tells, and an unused record stands in no order to an address.
 #[derive(Clone, Copy)]
 pub enum Side {
     // It can only stand on the left, among the records before this one.
@@ -29,46 +30,43 @@ pub enum Side {
 fn step(address: Lba, f: Fragment) -> Side
     ensures { result ≡ step address f }
 {
-    if f.length == 0 {
-        return Side::Left;
+    if f.length == 0 || address < f.start.first_sector() {
+        Side::Left
+    } else if address < f.end_address() {
+        Side::Here
+    } else {
+        Side::Right
     }
-    if address.0 < f.start.first_sector().0 {
-        return Side::Left;
-    }
-    if address.0 < f.end_address().0 {
-        return Side::Here;
-    }
-    Side::Right
 }
 
 // The search: the records from the index `low` to before `high` are in question, and each step is given the one in their middle.
 pub fn halving(fragments: [Fragment; LIMIT], address: Lba) -> Sought
     ensures { result ≡ sought fragments (halving address) }
 {
-    let mut low: usize = 0;
-    let mut high: usize = LIMIT;
-    let mut looks: usize = 0;
-    while looks < LOOKS && low < high {
+    let mut low = 0;
+    let mut high = LIMIT;
+    for looks in 0..LOOKS {
+        if low == high {
+            return Sought {
+                holder: None,
+                looks,
+            };
+        }
         let index = low + (high - low) / 2;
         let f = fragments[index];
-        looks += 1;
         match step(address, f) {
-            Side::Left => {
-                high = index;
-            }
-            Side::Right => {
-                low = index + 1;
-            }
+            Side::Left => high = index,
+            Side::Right => low = index + 1,
             Side::Here => {
                 return Sought {
                     holder: Some(Entry::new(index + 1, f)),
-                    looks,
+                    looks: looks + 1,
                 };
             }
         }
     }
     Sought {
         holder: None,
-        looks,
+        looks: LOOKS,
     }
 }

@@ -1,7 +1,7 @@
 -- The list of records: its length, the records in use, tests of every record, and one step along it.
-use Prim.Native.Nat.{ℕ, zero, suc, ◌+◌, ◌-◌, ◌≤◌, ◌<◌}
+use Prim.Native.Nat.{ℕ, zero, suc, ◌+◌, ◌≤◌, ◌<◌}
 use mathlib.Core.Path.{◌≡◌, refl, sym, ◌∙◌, ap}
-use mathlib.Core.Bool.{Bool, true, false, ◌&&◌}
+use mathlib.Core.Bool.{Bool, true, not, ◌&&◌, ◌||◌}
 use mathlib.Core.List.{List, [], ◌∷◌, map}
 use native.Mathlib.Numerals.{add-one}
 use native.Mathlib.Omega.{arith}
@@ -9,9 +9,11 @@ use borrow.Author.Tests.{eq-eqb, ne_eqb, eqb-true, eqb-false}
 use lib.Dec.{eqb}
 use lib.ListN.{length, get_or, set, drop, drop_of_length-le, length-map}
 use lib.Seq.{drop-cons}
+use Rattle.std.specs.List.{take_while, prefix_len, list_any}
+use Rattle.std.proofs.lemmas.List.Sums.{take_while-cons}
 use Rattle.fragments.specs.Types.{Fragment, Some, None}
 use Rattle.fragments.specs.Address.{lba, later}
-use Rattle.fragments.specs.Fragment.{unused_record, last_readable_of}
+use Rattle.fragments.specs.Fragment.{unused, unused_record, last_readable_of}
 use Rattle.fragments.specs.List.{limit, listed, every, some, find, sum_recorded, pending_of, highest_readable, first_of_session}
 use Rattle.fragments.proofs.Laws.Bool.{and_left, and_right, and_both, or_left, or_right, or_cases, contradiction, by_cases}
 
@@ -57,6 +59,10 @@ every_implies p q (f ∷ fs) h e = and_both (h f (and_left (p f) (every p fs) e)
 pub use_cases {ℓ} : {P : Type ℓ} (f : Fragment) → (f.length ≡ 0 → P) → ((f.length ≡ 0 → ⊥) → P) → P
 use_cases f off on = by_cases (eqb f.length 0) (λ e. off (eqb-true _ _ e)) (λ e. on (eqb-false _ _ e))
 
+pub listed_none : listed [] ≡ []
+unfolding listed
+listed_none = refl
+
 pub listed_off : (f : Fragment) (fs : List Fragment) → f.length ≡ 0 → listed (f ∷ fs) ≡ []
 unfolding listed
 listed_off f fs e = rw (eq-eqb _ _ e)
@@ -64,6 +70,26 @@ listed_off f fs e = rw (eq-eqb _ _ e)
 pub listed-on : (f : Fragment) (fs : List Fragment) → (f.length ≡ 0 → ⊥) → listed (f ∷ fs) ≡ f ∷ listed fs
 unfolding listed
 listed-on f fs e = rw (ne_eqb _ _ e)
+
+-- in the words of std: the records in use are those before the first without a length, and the walks along them are std's
+pub listed-is : (fs : List Fragment) → listed fs ≡ take_while (λ f. not (unused f)) fs
+unfolding listed
+listed-is [] = refl
+listed-is (f ∷ fs) =
+    by_cases (unused f) (λ e. rw e)
+    (λ e. rw (take_while-cons (λ g. not (unused g)) f fs) (rw e (ap (λ (gs : List Fragment). f ∷ gs) (listed-is fs))))
+
+pub some-is : (p : Fragment → Bool) (fs : List Fragment) → some p fs ≡ list_any p fs
+unfolding some
+some-is p [] = refl
+some-is p (f ∷ fs) = ap (λ b. p f || b) (some-is p fs)
+
+pub first_of_session-is :
+    (s n : ℕ) (fs : List Fragment) → first_of_session s n fs ≡ prefix_len (λ f. not (eqb f.session s)) fs + n
+unfolding first_of_session
+first_of_session-is s n [] = omega arith
+first_of_session-is s n (f ∷ fs) =
+    by_cases (eqb f.session s) (λ e. rw e (omega arith)) (λ e. rw e (omega (arith, first_of_session-is s (n + 1) fs)))
 
 pub listed_le : (fs : List Fragment) → length (listed fs) ≤ length fs
 unfolding listed
@@ -120,32 +146,6 @@ module _ (fs : List Fragment) (i : ℕ) (d : Fragment) (h : i < length fs) where
   pub listed-drop-on : ((get_or fs i d).length ≡ 0 → ⊥) → listed (drop i fs) ≡ get_or fs i d ∷ listed (drop (i + 1) fs)
   listed-drop-on e = rw (add-one, drop-cons fs i d h) (listed-on (get_or fs i d) (drop (suc i) fs) e)
 
-  pub session-off : (s n : ℕ) → (get_or fs i d).length ≡ 0 → first_of_session s n (listed (drop i fs)) ≡ n
-  unfolding first_of_session
-  session-off s n e = rw (listed-drop-off e)
-
-  pub session-here :
-      (s n : ℕ) → ((get_or fs i d).length ≡ 0 → ⊥) → (get_or fs i d).session ≡ s → first_of_session s n (listed (drop i fs)) ≡ n
-  unfolding first_of_session
-  session-here s n e t = rw (listed-drop-on e) (rw (eq-eqb _ _ t))
-
-  pub session-on :
-      (s n : ℕ) → ((get_or fs i d).length ≡ 0 → ⊥) → ((get_or fs i d).session ≡ s → ⊥)
-      → first_of_session s n (listed (drop i fs)) ≡ first_of_session s (n + 1) (listed (drop (i + 1) fs))
-  unfolding first_of_session
-  session-on s n e t = rw (listed-drop-on e) (rw (ne_eqb _ _ t))
-
-  pub highest-off : (p o n : ℕ) → (get_or fs i d).length ≡ 0 → highest_readable p o n (listed (drop i fs)) ≡ lba 0
-  unfolding highest_readable
-  highest-off p o n e = rw (listed-drop-off e)
-
-  pub highest-on :
-      (p o n : ℕ) → ((get_or fs i d).length ≡ 0 → ⊥)
-      → highest_readable p o n (listed (drop i fs))
-      ≡ later (last_readable_of (pending_of p o n) (get_or fs i d)) (highest_readable p o (n + 1) (listed (drop (i + 1) fs)))
-  unfolding highest_readable
-  highest-on p o n e = rw (listed-drop-on e)
-
 pub listed-drop-end : (fs : List Fragment) (i : ℕ) → length fs ≤ i → listed (drop i fs) ≡ []
 unfolding listed
 listed-drop-end fs i h = rw (drop_of_length-le fs h)
@@ -197,31 +197,16 @@ find_none p k (f ∷ fs) e (suc i) l t =
     (λ u. let z : Some k ≡ None = rw u at e in let q : ◌≡◌ {A = ℕ} 0 1 = cc in omega arith)
     (λ u. find_none p (k + 1) fs (rw u at e) i (omega (arith, l)) (rw here at t))
 
-pub session_end : (fs : List Fragment) (i s n : ℕ) → length fs ≤ i → first_of_session s n (listed (drop i fs)) ≡ n
-unfolding first_of_session
-session_end fs i s n h = rw (listed-drop-end fs i h)
-
-pub highest_end : (fs : List Fragment) (i p o n : ℕ) → length fs ≤ i → highest_readable p o n (listed (drop i fs)) ≡ lba 0
+-- one step of the walk for the highest readable address, and its end
+pub highest-on :
+    (fs : List Fragment) (i : ℕ) (d : Fragment) → i < length fs → (p o n : ℕ)
+    → highest_readable p o n (drop i fs) ≡ later (last_readable_of (pending_of p o n) (get_or fs i d)) (highest_readable p o (n + 1) (drop (i + 1) fs))
 unfolding highest_readable
-highest_end fs i p o n h = rw (listed-drop-end fs i h)
+highest-on fs i d h p o n = let e : i + 1 ≡ suc i = omega arith in rw (e, drop-cons fs i d h)
 
--- a test that some record in use passes, one step along the list
-module _ (p : Fragment → Bool) (fs : List Fragment) (i : ℕ) (d : Fragment) (h : i < length fs) where
-  pub some-off : (get_or fs i d).length ≡ 0 → some p (listed (drop i fs)) ≡ false
-  unfolding some
-  some-off e = rw (listed-drop-off fs i d h e)
-
-  pub some-here : ((get_or fs i d).length ≡ 0 → ⊥) → p (get_or fs i d) ≡ true → some p (listed (drop i fs)) ≡ true
-  unfolding some
-  some-here e t = rw (listed-drop-on fs i d h e) (rw t)
-
-  pub some-on : ((get_or fs i d).length ≡ 0 → ⊥) → p (get_or fs i d) ≡ false → some p (listed (drop i fs)) ≡ some p (listed (drop (i + 1) fs))
-  unfolding some
-  some-on e t = rw (listed-drop-on fs i d h e) (rw t)
-
-pub some_end : (p : Fragment → Bool) (fs : List Fragment) (i : ℕ) → length fs ≤ i → some p (listed (drop i fs)) ≡ false
-unfolding some
-some_end p fs i h = rw (listed-drop-end fs i h)
+pub highest_end : (fs : List Fragment) (i p o n : ℕ) → length fs ≤ i → highest_readable p o n (drop i fs) ≡ lba 0
+unfolding highest_readable
+highest_end fs i p o n h = rw (drop_of_length-le fs h)
 
 -- a test that some record passes, at an index and back
 pub some_cases :

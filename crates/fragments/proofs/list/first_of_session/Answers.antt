@@ -1,28 +1,13 @@
-use Rattle.fragments.proofs.Laws.List.{session-off, session-here, session-on, session_end}
-use mathlib.Core.Path.{sym, ◌∙◌}
-use native.Mathlib.Omega.{arith}
-use Prim.Native.Nat.{◌+◌, ◌-◌}
+use Rattle.std.proofs.Common.{not, eqb, rules, tests}
+use Rattle.std.proofs.lemmas.Iterator.{YieldsList-from_slice}
+use Rattle.std.proofs.lemmas.Iterator.Consumers.{YieldsList-at, count_from_yields_List}
+use Rattle.std.proofs.lemmas.Iterator.Search.{YieldsList-from_take_while}
+use Rattle.std.proofs.lemmas.List.Folds.{length-prefix_len}
+use Rattle.fragments.proofs.Laws.List.{first_of_session-is}
 use Rattle.fragments.proofs.list.first_of_session.Goals as goal
-
-pub returns-then-f-eq0 : goal.returns-then-f-eq0
-returns-then-f-eq0 c =
-    let w = c.loop-i in
-    sym (w.invariant.2 ∙ session-off c.args.fragments w.i _ (omega arith) c.args.session (w.i + 1) c.if-f-eq0.true)
-
-pub returns-then-f-session : goal.returns-then-f-session
-returns-then-f-session c =
-    let w = c.loop-i in
-    sym (w.invariant.2 ∙ session-here c.args.fragments w.i _ (omega arith) c.args.session (w.i + 1) c.if-f-eq0.false c.if-f-session.true)
-
-pub loop-i-preserved : goal.loop-i-preserved
-loop-i-preserved c =
-    let w = c.loop-i in (
-      omega arith,
-      w.invariant.1,
-      w.invariant.2 ∙ session-on c.args.fragments w.i _ (omega arith) c.args.session (w.i + 1) c.if-f-eq0.false c.if-f-session.false,
-    )
 
 pub returns : goal.returns
 returns c =
-    let w = c.loop-i in
-    sym (w.invariant.2 ∙ session_end c.args.fragments w.i c.args.session (w.i + 1) (omega arith))
+    let n = count_from_yields_List c.take_while-before.result _ c.count.ensures.ran
+    (YieldsList-from_take_while _ (λ f. not (eqb f.session c.args.session)) (YieldsList-at c.take_while-before.ensures.source (YieldsList-from_slice c.in_use.result.now (cc))) c.take_while-before.ensures.closure c.take_while-before.ensures.done (λ x b q k. search (rules, tests))) in
+    rw (n, length-prefix_len, first_of_session-is, c.in_use.ensures)

@@ -1,18 +1,19 @@
+use Rattle.std.proofs.Common.{rules}
 use Rattle.fragments.specs.Check.{ends_list}
 use Rattle.fragments.proofs.fragment.Fragment.ends_list.Goals as goal
 
 pub returns-then-finalized : goal.returns-then-finalized
 unfolding ends_list
-returns-then-finalized c = simp c.if-finalized.true
+returns-then-finalized c = search rules
 
 pub returns-then-is_tail : goal.returns-then-is_tail
 unfolding ends_list
-returns-then-is_tail c = simp (c.end.ensures, c.if-is_tail.true, ← c.is_tail.ensures, c.if-finalized.false)
+returns-then-is_tail c = search rules
 
 pub returns-then-full : goal.returns-then-full
 unfolding ends_list
-returns-then-full c = simp (c.if-full.true, c.if-is_tail.false, ← c.is_tail.ensures, c.if-finalized.false)
+returns-then-full c = search rules
 
-pub returns : goal.returns
+pub returns-else-full : goal.returns-else-full
 unfolding ends_list
-returns c = simp (c.end-2.ensures, c.if-full.false, c.if-is_tail.false, ← c.is_tail.ensures, c.if-finalized.false)
+returns-else-full c = search rules

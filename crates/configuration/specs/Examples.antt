@@ -1,5 +1,6 @@
 -- What the reader makes of single replies, computed, and what its two theorems give: a weaker one would not.
-use Rattle.std.specs.Prelude.{ℕ, ◌+◌, ◌≤◌, ◌≡◌, refl, Bool, true, false, cond, ◌||◌, List, [], ◌∷◌, ◌++◌, map, length, take, get_or, replicate}
+use Rattle.std.specs.Prelude.{ℕ, ◌+◌, ◌≤◌, ◌≡◌, refl, Bool, false, cond, ◌||◌, List, [], ◌∷◌, ◌++◌, map, length, take, get_or, replicate, Some}
+use Rattle.std.specs.Option.{is_some}
 use Rattle.std.proofs.Common.{ap}
 use Rattle.features.specs.Feature.{features, descriptors, asked, numbers}
 use Rattle.features.specs.Configuration.{configuration_of, configuration_bytes}
@@ -9,7 +10,7 @@ use Rattle.configuration.specs.Theorems.{ReadBack, OnlySent}
 
 -- what is read, by hand
 abbrev told : ℕ → List ℕ → Reading
-told p ns = record { accepted = true; profile = p; count = length ns; features = ns ++ replicate 7 0 }
+told p ns = record { profile = p; features = record { numbers = ns ++ replicate 7 0; count = length ns } }
 
 -- the three features from 0100h on, 32 bytes
 abbrev three : List ℕ
@@ -19,7 +20,7 @@ three =
     ∷ 0x01 ∷ 0x05 ∷ 1 ∷ 4 ∷ 0 ∷ 0 ∷ 0 ∷ 0
     ∷ 0x01 ∷ 0x07 ∷ 1 ∷ 4 ∷ 0 ∷ 0 ∷ 0 ∷ 0 ∷ []
 
-pub read-three : read_reply three ≡ told 0x001B (0x0100 ∷ 0x0105 ∷ 0x0107 ∷ [])
+pub read-three : read_reply three ≡ Some (told 0x001B (0x0100 ∷ 0x0105 ∷ 0x0107 ∷ []))
 unfolding read_reply read_among same_bytes possible ends features descriptors numbers
 read-three = refl
 
@@ -37,7 +38,7 @@ refusals =
     ∷ (0 ∷ 0 ∷ 0 ∷ 0x0C ∷ 0 ∷ 0 ∷ 0 ∷ 0x1B ∷ 0 ∷ 0x2B ∷ 5 ∷ 4 ∷ 0 ∷ 0 ∷ 0 ∷ 0 ∷ [])
     ∷ [] ∷ []
 
-pub refused_all : map (λ (x : List ℕ). (read_reply x).accepted) refusals ≡ replicate 9 false
+pub refused_all : map (λ (x : List ℕ). is_some (read_reply x)) refusals ≡ replicate 9 false
 unfolding read_reply read_among same_bytes possible ends ones features descriptors
 refused_all = refl
 
@@ -56,17 +57,17 @@ twenty = (refl, refl)
 
 -- drawn from the theorems: a reply of type 1 read back; of whatever is accepted a byte, the profile that is told, and a request that the drive
 -- serves
-pub drawn_back : ReadBack → read_reply (configuration_bytes 1 0x0100) ≡ told 0x001B (0x0100 ∷ 0x0105 ∷ 0x0107 ∷ [])
+pub drawn_back : ReadBack → read_reply (configuration_bytes 1 0x0100) ≡ Some (told 0x001B (0x0100 ∷ 0x0105 ∷ 0x0107 ∷ []))
 unfolding features asked numbers
 drawn_back back = back 1 0x0100
 
-pub drawn_only : OnlySent → (x : List ℕ) → (read_reply x).accepted ≡ true → get_or x 7 0 ≡ 0x1B
+pub drawn_only : OnlySent → (x : List ℕ) (r : Reading) → read_reply x ≡ Some r → get_or x 7 0 ≡ 0x1B
 unfolding configuration_bytes
-drawn_only only x e = ap (λ (y : List ℕ). get_or y 7 0) (only x e).reply
+drawn_only only x r e = ap (λ (y : List ℕ). get_or y 7 0) (only x r e).reply
 
-pub drawn-told : OnlySent → (x : List ℕ) → (read_reply x).accepted ≡ true → (read_reply x).profile ≡ 0x001B
-drawn-told only x e = ap (λ (r : Reading). r.profile) (only x e).told
+pub drawn-told : OnlySent → (x : List ℕ) (r : Reading) → read_reply x ≡ Some r → r.profile ≡ 0x001B
+drawn-told only x r e = ap (λ (q : Reading). q.profile) (only x r e).told
 
 pub drawn-served :
-    (only : OnlySent) (x : List ℕ) (e : (read_reply x).accepted ≡ true) → ((only x e).request_type ≤ 2) × ((only x e).start ≤ 0xFFFF)
-drawn-served only x e = ((only x e).served, (only x e).fits)
+    (only : OnlySent) (x : List ℕ) (r : Reading) (e : read_reply x ≡ Some r) → ((only x r e).request_type ≤ 2) × ((only x r e).start ≤ 0xFFFF)
+drawn-served only x r e = ((only x r e).served, (only x r e).fits)

@@ -1,7 +1,7 @@
 -- INQUIRY (12h) and GET CONFIGURATION (46h) as a table of runs in the manner of Tour: every byte of the whole replies, cuts, starting features,
 -- request types, lengths lent, refusals. What each line must show was worked out by hand from the documents; `identities` says that the
 -- definitions give it.
-use Rattle.std.specs.Prelude.{ℕ, ◌≤◌, ◌≡◌, refl, true, false, List, [], ◌∷◌, ◌++◌, map, length, take, drop, eqb}
+use Rattle.std.specs.Prelude.{ℕ, ◌≤◌, ◌≡◌, refl, true, false, List, [], ◌∷◌, ◌++◌, map, length, take, drop, eqb, Some}
 use Rattle.features.specs.Feature.{features, descriptors, asked, selected}
 use Rattle.features.specs.Configuration.{configuration_bytes}
 use Rattle.configuration.specs.Reading.{reading, read_reply}
@@ -141,6 +141,6 @@ identities = refl
 -- `configuration`: drawn from its theorem
 pub served-read_back :
     (d : Disc) (t s n : ℕ) → eqb t 3 ≡ false → length (configuration_bytes t s) ≤ n
-    → read_reply (reply_bytes (get_configuration d t s n).reply) ≡ reading (selected t s)
+    → read_reply (reply_bytes (get_configuration d t s n).reply) ≡ Some (reading (selected t s))
 unfolding get_configuration accept accepted
 served-read_back d t s n e h = rw (e, configuration_uncut t s n h) (replies-read_back t s)

@@ -1,44 +1,52 @@
 -- Bytes compared, and what is read of the replies that are possible.
-use Prim.Native.Nat.{ℕ, ◌+◌, ◌-◌, ◌≤◌, ◌<◌}
+use Prim.Native.Nat.{ℕ, ◌≤◌}
 use mathlib.Core.Path.{◌≡◌, refl, sym, ap, ◌∙◌, subst}
-use mathlib.Core.Bool.{Bool, true, false, ◌&&◌, and-eq-true_iff, false≢true}
+use mathlib.Core.Bool.{Bool, true, false, cond, not, ◌&&◌, false≢true}
 use mathlib.Core.List.{List, [], ◌∷◌, ◌++◌}
 use mathlib.Core.Logic.{◌⊎◌, inl, inr, ⊎_elim}
 use native.Mathlib.Omega.{arith}
-use native.Mathlib.Numerals.{add-one}
-use lib.ListN.{length, take, drop, get_or, drop_of_length-le}
-use lib.Seq.{drop-cons, take-length}
+use lib.ListN.{length, take}
+use lib.Seq.{take-length}
 use native.Mathlib.Nat.{le_refl}
 use lib.Dec.{eqb, leb}
-use borrow.Author.Tests.{eq-eqb, ne_eqb, eqb-true, leb-true}
+use Rattle.std.specs.Prelude.{Option, Some, None}
+use Rattle.std.specs.Cmp.Lexicographic.{pointwise}
+use Rattle.std.proofs.lemmas.Slice.Eq.{IsBytesEq, compares_Decides}
+use borrow.Author.Tests.{eqb-true, leb-true}
 use Rattle.features.specs.Feature.{features, descriptors, asked, selected, Above, Rising}
 use Rattle.features.specs.declared.listing.Listing.{Listing}
 use Rattle.features.specs.Configuration.{configuration_of, configuration_bytes, listing}
 use Rattle.features.proofs.Laws.Feature.{features-rise, above_from, above_one}
 use Rattle.features.proofs.Laws.Configuration.{listing-first}
-use Rattle.configuration.specs.Types.{Feature}
-use Rattle.configuration.specs.Reading.{reading, refused, ends, ones, possible, same_bytes, read_among, read_reply}
+use Rattle.configuration.specs.Types.{Feature, Reading}
+use Rattle.configuration.specs.Reading.{reading, ends, ones, possible, same_bytes, read_among, read_reply}
 use Rattle.configuration.specs.First.{first_feature}
 use Rattle.configuration.specs.Theorems.{Sent}
 
-by_cases : {P : Type 0} (b : Bool) → (b ≡ true → P) → (b ≡ false → P) → P
+none-some : {A : Type 0} {a : A} → ◌≡◌ {A = Option A} None (Some a) → ⊥
+none-some e = cc
+
+some_equal : {A : Type 0} {a b : A} → Some a ≡ Some b → a ≡ b
+some_equal e = cc
+
+pub by_cases : {P : Type 0} (b : Bool) → (b ≡ true → P) → (b ≡ false → P) → P
 by_cases true on off = on refl
 by_cases false on off = off refl
 
--- bytes that are the same are equal, and back
-pub same_self : (x : List ℕ) → same_bytes x x ≡ true
+-- bytes that are the same are equal, and `==` on slices says whether they are
+heads : IsBytesEq same_bytes
 unfolding same_bytes
-same_self [] = refl
-same_self (b ∷ x) = rw (eq-eqb b b refl) (same_self x)
+heads = record { empty = refl; shorter = λ y ys. refl; longer = λ x xs. refl; heads = λ x y xs ys. refl }
 
 pub same_equal : (x y : List ℕ) → same_bytes x y ≡ true → x ≡ y
+same_equal x y = (compares_Decides same_bytes heads x y).0
+
+pub same_pointwise : (x y : List ℕ) → pointwise eqb x y ≡ same_bytes x y
 unfolding same_bytes
-same_equal [] [] e = refl
-same_equal [] (c ∷ y) e = absurd (false≢true e)
-same_equal (b ∷ x) [] e = absurd (false≢true e)
-same_equal (b ∷ x) (c ∷ y) e =
-    let both = (and-eq-true_iff (eqb b c) (same_bytes x y)).0 e in
-    rw (eqb-true b c both.0, same_equal x y both.1)
+same_pointwise [] [] = refl
+same_pointwise [] (c ∷ y) = refl
+same_pointwise (b ∷ x) [] = refl
+same_pointwise (b ∷ x) (c ∷ y) = ap (λ (e : Bool). eqb b c && e) (same_pointwise x y)
 
 -- what holds of each of some lists of features
 unfoldable All : (List Feature → Type 0) → List (List Feature) → Type 0
@@ -92,13 +100,13 @@ all-selected P a r s =
     (λ e. all_from P r s features e features-rise x)
 
 -- each of them is read as its features
-read-possible : All (λ fs. read_reply (configuration_of fs) ≡ reading fs) possible
+read-possible : All (λ fs. read_reply (configuration_of fs) ≡ Some (reading fs)) possible
 unfolding All possible ends ones features descriptors read_reply read_among same_bytes
 read-possible = (refl, (refl, (refl, (refl, (refl, (refl, (refl, (refl, (refl, (refl, (refl, (refl, (refl, (refl, (refl, (refl, (refl, (refl, (refl, (refl, (refl, tt)))))))))))))))))))))
 
-pub read_back : (r s : ℕ) → read_reply (configuration_bytes r s) ≡ reading (selected r s)
+pub read_back : (r s : ℕ) → read_reply (configuration_bytes r s) ≡ Some (reading (selected r s))
 unfolding configuration_bytes
-read_back r s = all-selected (λ fs. read_reply (configuration_of fs) ≡ reading fs) read-possible r s
+read_back r s = all-selected (λ fs. read_reply (configuration_of fs) ≡ Some (reading fs)) read-possible r s
 
 -- its first feature says which it is
 first_says :
@@ -114,34 +122,36 @@ sent-possible : All (λ fs. Sent (configuration_of fs) (reading fs)) possible
 unfolding All possible ends ones features asked configuration_bytes
 sent-possible = (sent 0 0x0000 (omega arith) (omega arith), (sent 0 0x0001 (omega arith) (omega arith), (sent 0 0x0002 (omega arith) (omega arith), (sent 0 0x0003 (omega arith) (omega arith), (sent 0 0x0010 (omega arith) (omega arith), (sent 0 0x001F (omega arith) (omega arith), (sent 0 0x002B (omega arith) (omega arith), (sent 0 0x0100 (omega arith) (omega arith), (sent 0 0x0105 (omega arith) (omega arith), (sent 0 0x0107 (omega arith) (omega arith), (sent 0 0xFFFF (omega arith) (omega arith), (sent 2 0x0000 (omega arith) (omega arith), (sent 2 0x0001 (omega arith) (omega arith), (sent 2 0x0002 (omega arith) (omega arith), (sent 2 0x0003 (omega arith) (omega arith), (sent 2 0x0010 (omega arith) (omega arith), (sent 2 0x001F (omega arith) (omega arith), (sent 2 0x002B (omega arith) (omega arith), (sent 2 0x0100 (omega arith) (omega arith), (sent 2 0x0105 (omega arith) (omega arith), (sent 2 0x0107 (omega arith) (omega arith), tt)))))))))))))))))))))
 
--- bytes that are none of some replies are refused
+-- of bytes that are none of some replies nothing is read
 all_map : (P Q : List Feature → Type 0) (l : List (List Feature)) → ((fs : List Feature) → P fs → Q fs) → All P l → All Q l
 unfolding All
 all_map P Q [] h a = tt
 all_map P Q (fs ∷ l) h a = (h fs a.0, all_map P Q l h a.1)
 
-among_none : (x : List ℕ) (l : List (List Feature)) → All (λ fs. same_bytes x (configuration_of fs) ≡ false) l → read_among x l ≡ refused
+among_none : (x : List ℕ) (l : List (List Feature)) → All (λ fs. same_bytes x (configuration_of fs) ≡ false) l → read_among x l ≡ None
 unfolding All read_among
 among_none x [] a = refl
 among_none x (fs ∷ l) a = rw a.0 (among_none x l a.1)
 
--- those that are accepted are one of them
+-- those of which something is read are one of them
 among-sent :
-    (x : List ℕ) (l : List (List Feature)) → All (λ fs. Sent (configuration_of fs) (reading fs)) l → (read_among x l).accepted ≡ true
-    → Sent x (read_among x l)
+    (x : List ℕ) (l : List (List Feature)) → All (λ fs. Sent (configuration_of fs) (reading fs)) l → (r : Reading) → read_among x l ≡ Some r
+    → Sent x r
 unfolding All read_among
-among-sent x [] a e = absurd (false≢true e)
-among-sent x (fs ∷ l) a e =
+among-sent x [] a r e = absurd (none-some e)
+among-sent x (fs ∷ l) a r e =
     by_cases (same_bytes x (configuration_of fs))
-    (λ t. rw t (subst (λ y. Sent y (reading fs)) (sym (same_equal x (configuration_of fs) t)) a.0))
-    (λ t. rw t (among-sent x l a.1 (rw t at e)))
+    (λ t.
+    let q : reading fs ≡ r = some_equal (rw t at e) in
+    subst (λ y. Sent y r) (sym (same_equal x (configuration_of fs) t)) (subst (Sent (configuration_of fs)) q a.0))
+    (λ t. among-sent x l a.1 r (rw t at e))
 
-pub only_sent : (x : List ℕ) → (read_reply x).accepted ≡ true → Sent x (read_reply x)
+pub only_sent : (x : List ℕ) (r : Reading) → read_reply x ≡ Some r → Sent x r
 unfolding read_reply
-only_sent x e = among-sent x possible sent-possible e
+only_sent x r e = among-sent x possible sent-possible r e
 
 -- the code's three cases: the reply to a request, by its first feature, or neither
-pub read_answer : (x : List ℕ) (r s : ℕ) → same_bytes x (configuration_bytes r s) ≡ true → read_reply x ≡ reading (selected r s)
+pub read_answer : (x : List ℕ) (r s : ℕ) → same_bytes x (configuration_bytes r s) ≡ true → read_reply x ≡ Some (reading (selected r s))
 read_answer x r s t = ap read_reply (same_equal x (configuration_bytes r s) t) ∙ read_back r s
 
 module _ (x : List ℕ) (one : same_bytes x (configuration_bytes 2 (first_feature x)) ≡ false) (all : same_bytes x (configuration_bytes 0 (first_feature x)) ≡ false) where
@@ -156,47 +166,42 @@ module _ (x : List ℕ) (one : same_bytes x (configuration_bytes 2 (first_featur
       absurd (false≢true (sym (rw w at h) ∙ t)))
       (λ t. t)
 
-  pub read-neither : read_reply x ≡ refused
+  pub read-neither : read_reply x ≡ None
   unfolding read_reply
   read-neither =
       among_none x possible
       (all_map _ (λ fs. same_bytes x (configuration_of fs) ≡ false) possible (λ fs h. ⊎_elim (other 2 fs one) (other 0 fs all) h) first_says)
 
--- the comparison from byte to byte
-pub same_lengths : (x y : List ℕ) → (length x ≡ length y → ⊥) → same_bytes x y ≡ false
-same_lengths x y h = by_cases (same_bytes x y) (λ t. absurd (h (ap length (same_equal x y t)))) (λ t. t)
+-- what the code makes of a reply that may be the one to a request, and of the two requests in turn
+abbrev pub answered : List ℕ → ℕ → ℕ → Option Reading
+answered x r s = cond (same_bytes x (configuration_bytes r s)) (Some (reading (selected r s))) None
 
-module _ (x y : List ℕ) (i : ℕ) (size : length x ≡ length y) where
-  split : i < length x → same_bytes (drop i x) (drop i y) ≡ (eqb (get_or x i 0) (get_or y i 0) && same_bytes (drop (i + 1) x) (drop (i + 1) y))
-  unfolding same_bytes
-  split h = rw (add-one, drop-cons x i 0 h, drop-cons y i 0 (omega (arith, size)))
+pub read-one : (x : List ℕ) → same_bytes x (configuration_bytes 2 (first_feature x)) ≡ true → answered x 2 (first_feature x) ≡ read_reply x
+read-one x t = rw t (sym (read_answer x 2 (first_feature x) t))
 
-  pub same-on : i < length x → get_or x i 0 ≡ get_or y i 0 → same_bytes (drop i x) (drop i y) ≡ same_bytes (drop (i + 1) x) (drop (i + 1) y)
-  same-on h e = split h ∙ rw (eq-eqb (get_or x i 0) (get_or y i 0) e)
+pub read-all : (x : List ℕ) → same_bytes x (configuration_bytes 2 (first_feature x)) ≡ false → answered x 0 (first_feature x) ≡ read_reply x
+read-all x f =
+    by_cases (same_bytes x (configuration_bytes 0 (first_feature x)))
+    (λ t. rw t (sym (read_answer x 0 (first_feature x) t)))
+    (λ t. rw t (sym (read-neither x f t)))
 
-  pub same-off : i < length x → (get_or x i 0 ≡ get_or y i 0 → ⊥) → same_bytes (drop i x) (drop i y) ≡ false
-  same-off h e = split h ∙ rw (ne_eqb (get_or x i 0) (get_or y i 0) e)
-
-  pub same_end : length x ≤ i → same_bytes (drop i x) (drop i y) ≡ true
-  unfolding same_bytes
-  same_end h = rw (drop_of_length-le x {i = i} h, drop_of_length-le y {i = i} (omega (arith, size)))
-
--- a listing's bytes up to its length are the reply
-pub listing_bytes : (x : List ℕ) (l : Listing) → l ≡ listing x → take (l.length - 0) l.bytes ≡ x
+-- a listing's slice is the reply, so that `!=` says whether bytes differ from that
+listing_bytes : (x : List ℕ) (l : Listing) → l ≡ listing x → take l.length l.bytes ≡ x
 listing_bytes x l e =
-    let size : l.length - 0 ≡ length x = omega (arith, ap (λ (r : Listing). r.length) e) in
+    let size : l.length ≡ length x = ap (λ (r : Listing). r.length) e in
     ap (λ (n : ℕ). take n l.bytes) size ∙ (listing-first (length x) x l e (le_refl (length x)) ∙ take-length x)
+
+pub differs :
+    (y x : List ℕ) (l : Listing) (z : List ℕ) {b : Bool} → l ≡ listing x → z ≡ take l.length l.bytes → b ≡ not (pointwise eqb y z)
+    → b ≡ not (same_bytes y x)
+differs y x l z e taken r = r ∙ ap not (ap (pointwise eqb y) (taken ∙ listing_bytes x l e) ∙ same_pointwise y x)
 
 -- there are ten features at the most
 few : All (λ fs. length fs ≤ 10) possible
 unfolding All possible ends ones features
 few = (omega arith, (omega arith, (omega arith, (omega arith, (omega arith, (omega arith, (omega arith, (omega arith, (omega arith, (omega arith, (omega arith, (omega arith, (omega arith, (omega arith, (omega arith, (omega arith, (omega arith, (omega arith, (omega arith, (omega arith, (omega arith, tt)))))))))))))))))))))
 
-among_few : (x : List ℕ) (l : List (List Feature)) → All (λ fs. length fs ≤ 10) l → (read_among x l).count ≤ 10
-unfolding All read_among
-among_few x [] a = omega arith
-among_few x (fs ∷ l) a = by_cases (same_bytes x (configuration_of fs)) (λ t. rw t a.0) (λ t. rw t (among_few x l a.1))
-
-pub count_most : (x : List ℕ) → (read_reply x).count ≤ 10
-unfolding read_reply
-count_most x = among_few x possible few
+pub count_most : (x : List ℕ) (r : Reading) → read_reply x ≡ Some r → r.features.count ≤ 10
+count_most x r e =
+    let s = only_sent x r e in
+    rw s.told (all-selected (λ fs. length fs ≤ 10) few s.request_type s.start)

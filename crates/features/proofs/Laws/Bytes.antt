@@ -29,21 +29,13 @@ stored-over x (a ∷ u) l (b ∷ y) h =
     ∙ (ap (λ (k : ℕ). stored ((x ++ (b ∷ [])) ++ (u ++ l)) k y) (sym longer)
     ∙ (stored-over (x ++ (b ∷ [])) u l y (omega (arith, h)) ∙ append_assoc x (b ∷ []) (y ++ l)))
 
--- four stores, and eight bytes more in two parts
+-- four stores
 pub stored_four : (l : List ℕ) (i a b c d : ℕ) → set (set (set (set l i a) (i + 1) b) (i + 2) c) (i + 3) d ≡ stored l i (a ∷ b ∷ c ∷ d ∷ [])
 unfolding stored
 stored_four l i a b c d =
     let two : i + 1 + 1 ≡ i + 2 = omega arith in
     let three : i + 2 + 1 ≡ i + 3 = omega arith in
     rw (two, three)
-
-pub stored_twelve :
-    (l : List ℕ) (i : ℕ) (x y z : List ℕ) {l₁ l₂ l₃ : List ℕ} → length x ≡ 4 → length y ≡ 4
-    → l₁ ≡ stored l i x → l₂ ≡ stored l₁ (i + 4) y → l₃ ≡ stored l₂ (i + 8) z → l₃ ≡ stored l i (x ++ (y ++ z))
-stored_twelve l i x y z hx hy e₁ e₂ e₃ =
-    let b : i + 8 ≡ i + length (x ++ y) = omega (arith, length-append x y) in
-    let two = e₂ ∙ (ap (λ (k : List ℕ). stored k (i + 4) y) e₁ ∙ (ap (λ (k : ℕ). stored (stored l i x) (i + k) y) (sym hx) ∙ stored_parts l i x y)) in
-    e₃ ∙ (ap (λ (k : List ℕ). stored k (i + 8) z) two ∙ (ap (λ (k : ℕ). stored (stored l i (x ++ y)) k z) b ∙ (stored_parts l i (x ++ y) z ∙ ap (stored l i) (append_assoc x y z))))
 
 -- one more
 pub stored_next :

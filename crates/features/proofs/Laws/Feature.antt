@@ -10,6 +10,7 @@ use lib.Seq.{take-suc}
 use lib.Dec.{eqb}
 use borrow.Author.Tests.{le-leb, ne_eqb}
 use Rattle.features.specs.Types.{Feature}
+use Rattle.features.specs.declared.feature.TheConstants.{FEATURES}
 use Rattle.features.specs.Feature.{feature, features, feature_at, whole_descriptor, descriptor, descriptors, is_asked, asked, numbers, Above, Rising}
 
 -- a row of the table as the code stores it: the data have four bytes and zeros after them, or eight
@@ -25,7 +26,12 @@ long n v x y h = record { version = h; most = omega arith; whole = refl; size = 
 short : (n v x : ℕ) → v ≤ 1 → Row (feature n v 4 x 0)
 short n v x h = record { version = h; most = omega arith; whole = refl; size = refl }
 
-unfoldable Rows : List Feature → Type 0
+-- the code's table is this one
+pub table : FEATURES ≡ features
+unfolding features
+table = refl
+
+unfoldable pub Rows : List Feature → Type 0
 Rows [] = Unit {0}
 Rows (f ∷ fs) = Row f × Rows fs
 
@@ -39,10 +45,23 @@ within : (i : ℕ) → i < 10 → i < length features
 unfolding features
 within i h = h
 
-pub row_at : (i : ℕ) → i < 10 → Row (feature_at i)
+pub rows : Rows features
 unfolding features Rows
-row_at i h =
-    row_in features (feature 0 0 0 0 0) (long _ 0 _ _ (omega arith), (long _ 0 _ _ (omega arith), (short _ 0 _ (omega arith), (short _ 0 _ (omega arith), (long _ 0 _ _ (omega arith), (short _ 0 _ (omega arith), (short _ 1 _ (omega arith), (short _ 0 _ (omega arith), (short _ 0 _ (omega arith), (short _ 0 _ (omega arith), tt)))))))))) i (within i h)
+rows =
+    (long _ 0 _ _ (omega arith), (long _ 0 _ _ (omega arith), (short _ 0 _ (omega arith), (short _ 0 _ (omega arith), (long _ 0 _ _ (omega arith), (short _ 0 _ (omega arith), (short _ 1 _ (omega arith), (short _ 0 _ (omega arith), (short _ 0 _ (omega arith), (short _ 0 _ (omega arith), tt))))))))))
+
+pub row_at : (i : ℕ) → i < 10 → Row (feature_at i)
+row_at i h = row_in features (feature 0 0 0 0 0) rows i (within i h)
+
+cond_rows : (b : Bool) (f : Feature) (fs : List Feature) → Row f → Rows fs → Rows (cond b (f ∷ fs) fs)
+unfolding Rows
+cond_rows true f fs r w = (r, w)
+cond_rows false f fs r w = w
+
+pub rows-asked : (r s : ℕ) (fs : List Feature) → Rows fs → Rows (asked r s fs)
+unfolding Rows asked
+rows-asked r s [] w = tt
+rows-asked r s (f ∷ fs) w = cond_rows (is_asked r s f) f (asked r s fs) w.0 (rows-asked r s fs w.1)
 
 -- a feature that is asked for, and one that is not, after others
 pub descriptors-append : (x y : List Feature) → descriptors (x ++ y) ≡ descriptors x ++ descriptors y

@@ -1,9 +1,6 @@
 // A reply, cut to the length that the command allows.
-ghost use Rattle.std.specs.Prelude.{◌≡◌};
-ghost use Rattle.protocol.specs.Types.{Own};
-ghost use Rattle.protocol.specs.Reply.{cut_reply, configuration_reply, no_reply};
-
-use crate::lengths;
+ghost use Rattle.std.specs.Prelude.{◌≡◌, ◌≤◌, length};
+ghost use Rattle.protocol.specs.Reply.{cut_reply, report, configuration_reply, no_reply};
 
 // What a reply says: the bytes that it holds itself, or what GET CONFIGURATION says, which is longer than any other report and is written
 // only where it is sent.
@@ -29,31 +26,28 @@ impl Reply {
     fn cut(bytes: [u8; Reply::LIMIT], content: Content, whole: usize, allocation: usize) -> Reply
         ensures { result ≡ cut_reply bytes content whole allocation }
     {
-        let length = lengths::cut(whole, allocation);
         Reply {
             bytes,
             content,
-            length,
+            length: whole.min(allocation),
         }
     }
 
-    // A report of its first `whole` bytes.
-    pub(crate) fn report(bytes: [u8; Reply::LIMIT], whole: usize, allocation: usize) -> Reply
-        ensures { result ≡ cut_reply bytes Own whole allocation }
+    // A report that the reply holds itself.
+    pub(crate) fn report(said: &[u8], allocation: usize) -> Reply
+        requires { length said.now ≤ 36 }
+        ensures { result ≡ report said.now allocation }
     {
-        Reply::cut(bytes, Content::Own, whole, allocation)
+        let mut bytes = [0u8; Reply::LIMIT];
+        bytes[..said.len()].copy_from_slice(said);
+        Reply::cut(bytes, Content::Own, said.len(), allocation)
     }
 
     // No bytes.
     pub fn none() -> Reply
         ensures { result ≡ no_reply }
     {
-        let bytes = [0u8; Reply::LIMIT];
-        Reply {
-            bytes,
-            content: Content::Own,
-            length: 0,
-        }
+        Reply::report(&[], 0)
     }
 
     // GET CONFIGURATION's reply.

@@ -2,18 +2,17 @@
 ghost use Rattle.std.specs.Prelude.{◌≡◌, ◌≤◌, length};
 ghost use Rattle.protocol.specs.Reply.{cut_reply, report, configuration_reply, no_reply};
 
-// What a reply says: the bytes that it holds itself, or what GET CONFIGURATION says, which is longer than any other report and is written
-// only where it is sent.
+// What a reply says: bytes that it holds itself, zeros after them, or what GET CONFIGURATION says, which is longer than any other report and
+// is written only where it is sent.
 #[derive(Clone, Copy)]
 pub enum Content {
-    Own,
+    Own([u8; Reply::LIMIT]),
     Configuration { request_type: u8, start: u16 },
 }
 
-// A reply by value: its own bytes, zeros after them, what it says, and how many bytes of that are sent.
+// A reply by value: what it says, and how many bytes of that are sent.
 #[derive(Clone, Copy)]
 pub struct Reply {
-    pub bytes: [u8; Reply::LIMIT],
     pub content: Content,
     pub length: usize,
 }
@@ -23,11 +22,10 @@ impl Reply {
     pub const LIMIT: usize = 36;
 
     // A reply of so many bytes, of which at most the allocation length is sent.
-    fn cut(bytes: [u8; Reply::LIMIT], content: Content, whole: usize, allocation: usize) -> Reply
-        ensures { result ≡ cut_reply bytes content whole allocation }
+    fn cut(content: Content, whole: usize, allocation: usize) -> Reply
+        ensures { result ≡ cut_reply content whole allocation }
     {
         Reply {
-            bytes,
             content,
             length: whole.min(allocation),
         }
@@ -40,7 +38,7 @@ impl Reply {
     {
         let mut bytes = [0u8; Reply::LIMIT];
         bytes[..said.len()].copy_from_slice(said);
-        Reply::cut(bytes, Content::Own, said.len(), allocation)
+        Reply::cut(Content::Own(bytes), said.len(), allocation)
     }
 
     // No bytes.
@@ -54,12 +52,11 @@ impl Reply {
     pub fn of_configuration(request_type: u8, start: u16, allocation: usize) -> Reply
         ensures { result ≡ configuration_reply request_type start allocation }
     {
-        let bytes = [0u8; Reply::LIMIT];
         let whole = features::configuration_length(request_type, start);
         let content = Content::Configuration {
             request_type,
             start,
         };
-        Reply::cut(bytes, content, whole, allocation)
+        Reply::cut(content, whole, allocation)
     }
 }

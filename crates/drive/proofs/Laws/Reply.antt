@@ -30,11 +30,11 @@ listing-put n x l buffer after h e put = first-put n l.bytes buffer after put �
 
 -- a report, by what it says
 pub report-put :
-    (r : Reply) (buffer after : List ℕ) → r.length ≤ length (said r.content r.bytes)
-    → after ≡ splice buffer 0 (take r.length (said r.content r.bytes))
+    (r : Reply) (buffer after : List ℕ) → r.length ≤ length (said r.content)
+    → after ≡ splice buffer 0 (take r.length (said r.content))
     → (r.length ≡ length (reply_bytes r)) × (after ≡ splice buffer 0 (reply_bytes r))
 unfolding reply_bytes
-report-put r buffer after h e = (sym (length-take-le r.length (said r.content r.bytes) h), e)
+report-put r buffer after h e = (sym (length-take-le r.length (said r.content) h), e)
 
 -- what a READ sends is what the lower layer hands out
 pub run-sent :

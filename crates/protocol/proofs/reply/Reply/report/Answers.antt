@@ -8,4 +8,4 @@ pub returns : goal.returns
 returns c =
     let n = length c.args.said.now in
     rw (c.cut.ensures, c.copy_from_slice.ensures.after)
-    (ap (λ zeros. cut_reply (c.args.said.now ++ zeros) Own n c.args.allocation) (drop-replicate n 36 0))
+    (ap (λ zeros. cut_reply (Own (c.args.said.now ++ zeros)) n c.args.allocation) (drop-replicate n 36 0))

@@ -29,6 +29,7 @@ fn send_configuration(request_type: u8, start: u16, sent: usize, reply: &mut [u8
 }
 
 // A report, cut to its length.
+#[tactic(auto, unfolding(protocol::specs::Reply::said, protocol::specs::Reply::reply_bytes))]
 fn send_report(report: Reply, reply: &mut [u8]) -> usize
     requires { (report.length ≤ length (said report.content)) × (report.length ≤ length reply.old) }
     ensures value { result ≡ length (reply_bytes report) }

@@ -26,13 +26,16 @@ impl Transfer {
     {
         match self {
             Transfer::Send {
-                address, recorded, ..
+                address,
+                recorded,
+                ..
             } => stretch_within(address.0, recorded, medium),
             _ => &[],
         }
     }
 
-    // The pending sectors that it sends after them, in place: a part of the pending buffer, empty as above.
+    // The pending sectors that it sends after them, in place: a part of the pending buffer, empty as above. No twin of `run`: each names its
+    // own two fields, and `stretch_within` is all else.
     #[tactic(auto, unfolding(crate::specs::Run::pending_within))]
     pub fn pending_run<'a>(self, buffer: &'a [u8]) -> &'a [u8]
         ensures { result.now ≡ pending_within self buffer.now }

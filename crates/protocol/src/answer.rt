@@ -2,7 +2,8 @@
 ghost use Rattle.std.specs.Prelude.{◌≡◌};
 ghost use Rattle.protocol.specs.Answer.{sense, no_sense, refusal_sense, allowed_sense, link_number, sense_number, number};
 
-// Sense key, additional sense code and its qualifier, as a command left them.
+// Sense key, additional sense code and its qualifier, as a command left them. Numbers: the image of a state may have any (`is_allowed` is
+// asked of every key, ASC and ASCQ), and REQUEST SENSE sends them.
 #[derive(Clone, Copy, PartialEq, Eq, Debug)]
 pub struct Sense {
     pub key: u8,

@@ -4,6 +4,8 @@ ghost use Rattle.protocol.specs.Command.{byte_at, word16, word32, decode};
 
 use fragments::Lba;
 
+// The page bit, the types and the function are numbers: `decode` and the theorems over it name them as the block has them, those that the
+// drive refuses too.
 #[derive(Clone, Copy)]
 pub enum Command {
     TestUnitReady,
@@ -84,8 +86,7 @@ impl Command {
     pub fn decode(cdb: &[u8]) -> Command
         ensures { result ≡ decode cdb.now }
     {
-        let opcode = byte_at(cdb, 0);
-        match opcode {
+        match byte_at(cdb, 0) {
             0x00 => Command::TestUnitReady,
             0x03 => Command::RequestSense {
                 allocation: byte_at(cdb, 4),

@@ -18,7 +18,6 @@ impl Reply {
     pub fn of_inquiry(allocation: usize) -> Reply
         ensures { result ≡ report inquiry_bytes allocation }
     {
-        let bytes = STANDARD_DATA;
-        Reply::report(&bytes, allocation)
+        Reply::report(&STANDARD_DATA, allocation)
     }
 }

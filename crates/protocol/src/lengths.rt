@@ -23,6 +23,9 @@ pub(crate) const DISC_INFORMATION_LENGTH: usize = 34;
 
 pub(crate) const TRACK_INFORMATION_LENGTH: usize = 36;
 
+// The fourth request type of GET CONFIGURATION, which the drive refuses.
+const FOURTH_REQUEST_TYPE: u8 = 3;
+
 // The room for INQUIRY's report: none where the page bit has it refused.
 #[tactic(auto, unfolding(crate::specs::Lengths::inquiry_room))]
 fn inquiry_room(page_bit: u8, allocation: usize) -> usize
@@ -40,7 +43,7 @@ fn inquiry_room(page_bit: u8, allocation: usize) -> usize
 fn configuration_room(request_type: u8, start: u16, allocation: usize) -> usize
     ensures { result ≡ configuration_room request_type start allocation }
 {
-    if request_type == 3 {
+    if request_type == FOURTH_REQUEST_TYPE {
         0
     } else {
         features::configuration_length(request_type, start).min(allocation)
@@ -92,6 +95,6 @@ impl Command {
     pub fn lengths_fit(self, data: usize, reply: usize) -> bool
         ensures { result ≡ lengths_fit self «data» reply }
     {
-        (data == self.data_length()) & (self.reply_room() <= reply)
+        data == self.data_length() && self.reply_room() <= reply
     }
 }

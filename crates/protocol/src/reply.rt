@@ -10,7 +10,8 @@ pub enum Content {
     Configuration { request_type: u8, start: u16 },
 }
 
-// A reply by value: what it says, and how many bytes of that are sent.
+// A reply by value: what it says, and how many bytes of that are sent. The length stands beside bytes of fixed number, since there is no heap,
+// and since what GET CONFIGURATION says is not made yet.
 #[derive(Clone, Copy)]
 pub struct Reply {
     pub content: Content,

@@ -11,7 +11,7 @@ use crate::reply::Reply;
 use fragments::Lba;
 
 // What READ DISC INFORMATION says: the states of the last session and of the disc in one byte, how many sessions there are, and the
-// numbers of the last one's first and last fragment.
+// numbers of the last one's first and last fragment. The states are a byte, and no enums: `Reply::of_disc` takes any, as it always did.
 #[derive(Clone, Copy)]
 pub struct DiscReport {
     pub states: u8,

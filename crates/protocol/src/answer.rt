@@ -25,13 +25,6 @@ impl Sense {
         Sense::new(0x0, 0x00, 0x00)
     }
 
-    // Key, ASC and ASCQ as one number.
-    fn number(self) -> u32
-        ensures { result ≡ sense_number self }
-    {
-        u32::from_be_bytes([0, self.key, self.asc, self.ascq])
-    }
-
     // Whether a command can leave it: none, or a drive refusal's.
     pub fn is_allowed(self) -> bool
         ensures { result ≡ allowed_sense self }
@@ -43,7 +36,16 @@ impl Sense {
     }
 }
 
-// The link refusals L1 to L4: the command never reaches the drive, and nothing changes.
+// Key, ASC and ASCQ as one number.
+impl From<Sense> for u32 {
+    ghost from_gives = { λ sense n. n ≡ sense_number sense };
+
+    fn from(sense: Sense) -> u32 {
+        u32::from_be_bytes([0, sense.key, sense.asc, sense.ascq])
+    }
+}
+
+// The link refusals L1 to L4, with their numbers: the command never reaches the drive, and nothing changes.
 #[derive(Clone, Copy, PartialEq, Eq, Debug)]
 pub enum LinkRefusal {
     CommandBlockLength = 1,
@@ -74,12 +76,11 @@ pub enum Answer {
     Drive(DriveRefusal),
 }
 
-impl LinkRefusal {
-    // Its number in document 01.
-    fn number(self) -> u32
-        ensures { result ≡ link_number self }
-    {
-        self as u32
+impl From<LinkRefusal> for u32 {
+    ghost from_gives = { λ refusal n. n ≡ link_number refusal };
+
+    fn from(refusal: LinkRefusal) -> u32 {
+        refusal as u32
     }
 }
 
@@ -124,8 +125,8 @@ impl Answer {
     {
         match self {
             Answer::Accepted => 0,
-            Answer::Link(refusal) => refusal.number(),
-            Answer::Drive(refusal) => refusal.sense().number(),
+            Answer::Link(refusal) => u32::from(refusal),
+            Answer::Drive(refusal) => u32::from(refusal.sense()),
         }
     }
 }

@@ -55,13 +55,13 @@ fn when(test: bool, n: u8) -> u8
 fn low(n: usize) -> u8
     ensures { result ≡ low n }
 {
-    (n % 0x100) as u8
+    n.to_le_bytes()[0]
 }
 
 fn high(n: usize) -> u8
     ensures { result ≡ high n }
 {
-    (n / 0x100 % 0x100) as u8
+    n.to_le_bytes()[1]
 }
 
 // Its low four bytes, the highest first.

@@ -35,12 +35,14 @@ impl SessionState {
             SessionState::Incomplete
         }
     }
+}
 
-    // Its number in the reply.
-    fn number(self) -> u8
-        ensures { result ≡ session_number self }
-    {
-        self as u8
+// Its number in the reply.
+impl From<SessionState> for u8 {
+    ghost from_gives = { λ state n. n ≡ session_number state };
+
+    fn from(state: SessionState) -> u8 {
+        state as u8
     }
 }
 
@@ -56,12 +58,14 @@ impl DiscStatus {
             DiscStatus::Appendable
         }
     }
+}
 
-    // Its number in the reply.
-    fn number(self) -> u8
-        ensures { result ≡ status_number self }
-    {
-        self as u8
+// Its number in the reply.
+impl From<DiscStatus> for u8 {
+    ghost from_gives = { λ status n. n ≡ status_number status };
+
+    fn from(status: DiscStatus) -> u8 {
+        status as u8
     }
 }
 
@@ -76,7 +80,7 @@ fn disc_report(disc: Disc) -> DiscReport
     let state = SessionState::of(disc.finalized, only);
     let status = DiscStatus::of(disc.finalized, only & (session == 1));
     DiscReport {
-        states: 4 * state.number() + status.number(),
+        states: 4 * u8::from(state) + u8::from(status),
         sessions: session as usize,
         first: disc.first_of_session(session),
         last: last.number,

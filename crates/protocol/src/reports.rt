@@ -1,5 +1,5 @@
 // The replies of the commands that report: REQUEST SENSE (03h), READ CAPACITY (25h), READ DISC INFORMATION (51h) and READ TRACK
-// INFORMATION (52h). Each is built here alone, from named fields, in an array of zeros.
+// INFORMATION (52h). Each is built here alone, from named fields.
 ghost use Rattle.std.specs.Prelude.{◌≡◌};
 ghost use Rattle.protocol.specs.Lengths.{capacity_length};
 ghost use Rattle.protocol.specs.Reply.{report};
@@ -20,7 +20,8 @@ pub struct DiscReport {
     pub last: usize,
 }
 
-// What READ TRACK INFORMATION says of a fragment.
+// What READ TRACK INFORMATION says of a fragment. An address stands beside the flag that says whether it is valid, and not in an Option: it is
+// sent either way (`reported`, examples: Values).
 #[derive(Clone, Copy)]
 pub struct TrackReport {
     pub number: usize,

@@ -17,4 +17,4 @@ pub record Sendable (medium pending : List ℕ) (t : Transfer) (r : Reply) (repl
       (a : Lba) (n i k : ℕ) → t ≡ Send a n i k → (2048 * (a.0 + n) ≤ length medium) × (2048 * (i + k) ≤ length pending)
   pub room : length (sent_bytes t r medium pending) ≤ replyLent
   pub report : r.length ≤ replyLent
-  pub whole : r.length ≤ length (said r.content r.bytes)
+  pub whole : r.length ≤ length (said r.content)

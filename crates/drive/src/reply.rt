@@ -29,16 +29,15 @@ fn send_configuration(request_type: u8, start: u16, sent: usize, reply: &mut [u8
 }
 
 // A report, cut to its length.
+#[tactic(auto, unfolding(protocol::specs::Reply::said, protocol::specs::Reply::reply_bytes))]
 fn send_report(report: Reply, reply: &mut [u8]) -> usize
-    requires { (report.length ≤ length (said report.content report.bytes)) × (report.length ≤ length reply.old) }
+    requires { (report.length ≤ length (said report.content)) × (report.length ≤ length reply.old) }
     ensures value { result ≡ length (reply_bytes report) }
     ensures reply { reply.new ≡ splice reply.old 0 (reply_bytes report) }
 {
     let sent = report.length;
-    let bytes = report.bytes;
-    let content = report.content;
-    match content {
-        Content::Own => send_own(bytes, sent, reply),
+    match report.content {
+        Content::Own(bytes) => send_own(bytes, sent, reply),
         Content::Configuration {
             request_type,
             start,

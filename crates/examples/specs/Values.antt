@@ -7,7 +7,7 @@ use Rattle.fragments.specs.Fragment.{fragment, unused_record, is_reserved, compl
 use Rattle.fragments.specs.List.{limit, listed, record_numbered, last_of, holder_of, taker_of, pending_of, first_of_session, reach_at, highest_readable, some, find}
 use Rattle.protocol.specs.Answer.{sense, no_sense, sense_number, refusal_sense, drive_refusals, allowed_sense, is_refusal_sense, number}
 use Rattle.protocol.specs.Lengths.{data_length, reply_room, lengths_fit}
-use Rattle.protocol.specs.Reply.{report, no_reply}
+use Rattle.protocol.specs.Reply.{report, no_reply, said}
 use Rattle.protocol.specs.Reports.{sense_bytes, capacity_bytes, disc_bytes, track_bytes}
 use Rattle.fragments.specs.Entry.{entry, no_entry, put, over, over_last}
 use Rattle.decisions.specs.Plan.{plan, no_plan}
@@ -135,9 +135,9 @@ fits = refl
 -- of a reply: 03h's first 14 bytes at an allocation of 14, and 25h's eight
 pub sent :
     ((report (sense_bytes (sense 0x5 0x21 0x02)) 14).length ≡ 14)
-    × (take 14 (report (sense_bytes (sense 0x5 0x21 0x02)) 14).bytes ≡ (0x70 ∷ 0 ∷ 5 ∷ 0 ∷ 0 ∷ 0 ∷ 0 ∷ 0x0A ∷ 0 ∷ 0 ∷ 0 ∷ 0 ∷ 0x21 ∷ 2 ∷ []))
+    × (take 14 (said (report (sense_bytes (sense 0x5 0x21 0x02)) 14).content) ≡ (0x70 ∷ 0 ∷ 5 ∷ 0 ∷ 0 ∷ 0 ∷ 0 ∷ 0x0A ∷ 0 ∷ 0 ∷ 0 ∷ 0 ∷ 0x21 ∷ 2 ∷ []))
     × (capacity_bytes (lba 0x01020304) ≡ (1 ∷ 2 ∷ 3 ∷ 4 ∷ 0 ∷ 0 ∷ 8 ∷ 0 ∷ [])) × (no_reply.length ≡ 0)
-unfolding sense_bytes
+unfolding sense_bytes said
 sent = (refl, refl, refl, refl)
 
 -- of the reports: the low bytes of a number and its high bytes in their places, and each address in its own

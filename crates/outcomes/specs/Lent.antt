@@ -30,4 +30,4 @@ pub record Fits (mediumLent dataLent replyLent : ℕ) (v : Verdict) : Type 0 whe
   pub transfer : TransferFits mediumLent dataLent v.plan.transfer
   pub run : RunFits replyLent v.plan.transfer
   pub report : v.reply.length ≤ replyLent
-  pub whole : v.reply.length ≤ length (said v.reply.content v.reply.bytes)
+  pub whole : v.reply.length ≤ length (said v.reply.content)

@@ -1,9 +1,10 @@
 // The sense and the answers of the drive. specs/Answer.antt gives document 01's number and values for each case.
 ghost use Rattle.std.specs.Prelude.{◌≡◌};
-ghost use Rattle.protocol.specs.Answer.{sense, no_sense, same_sense, refusal_sense, allowed_sense, link_number, sense_number, number};
+ghost use Rattle.protocol.specs.Answer.{sense, no_sense, refusal_sense, allowed_sense, link_number, sense_number, number};
 
-// Sense key, additional sense code and its qualifier, as a command left them.
-#[derive(Clone, Copy)]
+// Sense key, additional sense code and its qualifier, as a command left them. Numbers: the image of a state may have any (`is_allowed` is
+// asked of every key, ASC and ASCQ), and REQUEST SENSE sends them.
+#[derive(Clone, Copy, PartialEq, Eq, Debug)]
 pub struct Sense {
     pub key: u8,
     pub asc: u8,
@@ -24,49 +25,37 @@ impl Sense {
         Sense::new(0x0, 0x00, 0x00)
     }
 
-    // Key, ASC and ASCQ as one number.
-    fn number(self) -> u32
-        ensures { result ≡ sense_number self }
-    {
-        0x10000 * (self.key as u32) + 0x100 * (self.asc as u32) + self.ascq as u32
-    }
-
-    // The same key, ASC and ASCQ.
-    fn is(self, other: Sense) -> bool
-        ensures { result ≡ same_sense self other }
-    {
-        (self.key == other.key) & (self.asc == other.asc) & (self.ascq == other.ascq)
-    }
-
     // Whether a command can leave it: none, or a drive refusal's.
     pub fn is_allowed(self) -> bool
         ensures { result ≡ allowed_sense self }
     {
-        self.is(Sense::none())
-            | self.is(DriveRefusal::InvalidOperationCode.sense())
-            | self.is(DriveRefusal::WriteProtected.sense())
-            | self.is(DriveRefusal::InvalidFieldInCommand.sense())
-            | self.is(DriveRefusal::AddressOutOfRange.sense())
-            | self.is(DriveRefusal::BlankCheck.sense())
-            | self.is(DriveRefusal::InvalidAddressForWrite.sense())
-            | self.is(DriveRefusal::IncompleteTrackInSession.sense())
-            | self.is(DriveRefusal::EmptyTrack.sense())
-            | self.is(DriveRefusal::NoMoreReservations.sense())
-            | self.is(DriveRefusal::EndOfUserArea.sense())
+        self == Sense::none()
+            || DriveRefusal::ALL
+                .iter()
+                .any(|refusal| self == refusal.sense())
     }
 }
 
-// The link refusals L1 to L4: the command never reaches the drive, and nothing changes.
-#[derive(Clone, Copy)]
+// Key, ASC and ASCQ as one number.
+impl From<Sense> for u32 {
+    ghost from_gives = { λ sense n. n ≡ sense_number sense };
+
+    fn from(sense: Sense) -> u32 {
+        u32::from_be_bytes([0, sense.key, sense.asc, sense.ascq])
+    }
+}
+
+// The link refusals L1 to L4, with their numbers: the command never reaches the drive, and nothing changes.
+#[derive(Clone, Copy, PartialEq, Eq, Debug)]
 pub enum LinkRefusal {
-    CommandBlockLength,
-    MediumSize,
-    UnsoundState,
-    TransferLength,
+    CommandBlockLength = 1,
+    MediumSize = 2,
+    UnsoundState = 3,
+    TransferLength = 4,
 }
 
 // The drive refusals, in the order of document 01's table and by the names of their sense codes: only the sense changes.
-#[derive(Clone, Copy)]
+#[derive(Clone, Copy, PartialEq, Eq, Debug)]
 pub enum DriveRefusal {
     InvalidOperationCode,
     WriteProtected,
@@ -80,28 +69,36 @@ pub enum DriveRefusal {
     EndOfUserArea,
 }
 
-#[derive(Clone, Copy)]
+#[derive(Clone, Copy, PartialEq, Eq, Debug)]
 pub enum Answer {
     Accepted,
     Link(LinkRefusal),
     Drive(DriveRefusal),
 }
 
-impl LinkRefusal {
-    // Its number in document 01.
-    fn number(self) -> u32
-        ensures { result ≡ link_number self }
-    {
-        match self {
-            LinkRefusal::CommandBlockLength => 1,
-            LinkRefusal::MediumSize => 2,
-            LinkRefusal::UnsoundState => 3,
-            LinkRefusal::TransferLength => 4,
-        }
+impl From<LinkRefusal> for u32 {
+    ghost from_gives = { λ refusal n. n ≡ link_number refusal };
+
+    fn from(refusal: LinkRefusal) -> u32 {
+        refusal as u32
     }
 }
 
 impl DriveRefusal {
+    // Every one of them, in the table's order.
+    const ALL: [DriveRefusal; 10] = [
+        DriveRefusal::InvalidOperationCode,
+        DriveRefusal::WriteProtected,
+        DriveRefusal::InvalidFieldInCommand,
+        DriveRefusal::AddressOutOfRange,
+        DriveRefusal::BlankCheck,
+        DriveRefusal::InvalidAddressForWrite,
+        DriveRefusal::IncompleteTrackInSession,
+        DriveRefusal::EmptyTrack,
+        DriveRefusal::NoMoreReservations,
+        DriveRefusal::EndOfUserArea,
+    ];
+
     // The sense that the refusal leaves.
     pub fn sense(self) -> Sense
         ensures { result ≡ refusal_sense self }
@@ -128,8 +125,8 @@ impl Answer {
     {
         match self {
             Answer::Accepted => 0,
-            Answer::Link(refusal) => refusal.number(),
-            Answer::Drive(refusal) => refusal.sense().number(),
+            Answer::Link(refusal) => u32::from(refusal),
+            Answer::Drive(refusal) => u32::from(refusal.sense()),
         }
     }
 }

@@ -4,6 +4,8 @@ ghost use Rattle.protocol.specs.Command.{byte_at, word16, word32, decode};
 
 use fragments::Lba;
 
+// The page bit, the types and the function are numbers: `decode` and the theorems over it name them as the block has them, those that the
+// drive refuses too.
 #[derive(Clone, Copy)]
 pub enum Command {
     TestUnitReady,
@@ -53,10 +55,7 @@ pub enum Command {
 fn byte_at(cdb: &[u8], at: usize) -> u8
     ensures { result ≡ byte_at cdb.now at }
 {
-    if at < cdb.len() {
-        return cdb[at];
-    }
-    0
+    cdb.get(at).copied().unwrap_or(0)
 }
 
 // Two bytes from a place on, the highest first.
@@ -64,7 +63,7 @@ fn word16(cdb: &[u8], at: usize) -> u16
     requires { at ≤ 12 }
     ensures { result ≡ word16 cdb.now at }
 {
-    0x100 * (byte_at(cdb, at) as u16) + byte_at(cdb, at + 1) as u16
+    u16::from_be_bytes([byte_at(cdb, at), byte_at(cdb, at + 1)])
 }
 
 // Four bytes from a place on, the highest first.
@@ -72,17 +71,22 @@ fn word32(cdb: &[u8], at: usize) -> u32
     requires { at ≤ 8 }
     ensures { result ≡ word32 cdb.now at }
 {
-    0x10000 * (word16(cdb, at) as u32) + word16(cdb, at + 2) as u32
+    u32::from_be_bytes([
+        byte_at(cdb, at),
+        byte_at(cdb, at + 1),
+        byte_at(cdb, at + 2),
+        byte_at(cdb, at + 3),
+    ])
 }
 
 impl Command {
     // The command of a command block; bytes that are missing count as 0. READ and WRITE have two forms each, (10) and (12), which
     // differ in nothing but the bytes of the length.
+    #[tactic(auto, unfolding(crate::specs::Command::decode))]
     pub fn decode(cdb: &[u8]) -> Command
         ensures { result ≡ decode cdb.now }
     {
-        let opcode = byte_at(cdb, 0);
-        match opcode {
+        match byte_at(cdb, 0) {
             0x00 => Command::TestUnitReady,
             0x03 => Command::RequestSense {
                 allocation: byte_at(cdb, 4),

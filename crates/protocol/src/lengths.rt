@@ -23,84 +23,78 @@ pub(crate) const DISC_INFORMATION_LENGTH: usize = 34;
 
 pub(crate) const TRACK_INFORMATION_LENGTH: usize = 36;
 
-// How much of a report an allocation length lets through.
-pub(crate) fn cut(whole: usize, allocation: usize) -> usize
-    ensures { result ≡ min whole allocation }
-{
-    if whole <= allocation {
-        return whole;
-    }
-    allocation
-}
+// The fourth request type of GET CONFIGURATION, which the drive refuses.
+const FOURTH_REQUEST_TYPE: u8 = 3;
 
 // The room for INQUIRY's report: none where the page bit has it refused.
+#[tactic(auto, unfolding(crate::specs::Lengths::inquiry_room))]
 fn inquiry_room(page_bit: u8, allocation: usize) -> usize
     ensures { result ≡ inquiry_room page_bit allocation }
 {
     if page_bit == 0 {
-        return cut(INQUIRY_LENGTH, allocation);
+        INQUIRY_LENGTH.min(allocation)
+    } else {
+        0
     }
-    0
 }
 
 // The room for GET CONFIGURATION's reply: none where the request type has it refused.
+#[tactic(auto, unfolding(crate::specs::Lengths::configuration_room))]
 fn configuration_room(request_type: u8, start: u16, allocation: usize) -> usize
     ensures { result ≡ configuration_room request_type start allocation }
 {
-    if request_type == 3 {
-        return 0;
+    if request_type == FOURTH_REQUEST_TYPE {
+        0
+    } else {
+        features::configuration_length(request_type, start).min(allocation)
     }
-    cut(
-        features::configuration_length(request_type, start),
-        allocation,
-    )
 }
 
 impl Command {
     // The bytes that come with the command: a WRITE's sectors.
+    #[tactic(auto, unfolding(crate::specs::Lengths::data_length))]
     pub fn data_length(self) -> usize
         ensures { result ≡ data_length self }
     {
         match self {
-            Command::Write { address: _, length } => SECTOR_LENGTH * (length as usize),
+            Command::Write { length, .. } => SECTOR_LENGTH * (length as usize),
             _ => 0,
         }
     }
 
     // The least room for the reply: a READ's sectors, or a report cut to its allocation length.
+    #[tactic(auto, unfolding(crate::specs::Lengths::reply_room))]
     pub fn reply_room(self) -> usize
         ensures { result ≡ reply_room self }
     {
         match self {
-            Command::RequestSense { allocation } => cut(SENSE_LENGTH, allocation as usize),
+            Command::RequestSense { allocation } => SENSE_LENGTH.min(allocation as usize),
             Command::Inquiry {
                 page_bit,
                 allocation,
             } => inquiry_room(page_bit, allocation as usize),
             Command::ReadCapacity => CAPACITY_LENGTH,
-            Command::Read { address: _, length } => SECTOR_LENGTH * (length as usize),
+            Command::Read { length, .. } => SECTOR_LENGTH * (length as usize),
             Command::GetConfiguration {
                 request_type,
                 start,
                 allocation,
             } => configuration_room(request_type, start, allocation as usize),
-            Command::ReadDiscInformation {
-                data_type: _,
-                allocation,
-            } => cut(DISC_INFORMATION_LENGTH, allocation as usize),
-            Command::ReadTrackInformation {
-                address_type: _,
-                number: _,
-                allocation,
-            } => cut(TRACK_INFORMATION_LENGTH, allocation as usize),
+            Command::ReadDiscInformation { allocation, .. } => {
+                DISC_INFORMATION_LENGTH.min(allocation as usize)
+            }
+            Command::ReadTrackInformation { allocation, .. } => {
+                TRACK_INFORMATION_LENGTH.min(allocation as usize)
+            }
             _ => 0,
         }
     }
 
     // Whether data and reply buffer have lengths that the command can work with.
+    #[tactic(auto, unfolding(crate::specs::Lengths::lengths_fit))]
     pub fn lengths_fit(self, data: usize, reply: usize) -> bool
         ensures { result ≡ lengths_fit self «data» reply }
     {
-        (data == self.data_length()) & (self.reply_room() <= reply)
+        data == self.data_length() && self.reply_room() <= reply
     }
 }

@@ -1,22 +1,19 @@
 // A reply, cut to the length that the command allows.
-ghost use Rattle.std.specs.Prelude.{◌≡◌};
-ghost use Rattle.protocol.specs.Types.{Own};
-ghost use Rattle.protocol.specs.Reply.{cut_reply, configuration_reply, no_reply};
+ghost use Rattle.std.specs.Prelude.{◌≡◌, ◌≤◌, length};
+ghost use Rattle.protocol.specs.Reply.{cut_reply, report, configuration_reply, no_reply};
 
-use crate::lengths;
-
-// What a reply says: the bytes that it holds itself, or what GET CONFIGURATION says, which is longer than any other report and is written
-// only where it is sent.
+// What a reply says: bytes that it holds itself, zeros after them, or what GET CONFIGURATION says, which is longer than any other report and
+// is written only where it is sent.
 #[derive(Clone, Copy)]
 pub enum Content {
-    Own,
+    Own([u8; Reply::LIMIT]),
     Configuration { request_type: u8, start: u16 },
 }
 
-// A reply by value: its own bytes, zeros after them, what it says, and how many bytes of that are sent.
+// A reply by value: what it says, and how many bytes of that are sent. The length stands beside bytes of fixed number, since there is no heap,
+// and since what GET CONFIGURATION says is not made yet.
 #[derive(Clone, Copy)]
 pub struct Reply {
-    pub bytes: [u8; Reply::LIMIT],
     pub content: Content,
     pub length: usize,
 }
@@ -26,46 +23,41 @@ impl Reply {
     pub const LIMIT: usize = 36;
 
     // A reply of so many bytes, of which at most the allocation length is sent.
-    fn cut(bytes: [u8; Reply::LIMIT], content: Content, whole: usize, allocation: usize) -> Reply
-        ensures { result ≡ cut_reply bytes content whole allocation }
+    fn cut(content: Content, whole: usize, allocation: usize) -> Reply
+        ensures { result ≡ cut_reply content whole allocation }
     {
-        let length = lengths::cut(whole, allocation);
         Reply {
-            bytes,
             content,
-            length,
+            length: whole.min(allocation),
         }
     }
 
-    // A report of its first `whole` bytes.
-    pub(crate) fn report(bytes: [u8; Reply::LIMIT], whole: usize, allocation: usize) -> Reply
-        ensures { result ≡ cut_reply bytes Own whole allocation }
+    // A report that the reply holds itself.
+    pub(crate) fn report(said: &[u8], allocation: usize) -> Reply
+        requires { length said.now ≤ 36 }
+        ensures { result ≡ report said.now allocation }
     {
-        Reply::cut(bytes, Content::Own, whole, allocation)
+        let mut bytes = [0u8; Reply::LIMIT];
+        bytes[..said.len()].copy_from_slice(said);
+        Reply::cut(Content::Own(bytes), said.len(), allocation)
     }
 
     // No bytes.
     pub fn none() -> Reply
         ensures { result ≡ no_reply }
     {
-        let bytes = [0u8; Reply::LIMIT];
-        Reply {
-            bytes,
-            content: Content::Own,
-            length: 0,
-        }
+        Reply::report(&[], 0)
     }
 
     // GET CONFIGURATION's reply.
     pub fn of_configuration(request_type: u8, start: u16, allocation: usize) -> Reply
         ensures { result ≡ configuration_reply request_type start allocation }
     {
-        let bytes = [0u8; Reply::LIMIT];
         let whole = features::configuration_length(request_type, start);
         let content = Content::Configuration {
             request_type,
             start,
         };
-        Reply::cut(bytes, content, whole, allocation)
+        Reply::cut(content, whole, allocation)
     }
 }

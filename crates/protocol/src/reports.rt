@@ -1,9 +1,9 @@
 // The replies of the commands that report: REQUEST SENSE (03h), READ CAPACITY (25h), READ DISC INFORMATION (51h) and READ TRACK
-// INFORMATION (52h). Each is built here alone, from named fields, in an array of zeros.
-ghost use Rattle.std.specs.Prelude.{◌≡◌, ◌++◌, ◌+◌, ◌/◌, ◌%◌, ◌≤◌, ◌<◌, set, replicate};
+// INFORMATION (52h). Each is built here alone, from named fields.
+ghost use Rattle.std.specs.Prelude.{◌≡◌};
 ghost use Rattle.protocol.specs.Lengths.{capacity_length};
 ghost use Rattle.protocol.specs.Reply.{report};
-ghost use Rattle.protocol.specs.Reports.{low, high, when, flags_of, valid_of, sense_bytes, capacity_bytes, disc_bytes, track_bytes};
+ghost use Rattle.protocol.specs.Reports.{low, high, bytes32, when, flags_of, valid_of, sense_bytes, capacity_bytes, disc_bytes, track_bytes};
 
 use crate::answer::Sense;
 use crate::lengths;
@@ -11,7 +11,7 @@ use crate::reply::Reply;
 use fragments::Lba;
 
 // What READ DISC INFORMATION says: the states of the last session and of the disc in one byte, how many sessions there are, and the
-// numbers of the last one's first and last fragment.
+// numbers of the last one's first and last fragment. The states are a byte, and no enums: `Reply::of_disc` takes any, as it always did.
 #[derive(Clone, Copy)]
 pub struct DiscReport {
     pub states: u8,
@@ -20,7 +20,8 @@ pub struct DiscReport {
     pub last: usize,
 }
 
-// What READ TRACK INFORMATION says of a fragment.
+// What READ TRACK INFORMATION says of a fragment. An address stands beside the flag that says whether it is valid, and not in an Option: it is
+// sent either way (`reported`, examples: Values).
 #[derive(Clone, Copy)]
 pub struct TrackReport {
     pub number: usize,
@@ -48,39 +49,27 @@ const TRACK_INFORMATION_REST: u8 = 0x22;
 fn when(test: bool, n: u8) -> u8
     ensures { result ≡ when test n }
 {
-    if test {
-        return n;
-    }
-    0
+    if test { n } else { 0 }
 }
 
-// The bytes with a number's low four bytes from a place on, the highest first.
-fn put_word(bytes: [u8; Reply::LIMIT], at: usize, n: u64) -> [u8; Reply::LIMIT]
-    requires { at + 4 ≤ 36 }
-    ensures { result ≡ set (set (set (set bytes at (n / 0x1000000 % 0x100)) (at + 1) (n / 0x10000 % 0x100)) (at + 2) (high n)) (at + 3) (low n) }
+// A number's low byte, and the one above it.
+fn low(n: usize) -> u8
+    ensures { result ≡ low n }
 {
-    let mut bytes = bytes;
-    bytes[at] = (n / 0x1000000 % 0x100) as u8;
-    bytes[at + 1] = (n / 0x10000 % 0x100) as u8;
-    bytes[at + 2] = (n / 0x100 % 0x100) as u8;
-    bytes[at + 3] = (n % 0x100) as u8;
-    bytes
+    n.to_le_bytes()[0]
 }
 
-// The bytes with a number's low byte at one place and the byte above it at another.
-fn put_halves(
-    bytes: [u8; Reply::LIMIT],
-    low_at: usize,
-    high_at: usize,
-    n: usize,
-) -> [u8; Reply::LIMIT]
-    requires { (low_at < 36) × (high_at < 36) }
-    ensures { result ≡ set (set bytes low_at (low n)) high_at (high n) }
+fn high(n: usize) -> u8
+    ensures { result ≡ high n }
 {
-    let mut bytes = bytes;
-    bytes[low_at] = (n % 0x100) as u8;
-    bytes[high_at] = (n / 0x100 % 0x100) as u8;
-    bytes
+    n.to_le_bytes()[1]
+}
+
+// Its low four bytes, the highest first.
+fn word(n: u64) -> [u8; 4]
+    ensures { result ≡ bytes32 n }
+{
+    ((n % 0x100000000) as u32).to_be_bytes()
 }
 
 impl TrackReport {
@@ -98,74 +87,93 @@ impl TrackReport {
         when(self.written, 0x02) + when(self.incomplete, 0x01)
     }
 
-    fn bytes(self) -> [u8; Reply::LIMIT]
+    #[tactic(auto, unfolding(crate::specs::Reports::track_bytes))]
+    fn bytes(self) -> [u8; lengths::TRACK_INFORMATION_LENGTH]
         ensures { result ≡ track_bytes self }
     {
-        let mut bytes = [0u8; Reply::LIMIT];
-        bytes[1] = TRACK_INFORMATION_REST;
-        bytes[5] = 0x04;
-        bytes[6] = self.flags();
-        bytes[7] = self.valid();
-        let bytes = put_halves(bytes, 2, 32, self.number);
-        let bytes = put_halves(bytes, 3, 33, self.session);
-        let bytes = put_word(bytes, 8, self.start.0);
-        let bytes = put_word(bytes, 12, self.next.0);
-        let bytes = put_word(bytes, 16, self.free);
-        let bytes = put_word(bytes, 20, fragments::sectors_in(1));
-        let bytes = put_word(bytes, 24, self.size);
-        put_word(bytes, 28, self.last.0)
+        let mut bytes = [0u8; lengths::TRACK_INFORMATION_LENGTH];
+        bytes[..8].copy_from_slice(&[
+            0x00,
+            TRACK_INFORMATION_REST,
+            low(self.number),
+            low(self.session),
+            0,
+            0x04,
+            self.flags(),
+            self.valid(),
+        ]);
+        bytes[8..12].copy_from_slice(&word(self.start.0));
+        bytes[12..16].copy_from_slice(&word(self.next.0));
+        bytes[16..20].copy_from_slice(&word(self.free));
+        bytes[20..24].copy_from_slice(&word(fragments::sectors_in(1)));
+        bytes[24..28].copy_from_slice(&word(self.size));
+        bytes[28..32].copy_from_slice(&word(self.last.0));
+        bytes[32] = high(self.number);
+        bytes[33] = high(self.session);
+        bytes
     }
 }
 
 impl DiscReport {
-    fn bytes(self) -> [u8; Reply::LIMIT]
-        ensures { result ≡ disc_bytes self ++ replicate 2 0 }
+    #[tactic(auto, unfolding(crate::specs::Reports::disc_bytes))]
+    fn bytes(self) -> [u8; lengths::DISC_INFORMATION_LENGTH]
+        ensures { result ≡ disc_bytes self }
     {
-        let mut bytes = [0u8; Reply::LIMIT];
-        bytes[1] = DISC_INFORMATION_REST;
-        bytes[2] = self.states;
-        bytes[3] = 1;
-        let bytes = put_halves(bytes, 4, 9, self.sessions);
-        let bytes = put_halves(bytes, 5, 10, self.first);
-        put_halves(bytes, 6, 11, self.last)
+        let mut bytes = [0u8; lengths::DISC_INFORMATION_LENGTH];
+        bytes[..12].copy_from_slice(&[
+            0x00,
+            DISC_INFORMATION_REST,
+            self.states,
+            1,
+            low(self.sessions),
+            low(self.first),
+            low(self.last),
+            0,
+            0,
+            high(self.sessions),
+            high(self.first),
+            high(self.last),
+        ]);
+        bytes
     }
 }
 
 impl Reply {
     // REQUEST SENSE's reply.
+    #[tactic(auto, unfolding(crate::specs::Reports::sense_bytes))]
     pub fn of_sense(sense: Sense, allocation: usize) -> Reply
         ensures { result ≡ report (sense_bytes sense) allocation }
     {
-        let mut bytes = [0u8; Reply::LIMIT];
+        let mut bytes = [0u8; lengths::SENSE_LENGTH];
         bytes[0] = 0x70;
         bytes[2] = sense.key;
         bytes[7] = 0x0A;
         bytes[12] = sense.asc;
         bytes[13] = sense.ascq;
-        Reply::report(bytes, lengths::SENSE_LENGTH, allocation)
+        Reply::report(&bytes, allocation)
     }
 
     // READ CAPACITY's reply: the last readable address and the size of a sector.
     pub fn of_capacity(last: Lba) -> Reply
         ensures { result ≡ report (capacity_bytes last) capacity_length }
     {
-        let bytes = [0u8; Reply::LIMIT];
-        let bytes = put_word(bytes, 0, last.0);
-        let bytes = put_word(bytes, 4, lengths::SECTOR_LENGTH as u64);
-        Reply::report(bytes, lengths::CAPACITY_LENGTH, lengths::CAPACITY_LENGTH)
+        let mut bytes = [0u8; lengths::CAPACITY_LENGTH];
+        bytes[..4].copy_from_slice(&word(last.0));
+        bytes[4..].copy_from_slice(&word(lengths::SECTOR_LENGTH as u64));
+        Reply::report(&bytes, lengths::CAPACITY_LENGTH)
     }
 
     // READ DISC INFORMATION's reply.
     pub fn of_disc(disc: DiscReport, allocation: usize) -> Reply
         ensures { result ≡ report (disc_bytes disc) allocation }
     {
-        Reply::report(disc.bytes(), lengths::DISC_INFORMATION_LENGTH, allocation)
+        Reply::report(&disc.bytes(), allocation)
     }
 
     // READ TRACK INFORMATION's reply.
     pub fn of_track(track: TrackReport, allocation: usize) -> Reply
         ensures { result ≡ report (track_bytes track) allocation }
     {
-        Reply::report(track.bytes(), lengths::TRACK_INFORMATION_LENGTH, allocation)
+        Reply::report(&track.bytes(), allocation)
     }
 }

@@ -1,6 +1,6 @@
 -- What the reports say of the disc: 03h REQUEST SENSE, 25h READ CAPACITY, 51h READ DISC INFORMATION, 52h READ TRACK INFORMATION.
 use Rattle.std.specs.Prelude.{ℕ, ◌+◌, ◌-◌, ◌*◌, Bool, cond, not, eqb}
-use Rattle.reporting.specs.Types.{Lba, Disc, Option, Some, None, DiscReport, TrackReport, Verdict, InvalidFieldInCommand, AddressOutOfRange}
+use Rattle.reporting.specs.Types.{Lba, Disc, Option, Some, None, DiscReport, TrackReport, Verdict, InvalidFieldInCommand, AddressOutOfRange, SessionState, Empty, Incomplete, Complete, DiscStatus, Blank, Appendable, Finalized}
 use Rattle.fragments.specs.Address.{lba, sectors_in, first_sector}
 use Rattle.fragments.specs.Fragment.{end, complete, is_reserved, last_recorded}
 use Rattle.disc.specs.Records.{is_blank, next_writable, records, used, is_listed, numbered, last_record, has_tail, at_address, last_readable, blank_tail_only, is_blank_disc}
@@ -32,6 +32,17 @@ status_of finalized blank = cond finalized 2 (cond blank 0 1)
 
 unfoldable pub disc_status : Disc → ℕ
 disc_status d = status_of d.finalized (is_blank_disc d)
+
+-- the numbers of the two, as the code names them
+abbrev pub session_number : SessionState → ℕ
+session_number Empty = 0
+session_number Incomplete = 1
+session_number Complete = 3
+
+abbrev pub status_number : DiscStatus → ℕ
+status_number Blank = 0
+status_number Appendable = 1
+status_number Finalized = 2
 
 -- what it says: the two states, then the number of the last session, of its first and of its last fragment
 abbrev pub disc_report : Disc → DiscReport

@@ -1,48 +1,86 @@
 // READ DISC INFORMATION (51h): what it says of the disc; where the bytes stand is the protocol's.
 ghost use Rattle.std.specs.Prelude.{◌≡◌};
 ghost use Rattle.disc.specs.Apply.{decided};
-ghost use Rattle.reporting.specs.Reports.{last_session, status_of, disc_report, read_disc_information};
+ghost use Rattle.reporting.specs.Reports.{last_session, session_number, status_of, status_number, disc_report, read_disc_information};
 
 use decisions::Decision;
 use disc::Disc;
 use protocol::{DiscReport, DriveRefusal, Reply};
 
-// The state of the last session: 0 with only a blank tail, 3 on a finalized disc, else 1.
-fn last_session(finalized: bool, only: bool) -> u8
-    ensures { result ≡ last_session finalized only }
-{
-    if finalized {
-        return 3;
-    }
-    if only {
-        return 0;
-    }
-    1
+// The state of the last session: with only a blank tail, any other, and on a finalized disc.
+#[derive(Clone, Copy)]
+enum SessionState {
+    Empty = 0,
+    Incomplete = 1,
+    Complete = 3,
 }
 
-// The disc status: 0 for a blank disc, 2 for a finalized one, else 1.
-fn status_of(finalized: bool, blank: bool) -> u8
-    ensures { result ≡ status_of finalized blank }
-{
-    if finalized {
-        return 2;
+// The disc status.
+#[derive(Clone, Copy)]
+enum DiscStatus {
+    Blank = 0,
+    Appendable = 1,
+    Finalized = 2,
+}
+
+impl SessionState {
+    fn of(finalized: bool, only: bool) -> SessionState
+        ensures { session_number result ≡ last_session finalized only }
+    {
+        if finalized {
+            SessionState::Complete
+        } else if only {
+            SessionState::Empty
+        } else {
+            SessionState::Incomplete
+        }
     }
-    if blank {
-        return 0;
+}
+
+// Its number in the reply.
+impl From<SessionState> for u8 {
+    ghost from_gives = { λ state n. n ≡ session_number state };
+
+    fn from(state: SessionState) -> u8 {
+        state as u8
     }
-    1
+}
+
+impl DiscStatus {
+    fn of(finalized: bool, blank: bool) -> DiscStatus
+        ensures { status_number result ≡ status_of finalized blank }
+    {
+        if finalized {
+            DiscStatus::Finalized
+        } else if blank {
+            DiscStatus::Blank
+        } else {
+            DiscStatus::Appendable
+        }
+    }
+}
+
+// Its number in the reply.
+impl From<DiscStatus> for u8 {
+    ghost from_gives = { λ status n. n ≡ status_number status };
+
+    fn from(status: DiscStatus) -> u8 {
+        status as u8
+    }
 }
 
 // What READ DISC INFORMATION says: the two states, and the numbers of the last session, its first and its last fragment.
+#[tactic(auto, unfolding(crate::specs::Reports::session_state, crate::specs::Reports::disc_status))]
 fn disc_report(disc: Disc) -> DiscReport
     ensures { result ≡ disc_report disc }
 {
     let last = disc.last();
     let session = last.fragment.session;
     let only = disc.is_only_tail(last);
-    let blank = only & (session == 1);
+    let state = SessionState::of(disc.finalized, only);
+    let status = DiscStatus::of(disc.finalized, only & (session == 1));
     DiscReport {
-        states: 4 * last_session(disc.finalized, only) + status_of(disc.finalized, blank),
+        states: 4 * u8::from(state) + u8::from(status),
         sessions: session as usize,
         first: disc.first_of_session(session),
         last: last.number,

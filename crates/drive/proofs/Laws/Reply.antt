@@ -1,5 +1,5 @@
 -- The bytes that a reply sends, by the kind of transfer.
-use mathlib.Core.Path.{◌≡◌, refl, sym, ap, ◌∙◌}
+use mathlib.Core.Path.{◌≡◌, refl, ap, ◌∙◌}
 use Prim.Native.Nat.{ℕ, ◌+◌, ◌-◌, ◌≤◌}
 use native.Mathlib.Omega.{arith}
 use mathlib.Core.List.{List, [], ◌∷◌, ◌++◌}
@@ -7,8 +7,7 @@ use lib.ListN.{length, take, length-append}
 use Rattle.features.specs.declared.listing.Listing.{Listing}
 use Rattle.features.specs.Configuration.{listing}
 use Rattle.features.proofs.Laws.Configuration.{listing-first}
-use lib.Seq.{length-take-le}
-use Rattle.protocol.specs.Reply.{said, reply_bytes}
+use Rattle.protocol.specs.Reply.{reply_bytes}
 use types.Run.{OneOf, miss}
 use denote.Enum.Declared.{tag_of}
 use Rattle.decisions.specs.contracts.plan.Transfer.{the_type}
@@ -27,14 +26,6 @@ pub listing-put :
     (n : ℕ) (x : List ℕ) (l : Listing) (buffer after : List ℕ) → n ≤ length x → l ≡ listing x → after ≡ splice buffer 0 (take (n - 0) l.bytes)
     → after ≡ splice buffer 0 (take n x)
 listing-put n x l buffer after h e put = first-put n l.bytes buffer after put ∙ ap (splice buffer 0) (listing-first n x l e h)
-
--- a report, by what it says
-pub report-put :
-    (r : Reply) (buffer after : List ℕ) → r.length ≤ length (said r.content r.bytes)
-    → after ≡ splice buffer 0 (take r.length (said r.content r.bytes))
-    → (r.length ≡ length (reply_bytes r)) × (after ≡ splice buffer 0 (reply_bytes r))
-unfolding reply_bytes
-report-put r buffer after h e = (sym (length-take-le r.length (said r.content r.bytes) h), e)
 
 -- what a READ sends is what the lower layer hands out
 pub run-sent :

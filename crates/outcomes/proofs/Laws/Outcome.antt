@@ -42,7 +42,7 @@ use Rattle.outcomes.proofs.Laws.Keep.{split-onward, fill_grows, shorten-onward, 
 -- a reply's bytes are there, and the command asks for room for them
 pub record Room (c : Command) (r : Reply) : Type 0 where
   pub fits : r.length ≤ reply_room c
-  pub whole : r.length ≤ length (said r.content r.bytes)
+  pub whole : r.length ≤ length (said r.content)
 
 pub data Outcome (d : Disc) (c : Command) : Verdict → Type 0 where
   done :

@@ -57,7 +57,7 @@ module _ (a : Lba) (f : Fragment) where
 abbrev pub after : ℕ → Sought → Sought
 after k s = record { holder = s.holder; looks = s.looks + k }
 
-pub after_none : (k : ℕ) → after k (record { holder = None; looks = 0 }) ≡ record { holder = no_holder; looks = k }
+pub after_none : (k : ℕ) → after k (record { holder = None; looks = 0 }) ≡ record { holder = None; looks = k }
 after_none k = ap (λ (n : ℕ). record { holder = None; looks = n }) (omega arith)
 
 pub after-after : (k : ℕ) (s : Sought) → after k (after 1 s) ≡ after (k + 1) s

@@ -1,5 +1,21 @@
-use Rattle.protocol.proofs.Laws.Answer.{allowed_row}
+use Rattle.std.proofs.Common.{rules, tests, ◌≡◌, ◌∙◌, true, false}
+use Rattle.std.proofs.lemmas.Iterator.{YieldsList-from_slice}
+use Rattle.std.proofs.lemmas.Iterator.Search.{any_from_yields_List}
+use Rattle.protocol.specs.Answer.{no_sense, refusal_sense, drive_refusals, same_sense, allowed_sense}
+use Rattle.protocol.proofs.Laws.Answer.{eq_is, refusal_any}
 use Rattle.protocol.proofs.answer.Sense.is_allowed.Goals as goal
 
-pub returns : goal.returns
-returns c = rw (c.is-11.ensures, c.sense-10.ensures, c.is-10.ensures, c.sense-9.ensures, c.is-9.ensures, c.sense-8.ensures, c.is-8.ensures, c.sense-7.ensures, c.is-7.ensures, c.sense-6.ensures, c.is-6.ensures, c.sense-5.ensures, c.is-5.ensures, c.sense-4.ensures, c.is-4.ensures, c.sense-3.ensures, c.is-3.ensures, c.sense-2.ensures, c.is-2.ensures, c.sense.ensures, c.is.ensures, c.none.ensures) (allowed_row c.args.self)
+pub returns-then-eq : goal.returns-then-eq
+unfolding allowed_sense
+returns-then-eq c =
+    let t : same_sense c.args.self no_sense ≡ true = eq_is c.args.self c.none.ensures c.eq.ensures c.if-eq.true in
+    rw (t, c.if-eq.true)
+
+pub returns-else-eq : goal.returns-else-eq
+unfolding allowed_sense
+returns-else-eq c =
+    let f : same_sense c.args.self no_sense ≡ false = eq_is c.args.self c.none.ensures c.eq.ensures c.if-eq.false in
+    rw f
+    (any_from_yields_List (λ r. same_sense c.args.self (refusal_sense r)) _ _ c.any.result c.any.ensures.ran
+    (YieldsList-from_slice drive_refusals (cc)) (λ x b q k. search (rules, tests))
+    ∙ refusal_any c.args.self drive_refusals)

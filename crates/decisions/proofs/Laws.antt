@@ -1,2 +1,0 @@
--- One file a topic, named as in specs/.
-pub mod Run

@@ -32,9 +32,7 @@ impl Disc {
     pub(crate) fn with_sense(self, sense: Sense) -> Disc
         ensures { result ≡ with_sense self sense }
     {
-        let mut disc = self;
-        disc.sense = sense;
-        disc
+        Disc { sense, ..self }
     }
 }
 

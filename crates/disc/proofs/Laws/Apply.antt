@@ -31,6 +31,9 @@ pub unchanged_verdict : (d : Disc) (r : Reply) (p : Plan) → decided d (accepti
 unfolding affected
 unchanged_verdict d r p = accepted_verdict d Keep 0 r p ∙ accept_same d r p
 
+-- all four, for the functions that decide
+pub ruleset verdicts = (refused_verdict, link_verdict, accepted_verdict, unchanged_verdict)
+
 -- a record put under a number from 1, and none put
 pub with_entry_lem : (d : Disc) (n : ℕ) (f : Fragment) → 1 ≤ n → with_entry d (entry n f) ≡ with_record d n f
 unfolding with_entry

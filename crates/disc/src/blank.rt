@@ -3,10 +3,10 @@ ghost use Rattle.std.specs.Prelude.{◌≡◌};
 ghost use Rattle.disc.specs.Blank.{in_range, zero_state, Blanked};
 
 use crate::state::Disc;
-use fragments::{Block, Fragment, Kind};
+use fragments::{Fragment, Kind};
 use protocol::{Answer, LinkRefusal, Sense};
 
-// A new disc with the answer beside it.
+// A new disc with the answer beside it. Not a Result: with the refusal L2 comes the all-zero state, whose image C is given.
 #[derive(Clone, Copy)]
 pub struct Blank {
     pub answer: Answer,

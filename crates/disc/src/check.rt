@@ -10,22 +10,22 @@ impl Disc {
     pub(crate) fn owner_is_incomplete(self) -> bool
         ensures { result ≡ owner_incomplete self }
     {
-        let owner = usize::from(self.owner);
         if self.pending == 0 {
-            return owner == 0;
+            return self.owner == 0;
         }
+        let owner = usize::from(self.owner);
         fragments::whole_blocks(usize::from(self.pending)) == 0
             && (1..=Disc::LIMIT).contains(&owner)
             && !self.numbered(owner).is_complete()
     }
 
     // The list is sound.
-    #[tactic(auto, using(crate::proofs::Laws::Check::check_sound))]
+    #[tactic(auto, using(crate::proofs::Laws::Check::sound_check))]
     pub(crate) fn is_sound(self) -> bool
         ensures { result ≡ sound self }
     {
         fragments::list_is_sound(self.capacity, self.finalized, self.fragments)
-            & self.owner_is_incomplete()
+            && self.owner_is_incomplete()
     }
 
     // The list is sound and the sense is one that a command can leave.
@@ -33,6 +33,6 @@ impl Disc {
     pub fn is_allowed(self) -> bool
         ensures { result ≡ allowed_state self }
     {
-        self.is_sound() & self.sense.is_allowed()
+        self.is_sound() && self.sense.is_allowed()
     }
 }

@@ -53,11 +53,11 @@ impl Disc {
         fragments::pending_of(self.pending, self.owner, number)
     }
 
-    // The fragment with a number has no block recorded and no sector pending.
+    // The fragment with a number has no block recorded and no sector pending. Number and record stay two, here and below: a public promise.
     pub fn is_blank(self, number: usize, f: Fragment) -> bool
         ensures { result ≡ is_blank self number f }
     {
-        (f.recorded == 0) & (self.pending_in(number) == 0)
+        f.recorded == 0 && self.pending_in(number) == 0
     }
 
     // The next writable address of the fragment with a number.
@@ -85,13 +85,13 @@ impl Disc {
     pub fn is_blank_tail(self, last: Last) -> bool
         ensures { result ≡ is_blank_tail self last }
     {
-        last.fragment.is_tail() & self.is_blank(last.number, last.fragment)
+        last.fragment.is_tail() && self.is_blank(last.number, last.fragment)
     }
 
     // The same, and it is its session's one record.
     pub fn is_only_tail(self, last: Last) -> bool
         ensures { result ≡ is_only_tail self last }
     {
-        self.is_blank_tail(last) & (self.first_of_session(last.fragment.session) == last.number)
+        self.is_blank_tail(last) && self.first_of_session(last.fragment.session) == last.number
     }
 }

@@ -2,10 +2,9 @@
 use Prim.Native.Nat.{ℕ, ◌≤◌}
 use mathlib.Core.Path.{◌≡◌, refl}
 use mathlib.Core.Bool.{true}
-use native.Mathlib.Nat.{sub-zero, zero-add}
 use native.Mathlib.Omega.{arith}
 use lib.Dec.{leb}
-use borrow.Author.Tests.{le-leb, leb-true, eq-eqb, ne_eqb}
+use borrow.Author.Tests.{leb-true}
 use Rattle.fragments.proofs.Laws.Bool.{and_left, and_right}
 use Rattle.protocol.specs.Answer.{is_refusal_sense, allowed_sense}
 use Rattle.fragments.specs.List.{listed, every}
@@ -23,9 +22,7 @@ pub blank-allowed : (c : ℕ) → in_range c ≡ true → allowed_state (blank c
 unfolding
     allowed_state sound blank listed every used_first first_at_zero follows_from in_order ends_within recorded_within zeroed_within
     incomplete_last tail_last tail_or_full pending_named finalized_complete allowed_sense is_refusal_sense
-blank-allowed c r =
-    let h = range_least c r in
-    simp (sub-zero, zero-add, ne_eqb c 0 (λ e. omega arith), ne_eqb 0 c (λ e. omega arith), eq-eqb c c refl, le-leb c c (omega arith), le-leb 0 c (omega arith))
+blank-allowed c r = grind arith
 
 -- its capacity, and that nothing is pending
 pub blank_capacity : (c : ℕ) → (blank c).capacity ≡ c

@@ -10,12 +10,11 @@ use fragments::Entry;
 
 impl Disc {
     // The disc with a record put under its number.
+    #[tactic(auto, unfolding(crate::specs::Apply::with_entry))]
     pub(crate) fn with_entry(mut self, entry: Entry) -> Disc
         ensures { result ≡ with_entry self entry }
     {
-        let before = self.fragments;
-        let fragments = entry.put(before);
-        self.fragments = fragments;
+        self.fragments = entry.put(self.fragments);
         self
     }
 
@@ -23,13 +22,15 @@ impl Disc {
     pub(crate) fn flush(self, flushed: Entry) -> Disc
         ensures { result ≡ settled self flushed }
     {
-        let mut disc = self.with_entry(flushed);
-        disc.pending = 0;
-        disc.owner = 0;
-        disc
+        Disc {
+            pending: 0,
+            owner: 0,
+            ..self.with_entry(flushed)
+        }
     }
 
     // The disc with a reserved fragment in the place of its blank tail, and a tail after it.
+    #[tactic(auto, unfolding(crate::specs::Apply::affected))]
     pub(crate) fn reserve(self, reserved: Entry, tail: Entry) -> Disc
         ensures { result ≡ affected self (Reserve reserved tail) }
     {
@@ -37,25 +38,30 @@ impl Disc {
     }
 
     // The disc after a flush, with a closed fragment and a tail after it.
+    #[tactic(auto, unfolding(crate::specs::Apply::affected))]
     pub(crate) fn close(self, flushed: Entry, closed: Entry, tail: Entry, finalized: bool) -> Disc
         ensures { result ≡ affected self (Close flushed closed tail finalized) }
     {
-        let mut disc = self.flush(flushed).with_entry(closed).with_entry(tail);
-        disc.finalized = finalized;
-        disc
+        Disc {
+            finalized,
+            ..self.flush(flushed).with_entry(closed).with_entry(tail)
+        }
     }
 
     // The disc with sectors gathered in a fragment, those of another one flushed before.
+    #[tactic(auto, unfolding(crate::specs::Apply::affected))]
     pub(crate) fn grow(self, flushed: Entry, grown: Entry, pending: u8, owner: u8) -> Disc
         ensures { result ≡ affected self (Grow flushed grown pending owner) }
     {
-        let mut disc = self.with_entry(flushed).with_entry(grown);
-        disc.pending = pending;
-        disc.owner = owner;
-        disc
+        Disc {
+            pending,
+            owner,
+            ..self.with_entry(flushed).with_entry(grown)
+        }
     }
 
     // The disc after an effect.
+    #[tactic(auto, unfolding(crate::specs::Apply::affected))]
     pub(crate) fn affected(self, effect: Effect) -> Disc
         ensures { result ≡ affected self effect }
     {
@@ -79,29 +85,24 @@ impl Disc {
     }
 
     // The disc after a change.
+    #[tactic(auto, unfolding(crate::specs::Apply::changed))]
     pub fn changed(self, change: Change) -> Disc
         ensures { result ≡ changed self change }
     {
-        let sense = change.sense;
-        let effect = change.effect;
-        self.affected(effect).with_sense(sense)
+        self.affected(change.effect).with_sense(change.sense)
     }
 
     // The verdict that a decision comes to.
+    #[tactic(auto, unfolding(crate::specs::Apply::decided))]
     pub fn decided(self, decision: Decision) -> Verdict
         ensures { result ≡ decided self decision }
     {
-        let answer = decision.answer;
-        let change = decision.change;
-        let reply = decision.reply;
-        let plan = decision.plan;
-        let disc = self.changed(change);
         Verdict {
-            answer,
-            disc,
-            reply,
+            answer: decision.answer,
+            disc: self.changed(decision.change),
+            reply: decision.reply,
             recorded: decision.recorded,
-            plan,
+            plan: decision.plan,
         }
     }
 }

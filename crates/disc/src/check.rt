@@ -6,39 +6,33 @@ use crate::state::Disc;
 
 impl Disc {
     // The pending sectors name an incomplete record, or there are none and the number is 0.
+    #[tactic(auto, unfolding(crate::specs::Sound::owner_incomplete))]
     pub(crate) fn owner_is_incomplete(self) -> bool
         ensures { result ≡ owner_incomplete self }
     {
-        let owner = self.owner as usize;
         if self.pending == 0 {
-            return owner == 0;
+            return self.owner == 0;
         }
-        if fragments::whole_blocks(self.pending as usize) != 0 {
-            return false;
-        }
-        if owner == 0 {
-            return false;
-        }
-        if owner > Disc::LIMIT {
-            return false;
-        }
-        let f = self.numbered(owner);
-        !f.is_complete()
+        let owner = usize::from(self.owner);
+        fragments::whole_blocks(usize::from(self.pending)) == 0
+            && (1..=Disc::LIMIT).contains(&owner)
+            && !self.numbered(owner).is_complete()
     }
 
     // The list is sound.
+    #[tactic(auto, using(crate::proofs::Laws::Check::sound_check))]
     pub(crate) fn is_sound(self) -> bool
         ensures { result ≡ sound self }
     {
-        let records = self.fragments;
-        fragments::list_is_sound(self.capacity, self.finalized, records)
-            & self.owner_is_incomplete()
+        fragments::list_is_sound(self.capacity, self.finalized, self.fragments)
+            && self.owner_is_incomplete()
     }
 
     // The list is sound and the sense is one that a command can leave.
+    #[tactic(auto, unfolding(crate::specs::Sound::allowed_state))]
     pub fn is_allowed(self) -> bool
         ensures { result ≡ allowed_state self }
     {
-        self.is_sound() & self.sense.is_allowed()
+        self.is_sound() && self.sense.is_allowed()
     }
 }

@@ -11,16 +11,14 @@ impl Disc {
     pub(crate) fn used(self) -> usize
         ensures { result ≡ used self }
     {
-        let records = self.fragments;
-        fragments::used(records)
+        fragments::used(self.fragments)
     }
 
     // The last record with its number.
     pub fn last(self) -> Entry
         ensures { result ≡ last_of self.fragments }
     {
-        let records = self.fragments;
-        fragments::last_record(records)
+        fragments::last_record(self.fragments)
     }
 
     // The tail's next writable address; none where there is no tail.
@@ -38,15 +36,14 @@ impl Disc {
     pub fn numbered(self, number: usize) -> Fragment
         ensures { result ≡ numbered self number }
     {
-        let records = self.fragments;
-        fragments::record_numbered(records, number)
+        fragments::record_numbered(self.fragments, number)
     }
 
     // The number is that of a record in use.
     pub fn is_listed(self, number: usize) -> bool
         ensures { result ≡ is_listed self number }
     {
-        (number != 0) & (number <= self.used())
+        (1..=self.used()).contains(&number)
     }
 
     // The pending sectors of the fragment with a number.
@@ -56,11 +53,11 @@ impl Disc {
         fragments::pending_of(self.pending, self.owner, number)
     }
 
-    // The fragment with a number has no block recorded and no sector pending.
+    // The fragment with a number has no block recorded and no sector pending. Number and record stay two, here and below: a public promise.
     pub fn is_blank(self, number: usize, f: Fragment) -> bool
         ensures { result ≡ is_blank self number f }
     {
-        (f.recorded == 0) & (self.pending_in(number) == 0)
+        f.recorded == 0 && self.pending_in(number) == 0
     }
 
     // The next writable address of the fragment with a number.
@@ -74,30 +71,27 @@ impl Disc {
     pub fn last_readable(self) -> Lba
         ensures { result ≡ last_readable self }
     {
-        let records = self.fragments;
-        fragments::highest_readable(records, self.pending, self.owner)
+        fragments::highest_readable(self.fragments, self.pending, self.owner)
     }
 
     // The number of a session's first record; one more than the last record's where it has none.
     pub fn first_of_session(self, session: u8) -> usize
         ensures { result ≡ first_of_session session 1 (records self) }
     {
-        let records = self.fragments;
-        fragments::first_of_session(records, session)
+        fragments::first_of_session(self.fragments, session)
     }
 
     // The last record, given with its number, is a tail with no block recorded and no sector pending.
     pub fn is_blank_tail(self, last: Entry) -> bool
         ensures { result ≡ is_blank_tail self last }
     {
-        let f = last.fragment;
-        f.is_tail() & self.is_blank(last.number, f)
+        last.fragment.is_tail() && self.is_blank(last.number, last.fragment)
     }
 
     // The same, and it is its session's one record.
     pub fn is_only_tail(self, last: Entry) -> bool
         ensures { result ≡ is_only_tail self last }
     {
-        self.is_blank_tail(last) & (self.first_of_session(last.fragment.session) == last.number)
+        self.is_blank_tail(last) && self.first_of_session(last.fragment.session) == last.number
     }
 }

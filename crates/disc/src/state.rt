@@ -15,7 +15,8 @@ pub struct Disc {
     pub sense: Sense,
     // Pending sectors, 0 to 15: accepted, and their block not yet recorded.
     pub pending: u8,
-    // The number of the fragment that they belong to, from 1 along the list; 0 with none pending.
+    // The number of the fragment that they belong to, from 1 along the list; 0 with none pending. Two numbers and no Option: document 01's
+    // state and its image in C have them so, and a state may hold any numbers.
     pub owner: u8,
 }
 
@@ -32,8 +33,6 @@ impl Disc {
     pub(crate) fn with_sense(self, sense: Sense) -> Disc
         ensures { result ≡ with_sense self sense }
     {
-        let mut disc = self;
-        disc.sense = sense;
-        disc
+        Disc { sense, ..self }
     }
 }

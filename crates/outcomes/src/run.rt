@@ -10,12 +10,10 @@ use protocol::Command;
 pub fn recorded_run<'a>(disc: Disc, cdb: &[u8], medium: &'a [u8]) -> &'a [u8]
     ensures { RunOf disc cdb.now medium.now result.now }
 {
-    if medium.len() != protocol::BLOCK_LENGTH * (disc.capacity as usize) {
+    if medium.len() != protocol::BLOCK_LENGTH * disc.capacity as usize {
         return &medium[0..0];
     }
     let command = Command::decode(cdb);
     let decision = commands::decide(disc, cdb, command.data_length(), command.reply_room());
-    let plan = decision.plan;
-    let transfer = plan.transfer;
-    transfer.run(medium)
+    decision.plan.transfer.run(medium)
 }

@@ -8,9 +8,9 @@ use disc::Disc;
 use protocol::Reply;
 
 // READ CAPACITY (25h): the last readable address.
+#[tactic(auto, using(disc::proofs::Laws::Apply::verdicts), unfolding(crate::specs::Reports::read_capacity))]
 pub fn read_capacity(disc: Disc) -> Decision
     ensures { decided disc result ≡ read_capacity disc }
 {
-    let last = disc.last_readable();
-    Decision::unchanged(Reply::of_capacity(last))
+    Decision::unchanged(Reply::of_capacity(disc.last_readable()))
 }

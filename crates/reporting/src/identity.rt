@@ -8,23 +8,23 @@ use disc::Disc;
 use protocol::{DriveRefusal, Reply};
 
 // INQUIRY (12h): the standard data; no page is served.
+#[tactic(auto, using(disc::proofs::Laws::Apply::verdicts), unfolding(crate::specs::Identity::inquiry))]
 pub fn inquiry(disc: Disc, page_bit: u8, allocation: u16) -> Decision
     ensures { decided disc result ≡ inquiry disc page_bit allocation }
 {
-    if page_bit == 0 {
-        let reply = Reply::of_inquiry(allocation as usize);
-        return Decision::unchanged(reply);
+    if page_bit != 0 {
+        return Decision::refused(DriveRefusal::InvalidFieldInCommand);
     }
-    Decision::refused(DriveRefusal::InvalidFieldInCommand)
+    Decision::unchanged(Reply::of_inquiry(usize::from(allocation)))
 }
 
 // GET CONFIGURATION (46h): request types 0 to 2.
+#[tactic(auto, using(disc::proofs::Laws::Apply::verdicts), unfolding(crate::specs::Identity::get_configuration))]
 pub fn get_configuration(disc: Disc, request_type: u8, start: u16, allocation: u16) -> Decision
     ensures { decided disc result ≡ get_configuration disc request_type start allocation }
 {
     if request_type == 3 {
         return Decision::refused(DriveRefusal::InvalidFieldInCommand);
     }
-    let reply = Reply::of_configuration(request_type, start, allocation as usize);
-    Decision::unchanged(reply)
+    Decision::unchanged(Reply::of_configuration(request_type, start, usize::from(allocation)))
 }

@@ -8,9 +8,9 @@ use disc::Disc;
 use protocol::Reply;
 
 // REQUEST SENSE (03h): the sense as the command finds it.
+#[tactic(auto, using(disc::proofs::Laws::Apply::verdicts), unfolding(crate::specs::Reports::request_sense))]
 pub fn request_sense(disc: Disc, allocation: u8) -> Decision
     ensures { decided disc result ≡ request_sense disc allocation }
 {
-    let sense = disc.sense;
-    Decision::unchanged(Reply::of_sense(sense, allocation as usize))
+    Decision::unchanged(Reply::of_sense(disc.sense, usize::from(allocation)))
 }

@@ -12,64 +12,75 @@ use protocol::{DriveRefusal, Reply, TrackReport};
 // The number that stands for the tail.
 const TAIL: usize = 0xFF;
 
-// The next writable address of the fragment with a number, or 0 if it is complete.
-fn next_writable_or_zero(disc: Disc, number: usize, f: Fragment) -> Lba
-    requires { f ≡ numbered disc number }
-    ensures { result ≡ next_writable_or_zero disc number }
-{
-    if f.is_complete() {
-        return Lba(0);
-    }
-    disc.next_writable(number, f)
+// A fragment of a disc. Its record is looked up once: each look-up costs a copy of the records.
+#[derive(Drop)]
+struct Track<'a> {
+    disc: &'a Disc,
+    number: usize,
+    fragment: Fragment,
+    ghost looked_up: { fragment ≡ numbered disc.now number },
 }
 
-// The sectors from there to the fragment's end, or 0 if it is complete.
-fn free_sectors(disc: Disc, number: usize, f: Fragment) -> u64
-    requires { f ≡ numbered disc number }
-    ensures { result ≡ free_sectors disc number }
-{
-    if f.is_complete() {
-        return 0;
+impl Track<'_> {
+    // Its next writable address, or 0 if it is complete.
+    #[tactic(auto, unfolding(crate::specs::Reports::next_writable_or_zero))]
+    fn next_writable_or_zero(&self) -> Lba
+        ensures { result ≡ next_writable_or_zero self.now.disc.now self.now.number }
+    {
+        if self.fragment.is_complete() {
+            return Lba(0);
+        }
+        self.disc.next_writable(self.number, self.fragment)
     }
-    let end = f.end_address();
-    let next = disc.next_writable(number, f);
-    if next.0 >= end.0 {
-        return 0;
-    }
-    end.0 - next.0
-}
 
-// What READ TRACK INFORMATION says of the fragment with a number. Its record is looked up once: each look-up costs a copy of the records.
-fn track_report(disc: Disc, number: usize) -> TrackReport
-    ensures { result ≡ track_report disc number }
-{
-    let f = disc.numbered(number);
-    let kind = f.kind;
-    let next = next_writable_or_zero(disc, number, f);
-    TrackReport {
-        number,
-        session: f.session as usize,
-        reserved: kind.is_reserved(),
-        blank: disc.is_blank(number, f),
-        written: f.recorded != 0,
-        incomplete: !f.is_complete(),
-        start: f.start.first_sector(),
-        next,
-        free: free_sectors(disc, number, f),
-        size: fragments::sectors_in(f.length),
-        last: f.last_recorded(),
+    // The sectors from there to its end, or 0 if it is complete.
+    #[tactic(auto, unfolding(crate::specs::Reports::free_sectors))]
+    fn free_sectors(&self) -> u64
+        ensures { result ≡ free_sectors self.now.disc.now self.now.number }
+    {
+        if self.fragment.is_complete() {
+            return 0;
+        }
+        let next = self.disc.next_writable(self.number, self.fragment);
+        self.fragment.end_address().0.saturating_sub(next.0)
+    }
+
+    // What READ TRACK INFORMATION says of it.
+    fn report(&self) -> TrackReport
+        ensures { result ≡ track_report self.now.disc.now self.now.number }
+    {
+        let f = self.fragment;
+        TrackReport {
+            number: self.number,
+            session: usize::from(f.session),
+            reserved: f.kind.is_reserved(),
+            blank: self.disc.is_blank(self.number, f),
+            written: f.recorded != 0,
+            incomplete: !f.is_complete(),
+            start: f.start.first_sector(),
+            next: self.next_writable_or_zero(),
+            free: self.free_sectors(),
+            size: fragments::sectors_in(f.length),
+            last: f.last_recorded(),
+        }
     }
 }
 
 // The report of the fragment with a number.
+#[tactic(auto, using(disc::proofs::Laws::Apply::verdicts), unfolding(crate::specs::Reports::track_verdict))]
 fn track_decision(disc: Disc, number: usize, allocation: u16) -> Decision
     ensures { decided disc result ≡ track_verdict disc allocation number }
 {
-    let reply = Reply::of_track(track_report(disc, number), allocation as usize);
-    Decision::unchanged(reply)
+    let track = Track {
+        disc: &disc,
+        number,
+        fragment: disc.numbered(number),
+    };
+    Decision::unchanged(Reply::of_track(track.report(), usize::from(allocation)))
 }
 
 // The report of the fragment that a search has found.
+#[tactic(auto, using(disc::proofs::Laws::Apply::verdicts), unfolding(crate::specs::Reports::track_found))]
 pub fn track_found(disc: Disc, found: Option<usize>, allocation: u16) -> Decision
     ensures { decided disc result ≡ track_found disc allocation found }
 {
@@ -80,6 +91,7 @@ pub fn track_found(disc: Disc, found: Option<usize>, allocation: u16) -> Decisio
 }
 
 // The fragment with a number; FFh stands for the tail.
+#[tactic(auto, using(disc::proofs::Laws::Apply::verdicts), unfolding(crate::specs::Reports::track_numbered))]
 pub fn track_numbered(disc: Disc, number: usize, allocation: u16) -> Decision
     ensures { decided disc result ≡ track_numbered disc allocation number }
 {

@@ -1,15 +1,16 @@
 -- The walk along the list tests the rules of a sound list.
+use Rattle.std.proofs.lemmas.Bool.Decides.{nat_tests}
 use Prim.Native.Nat.{ℕ, suc, ◌+◌, ◌-◌, ◌≤◌, ◌<◌}
 use mathlib.Core.Path.{◌≡◌, refl, sym, ◌∙◌}
-use mathlib.Core.Bool.{Bool, true, false, not, cond, ◌&&◌, ◌||◌, or-true, or-false, and-false as and_zero}
+use mathlib.Core.Bool.{Bool, true, false, not, ◌&&◌, ◌||◌, or-true, or-false, and-false as and_zero}
 use mathlib.Core.List.{List, [], ◌∷◌}
-use borrow.Author.Tests.{eq-eqb, ne_eqb, eqb-true, eqb-false, leb-true, leb-false, ltb-false, le-ltb, not-true, not-false}
+use borrow.Author.Tests.{eq-eqb, ne_eqb, eqb-true, eqb-false, le-ltb, not-true}
 use lib.ListN.{length, get_or}
 use native.Mathlib.Omega.{arith}
 use Rattle.fragments.proofs.Laws.Bool.{and_left, and_right, and_both, by_cases, or_left, or_right, or_cases, contradiction, same_test}
 use Rattle.disc.specs.Types.{Fragment, Disc}
-use lib.Dec.{eqb, leb, ltb, eqb-zero-suc, eqb-suc-suc}
-use Rattle.fragments.specs.Fragment.{unused_record, unused, end, complete, is_reserved, is_tail, next_fragment_start, next_session_start, is_zero}
+use lib.Dec.{eqb, leb, eqb-zero-suc, eqb-suc-suc}
+use Rattle.fragments.specs.Fragment.{unused_record, unused, end, complete, is_tail, next_fragment_start, next_session_start, is_zero}
 use Rattle.fragments.specs.List.{limit, every, listed}
 use Rattle.disc.specs.Records.{records, used, numbered, has_tail}
 use Rattle.fragments.specs.Address.{sectors_in}
@@ -37,53 +38,26 @@ record Rest (c : ℕ) (fin full o : Bool) (p : Fragment) (rs : List Fragment) : 
 -- no record after p
 ends-rest : (c : ℕ) (fin full o : Bool) (p : Fragment) → (complete p ≡ false → o ≡ true) → ends_list c fin full o p ≡ true → Rest c fin full o p []
 unfolding ends_list follows_from every tail_last
-ends-rest c true full o p m e =
-    let closed-o = not-true o e in
-    record {
-      follow = refl;
-      fit = refl;
-      session = λ h. refl;
-      incomplete = refl;
-      tail = by_cases (is_tail p) (λ t. absurd (contradiction (m (not-true _ (and_right (not (is_reserved p.kind)) (not (complete p)) t))) closed-o)) (λ t. rw t);
-      room = λ h. absurd (contradiction refl h);
-      closed = λ h. closed-o;
-      all = λ h. refl;
-    }
-ends-rest c false full o p m e =
-    record {
-      follow = refl;
-      fit = refl;
-      session = λ h. refl;
-      incomplete = refl;
-      tail = by_cases (is_tail p) (λ t. rw t (rw t at e)) (λ t. rw t);
-      room = λ h t. rw t at e;
-      closed = λ h. absurd (contradiction h refl);
-      all = λ h. absurd (contradiction h refl);
-    }
+ends-rest c true full o p m e = grind (arith, nat_tests)
+ends-rest c false full o p m e = grind (arith, nat_tests)
 
 rest-ends : (c : ℕ) (fin full o : Bool) (p : Fragment) → Rest c fin full o p [] → ends_list c fin full o p ≡ true
 unfolding ends_list follows_from every tail_last
 rest-ends c true full o p r = rw (r.closed refl)
-rest-ends c false full o p r = by_cases (is_tail p) (λ t. rw t (rw t at r.tail)) (λ t. rw t (r.room refl t))
+rest-ends c false full o p r = grind (arith, nat_tests)
 
 -- a record that follows is in the same session or in the next one
 follows_cases :
     {P : Type 0} (p f : Fragment)
     → (f.session ≡ p.session → f.start.0 ≡ (next_fragment_start (end p)).0 → P)
     → (f.session ≡ p.session + 1 → f.start.0 ≡ (next_session_start (end p)).0 → P) → follows p f ≡ true → P
-follows_cases p f here there e =
-    or_cases (eqb f.session p.session && eqb f.start.0 (next_fragment_start (end p)).0) _
-    (λ a. here (eqb-true _ _ (and_left _ (eqb f.start.0 (next_fragment_start (end p)).0) a)) (eqb-true _ _ (and_right (eqb f.session p.session) _ a)))
-    (λ b. there (eqb-true _ _ (and_left _ (eqb f.start.0 (next_session_start (end p)).0) b)) (eqb-true _ _ (and_right (eqb f.session (p.session + 1)) _ b)))
-    e
+follows_cases p f here there e = grind arith
 
 -- sessions never fall along a list
 sessions-rise : (p : Fragment) (rs : List Fragment) → follows_from p rs ≡ true → p.session ≤ (last_of p rs).session
 unfolding follows_from
 sessions-rise p [] e = omega arith
-sessions-rise p (f ∷ fs) e =
-    let k = sessions-rise f fs (and_right (follows p f) (follows_from f fs) e) in
-    follows_cases p f (λ s b. omega arith) (λ s b. omega arith) (and_left (follows p f) (follows_from f fs) e)
+sessions-rise p (f ∷ fs) e = grind (arith, nat_tests, sessions-rise f fs)
 
 -- what `continues` says
 continues-tail : (o : Bool) (p f : Fragment) → continues o p f ≡ true → is_tail p ≡ false
@@ -92,16 +66,12 @@ continues-tail o p f e = not-true (is_tail p) (and_left (not (is_tail p)) _ e)
 
 continues-follows : (o : Bool) (p f : Fragment) → continues o p f ≡ true → follows p f ≡ true
 unfolding continues
-continues-follows true p f e =
-    or_cases (eqb f.session p.session && eqb f.start.0 (next_fragment_start (end p)).0) false (or_left _)
-    (λ h. absurd (contradiction h refl)) (and_right (not (is_tail p)) _ e)
+continues-follows true p f e = grind (arith, nat_tests)
 continues-follows false p f e = and_right (not (is_tail p)) (follows p f) e
 
 continues_open : (o : Bool) (p f : Fragment) → o ≡ true → continues o p f ≡ true → f.session ≡ p.session
 unfolding continues
-continues_open true p f h e =
-    eqb-true _ _
-    (and_left _ (eqb f.start.0 (next_fragment_start (end p)).0) (or_cases _ false (λ k. k) (λ k. absurd (contradiction k refl)) (and_right (not (is_tail p)) _ e)))
+continues_open true p f h e = grind (arith, nat_tests)
 continues_open false p f h e = absurd (contradiction h refl)
 
 open_incomplete : (o : Bool) (p f : Fragment) → complete f ≡ false → open_after o p f ≡ true
@@ -138,10 +108,7 @@ module _ (c : ℕ) (fin full o : Bool) (p f : Fragment) (rs : List Fragment) whe
   module _ (r : Rest c fin full o p (f ∷ rs)) where
     rest-tail : is_tail p ≡ false
     unfolding tail_last
-    rest-tail =
-        by_cases (is_tail p)
-        (λ t. absurd (contradiction (and_left (eqb (suc (length rs)) 0) (eqb (end p).0 c) (rw t at r.tail)) (ne_eqb (suc (length rs)) 0 (λ z. omega arith))))
-        (λ t. t)
+    rest-tail = grind arith
 
     rest-fit : within c f ≡ true
     unfolding every
@@ -229,8 +196,7 @@ rest-walk (f ∷ fs) c fin o p u r =
 last_of_lem : (p : Fragment) (gs : List Fragment) → get_or (p ∷ gs) (length (listed gs)) unused_record ≡ last_of p (listed gs)
 unfolding listed
 last_of_lem p [] = refl
-last_of_lem p (f ∷ gs) =
-    use_cases f (λ e. rw (listed_off f gs e)) (λ e. rw (listed-on f gs e) (last_of_lem f gs))
+last_of_lem p (f ∷ gs) = grind (arith, nat_tests, last_of_lem f gs)
 
 -- the rules that speak of the records alone: rs are those in use, l the last of them, full says that none is free
 record Parts (c : ℕ) (fin full : Bool) (rs : List Fragment) (l : Fragment) : Type 0 where
@@ -245,27 +211,11 @@ record Parts (c : ℕ) (fin full : Bool) (rs : List Fragment) (l : Fragment) : T
 module _ (c : ℕ) (fin full : Bool) (f : Fragment) (rs : List Fragment) where
   rest-parts : begins_list f ≡ true → within c f ≡ true → Rest c fin full (not (complete f)) f rs → Parts c fin full (f ∷ rs) (last_of f rs)
   unfolding begins_list first_at_zero in_order incomplete_last every
-  rest-parts b w r =
-      let k = and_left (not (unused f) && eqb f.session 1) (eqb f.start.0 0) b in
-      record {
-        begin =
-            and_both
-            (and_right (not (unused f)) (eqb f.session 1) k)
-            (and_right (not (unused f) && eqb f.session 1) (eqb f.start.0 0) b);
-        order = r.follow;
-        fit = and_both w r.fit;
-        incomplete = and_both (by_cases (complete f) (or_left _) (λ h. or_right (complete f) (eq-eqb _ _ (sym (r.session (rw h)))))) r.incomplete;
-        tail = r.tail;
-        room = r.room;
-        all = λ h. and_both (not-false (complete f) (r.closed h)) (r.all h);
-      }
+  rest-parts b w r = grind arith
 
   parts-begin : (f.length ≡ 0 → ⊥) → Parts c fin full (f ∷ rs) (last_of f rs) → begins_list f ≡ true
   unfolding begins_list first_at_zero
-  parts-begin u t =
-      and_both
-      (and_both {a = not (unused f)} (rw (ne_eqb _ _ u)) (and_left (eqb f.session 1) (eqb f.start.0 0) t.begin))
-      (and_right (eqb f.session 1) (eqb f.start.0 0) t.begin)
+  parts-begin u t = grind arith
 
   parts-fit : Parts c fin full (f ∷ rs) (last_of f rs) → within c f ≡ true
   unfolding every
@@ -273,23 +223,7 @@ module _ (c : ℕ) (fin full : Bool) (f : Fragment) (rs : List Fragment) where
 
   parts-rest : Parts c fin full (f ∷ rs) (last_of f rs) → Rest c fin full (not (complete f)) f rs
   unfolding in_order incomplete_last every
-  parts-rest t =
-      let i = t.incomplete in
-      record {
-        follow = t.order;
-        fit = and_right (within c f) (every (within c) rs) t.fit;
-        session =
-            λ h.
-            or_cases (complete f) _
-            (λ k. absurd (contradiction k (not-true _ h)))
-            (λ k. sym (eqb-true _ _ k))
-            (and_left (complete f || eqb f.session (last_of f rs).session) _ i);
-        incomplete = and_right (complete f || eqb f.session (last_of f rs).session) _ i;
-        tail = t.tail;
-        room = t.room;
-        closed = λ h. rw (and_left (complete f) (every complete rs) (t.all h));
-        all = λ h. and_right (complete f) (every complete rs) (t.all h);
-      }
+  parts-rest t = grind arith
 
 -- the records in use of a list, their last one, and whether none is free
 ListParts : ℕ → Bool → List Fragment → Type 0
@@ -299,9 +233,7 @@ ListParts c fin fs =
 
 begins_used : (f : Fragment) → begins_list f ≡ true → f.length ≡ 0 → ⊥
 unfolding begins_list
-begins_used f b =
-    eqb-false f.length 0
-    (not-true _ (and_left (not (unused f)) (eqb f.session 1) (and_left (not (unused f) && eqb f.session 1) (eqb f.start.0 0) b)))
+begins_used f b = grind arith
 
 list_parts : (c : ℕ) (fin : Bool) (fs : List Fragment) → list_sound c fin fs ≡ true → ListParts c fin fs
 unfolding list_sound used_first ListParts
@@ -335,29 +267,18 @@ parts_list c fin (f ∷ gs) t =
 module _ (d : Disc) (e : owner_incomplete d ≡ true) (z : d.pending ≡ 0 → ⊥) where
   owner-few : d.pending < 16
   unfolding owner_incomplete
-  owner-few =
-      by_cases (ltb 15 d.pending)
-      (λ h. absurd (contradiction (rw (ne_eqb _ _ z, h) at e) refl))
-      (λ h. omega (arith, ltb-false 15 d.pending h))
+  owner-few = grind arith
 
   owner-number : d.owner ≡ 0 → ⊥
   unfolding owner_incomplete
-  owner-number n = contradiction (rw (ne_eqb _ _ z, le-ltb 15 d.pending (omega (arith, owner-few)), eq-eqb _ _ n) at e) refl
+  owner-number n = grind arith
 
   owner-open : complete (numbered d d.owner) ≡ false
   unfolding owner_incomplete
-  owner-open =
-      let m : (cond (ltb limit d.owner) false (not (complete (numbered d d.owner)))) ≡ true =
-      rw (ne_eqb _ _ z, le-ltb 15 d.pending (omega (arith, owner-few)), ne_eqb _ _ owner-number) at e in
-      by_cases (ltb limit d.owner) (λ h. absurd (contradiction (rw h at m) refl)) (λ h. not-true _ (rw h at m))
+  owner-open = grind arith
 
   owner-listed : used_first d.fragments ≡ true → d.owner ≤ used d
-  owner-listed u =
-      by_cases (leb d.owner (used d))
-      (λ h. leb-true _ _ h)
-      (λ h.
-      let l = leb-false d.owner (used d) h in
-      absurd (contradiction refl (rw (used_first-at d.fragments (d.owner - 1) u (omega arith)) at owner-open)))
+  owner-listed u = grind (arith, used_first-at, owner-open)
 
 owner_named : (d : Disc) → used_first d.fragments ≡ true → owner_incomplete d ≡ true → pending_named d ≡ true
 unfolding owner_incomplete
@@ -382,11 +303,11 @@ named_owner d l e =
 module _ (c : ℕ) (f : Fragment) (e : within c f ≡ true) where
   within-ends : leb (end f).0 c ≡ true
   unfolding within
-  within-ends = and_left (leb (end f).0 c) _ (and_left (leb (end f).0 c && leb f.recorded f.length) _ e)
+  within-ends = grind arith
 
   within-recorded : leb f.recorded f.length ≡ true
   unfolding within
-  within-recorded = and_right (leb (end f).0 c) _ (and_left (leb (end f).0 c && leb f.recorded f.length) _ e)
+  within-recorded = grind arith
 
   within-zeroed : leb f.zeroed (sectors_in f.recorded) ≡ true
   unfolding within
@@ -398,10 +319,7 @@ every-within :
     → every (λ f. leb f.zeroed (sectors_in f.recorded)) rs ≡ true → every (within c) rs ≡ true
 unfolding every within
 every-within c [] p q r = refl
-every-within c (f ∷ fs) p q r =
-    and_both
-    (and_both (and_both (and_left (leb (end f).0 c) _ p) (and_left (leb f.recorded f.length) _ q)) (and_left (leb f.zeroed (sectors_in f.recorded)) _ r))
-    (every-within c fs (and_right (leb (end f).0 c) _ p) (and_right (leb f.recorded f.length) _ q) (and_right (leb f.zeroed (sectors_in f.recorded)) _ r))
+every-within c (f ∷ fs) p q r = grind (arith, nat_tests, every-within c fs)
 
 -- the code's check is the rules of a sound list, joined
 module _ (d : Disc) (l : length d.fragments ≡ limit) where
@@ -462,3 +380,7 @@ module _ (d : Disc) (l : length d.fragments ≡ limit) where
       same_test
       (λ h. tests-sound d (check-tests (and_left a (owner_incomplete d) h) (and_right a (owner_incomplete d) h)))
       (λ h. tests-check (sound-tests d h))
+
+  -- the other way round, as the code's two tests one after another meet it
+  pub sound_check : sound d ≡ (list_sound d.capacity d.finalized d.fragments && owner_incomplete d)
+  sound_check = sym check_sound

@@ -1,18 +1,18 @@
 -- Recording blocks in records that stay where they are keeps a list sound.
+use Rattle.std.proofs.lemmas.Bool.Decides.{nat_tests}
 use Prim.Native.Nat.{ℕ, suc, ◌-◌, ◌*◌, ◌≤◌, ◌<◌}
 use mathlib.Core.Path.{◌≡◌, refl, sym, ◌∙◌, ap}
-use mathlib.Core.Bool.{true, false, not}
+use mathlib.Core.Bool.{true, false}
 use mathlib.Core.List.{List}
 use mathlib.Core.Logic.{inl, inr, ⊎_elim}
 use native.Mathlib.Omega.{arith}
-use borrow.Author.Tests.{eq-eqb, eqb-true, not-true}
 use lib.ListN.{length, get_or, set, length-set}
 use lib.Seq.{get_or-set_same, get_or-set_other}
 use Rattle.disc.specs.Types.{Fragment, Disc}
-use Rattle.fragments.specs.Fragment.{unused_record, end, complete, is_reserved, is_tail}
+use Rattle.fragments.specs.Fragment.{unused_record, end, complete, is_tail}
 use Rattle.disc.specs.Records.{used, last_record, has_tail}
 use Rattle.disc.specs.Rules.{at, Follows, Owned, Sound}
-use Rattle.fragments.proofs.Laws.Bool.{and_left, and_right, and_both, by_cases, contradiction}
+use Rattle.fragments.proofs.Laws.Bool.{by_cases}
 use Rattle.fragments.proofs.Laws.Numbers.{equal_cases}
 use Rattle.fragments.proofs.Laws.List.{listed_le, listed-used, listed_count}
 
@@ -41,28 +41,17 @@ module _ (d e : Disc) (s : Sound d) (g : Grown d e) where
   grown-end i = omega (arith, g.start i, g.size i)
 
   grown-follows : (i : ℕ) → Follows (at d i) (at d (suc i)) → Follows (at e i) (at e (suc i))
-  grown-follows i w =
-      ⊎_elim
-      (λ h. inl (omega (arith, h.0, g.session i, g.session (suc i)), omega (arith, h.1, g.start (suc i), grown-end i)))
-      (λ h. inr (omega (arith, h.0, g.session i, g.session (suc i)), omega (arith, h.1, g.start (suc i), grown-end i)))
-      w
+  grown-follows i w = grind arith
 
   -- a complete record stays complete
   pub grown-complete : (i : ℕ) → i < used d → complete (at d i) ≡ true → complete (at e i) ≡ true
-  grown-complete i h c =
-      eq-eqb (at e i).recorded (at e i).length
-      (omega (arith, eqb-true (at d i).recorded (at d i).length c, g.more i, g.recorded i h, g.size i))
+  grown-complete i h c = grind (arith, nat_tests)
 
   grown-incomplete : (i : ℕ) → i < used d → complete (at e i) ≡ false → complete (at d i) ≡ false
-  grown-incomplete i h c = by_cases (complete (at d i)) (λ k. absurd (contradiction (grown-complete i h k) c)) (λ k. k)
+  grown-incomplete i h c = grind (arith, nat_tests)
 
   grown-tail : (i : ℕ) → i < used d → is_tail (at e i) ≡ true → is_tail (at d i) ≡ true
-  grown-tail i h t =
-      let r = not (is_reserved (at e i).kind) in
-      let w = not (complete (at e i)) in
-      and_both {a = not (is_reserved (at d i).kind)} {b = not (complete (at d i))}
-      (rw (sym (g.kind i)) (and_left r w t))
-      (ap not (grown-incomplete i h (not-true _ (and_right r w t))))
+  grown-tail i h t = grind (arith, nat_tests)
 
   grown-last : last_record e ≡ at e (used d - 1)
   grown-last = ap (λ n. at e (n - 1)) grown-used
@@ -109,10 +98,7 @@ module _ (d e : Disc) (s : Sound d) (g : Grown d e) where
 pub set_relates :
     (fs : List Fragment) (k i : ℕ) (g : Fragment) (P : Fragment → Fragment → Type 0)
     → k < length fs → P (get_or fs k unused_record) g → ((f : Fragment) → P f f) → P (get_or fs i unused_record) (get_or (set fs k g) i unused_record)
-set_relates fs k i g P h here else =
-    equal_cases i k
-    (λ e. rw (e, get_or-set_same fs k g unused_record h) here)
-    (λ n. rw (get_or-set_other fs k i g unused_record n) (else (get_or fs i unused_record)))
+set_relates fs k i g P h here else = grind (arith, get_or-set_same, get_or-set_other)
 
 -- the disc with one record grown
 pub record GrownRecord (f g : Fragment) : Type 0 where
@@ -157,17 +143,4 @@ set_grown d e k g s h c f same r =
 
 -- no record changed
 pub same_grown : (d : Disc) → Sound d → Grown d d
-same_grown d s =
-    record {
-      capacity = refl;
-      finalized = refl;
-      array = refl;
-      session = λ i. refl;
-      start = λ i. refl;
-      size = λ i. refl;
-      kind = λ i. refl;
-      more = λ i. omega arith;
-      recorded = s.recorded;
-      zeroed = s.zeroed;
-      unused = s.unused;
-    }
+same_grown d s = grind arith

@@ -1,7 +1,7 @@
 -- What is recorded stays recorded: a record with recorded blocks stays at its place and start and records no fewer; and which blocks are
 -- recorded anew.
 use Prim.Native.Nat.{ℕ, ◌+◌, ◌-◌, ◌≤◌, ◌<◌, suc}
-use mathlib.Core.Path.{◌≡◌, refl, sym, ◌∙◌, ap, subst}
+use mathlib.Core.Path.{◌≡◌, sym, ◌∙◌, ap}
 use native.Mathlib.Omega.{arith}
 use lib.ListN.{length, get_or, set}
 use lib.Seq.{get_or-set_same, get_or-set_other}
@@ -12,7 +12,7 @@ use lib.Dec.{ltb}
 use Rattle.disc.specs.Types.{Fragment, Disc}
 use Rattle.fragments.specs.Fragment.{unused_record, first_unrecorded}
 use Rattle.disc.specs.Records.{used, last_record, with_record}
-use Rattle.fragments.specs.List.{sum_recorded, listed}
+use Rattle.fragments.specs.List.{sum_recorded}
 use Rattle.disc.specs.Rules.{at, Sound}
 use Rattle.fragments.proofs.Laws.Bool.{by_cases}
 use Rattle.fragments.proofs.Laws.Numbers.{equal_cases}
@@ -44,63 +44,26 @@ abbrev pub NoBlock : ℕ → Type 0
 NoBlock x = ⊥
 
 pub same_onward : (d : Disc) → Onward d d NoBlock
-same_onward d =
-    record {
-      stays = λ i h n. record { listed = h; start = refl; recorded = omega arith };
-      was = λ x h. inl h;
-      adds = λ x b. absurd b;
-    }
+same_onward d = grind arith
 
 -- what is recorded stays so
 held_stays : (d e : Disc) (x : ℕ) → ((i : ℕ) → i < used d → ((at d i).recorded ≡ 0 → ⊥) → Stays (at d i) e i) → Held d x → Held e x
-held_stays d e x k h =
-    let s = k h.index h.listed (λ z. omega (arith, h.from, h.below, z)) in
-    record {
-      index = h.index;
-      listed = s.listed;
-      from = omega (arith, h.from, s.start);
-      below = omega (arith, h.below, s.start, s.recorded);
-    }
+held_stays d e x k h = grind arith
 
 pub held_onward : (d e : Disc) (B : ℕ → Type 0) (x : ℕ) → Onward d e B → Held d x → Held e x
 held_onward d e B x o h = held_stays d e x o.stays h
 
 -- on a disc with the same list, as one with another sense, the same is recorded
 held-list : (d e : Disc) (x : ℕ) → d.fragments ≡ e.fragments → Held d x → Held e x
-held-list d e x q h =
-    let at_same = ap (λ (l : List Fragment). get_or l h.index unused_record) q in
-    record {
-      index = h.index;
-      listed = subst (λ (l : List Fragment). h.index < length (listed l)) q h.listed;
-      from = subst (λ (f : Fragment). f.start.0 ≤ x) at_same h.from;
-      below = subst (λ (f : Fragment). x < (first_unrecorded f).0) at_same h.below;
-    }
+held-list d e x q h = grind arith
 
 pub list-onward : (d e k : Disc) (B : ℕ → Type 0) → e.fragments ≡ k.fragments → Onward d e B → Onward d k B
-list-onward d e k B q o =
-    record {
-      stays =
-          λ i h n.
-          let a = o.stays i h n in
-          let at_same = ap (λ (l : List Fragment). get_or l i unused_record) q in
-          record {
-            listed = subst (λ (l : List Fragment). i < length (listed l)) q a.listed;
-            start = subst (λ (f : Fragment). f.start.0 ≡ (at d i).start.0) at_same a.start;
-            recorded = subst (λ (f : Fragment). (at d i).recorded ≤ f.recorded) at_same a.recorded;
-          };
-      was = λ x h. o.was x (held-list k e x (sym q) h);
-      adds = λ x b. held-list e k x q (o.adds x b);
-    }
+list-onward d e k B q o = grind arith
 
 -- the blocks of B by another description
 pub onward_as :
     (d e : Disc) (B C : ℕ → Type 0) → ((x : ℕ) → B x → C x) → ((x : ℕ) → C x → B x) → Onward d e B → Onward d e C
-onward_as d e B C to back o =
-    record {
-      stays = o.stays;
-      was = λ x h. ⊎_elim (λ b. inl b) (λ b. inr (to x b)) (o.was x h);
-      adds = λ x c. o.adds x (back x c);
-    }
+onward_as d e B C to back o = grind arith
 
 pub onward-on :
     (d e k : Disc) (B C : ℕ → Type 0) → Onward d e B → Onward e k C → Onward d k (λ x. (B x) ⊎ (C x))
@@ -120,10 +83,10 @@ onward-on d e k B C o p =
 
 -- a change that records nothing, before or after one that does
 pub onward-before : (d e k : Disc) (C : ℕ → Type 0) → Onward d e NoBlock → Onward e k C → Onward d k C
-onward-before d e k C o p = onward_as d k _ C (λ x b. ⊎_elim (λ c. absurd c) (λ c. c) b) (λ x c. inr c) (onward-on d e k NoBlock C o p)
+onward-before d e k C o p = grind arith
 
 pub onward-after : (d e k : Disc) (B : ℕ → Type 0) → Onward d e B → Onward e k NoBlock → Onward d k B
-onward-after d e k B o p = onward_as d k _ B (λ x b. ⊎_elim (λ c. c) (λ c. absurd c) b) (λ x c. inl c) (onward-on d e k B NoBlock o p)
+onward-after d e k B o p = grind arith
 
 -- the blocks by which the records of e are longer recorded than those of d
 pub record Grew (d e : Disc) (x : ℕ) : Type 0 where

@@ -1,18 +1,17 @@
 -- Changing the last record, dropping it and putting one after it keeps a list in order.
 use Prim.Native.Nat.{ℕ, suc, ◌+◌, ◌-◌, ◌*◌, ◌≤◌, ◌<◌}
 use mathlib.Core.Path.{◌≡◌, refl, sym, ◌∙◌, ap}
-use mathlib.Core.Bool.{true, false, not}
+use mathlib.Core.Bool.{true, false}
 use mathlib.Core.Logic.{◌⊎◌, inl, inr, ⊎_elim}
 use native.Mathlib.Omega.{arith}
-use borrow.Author.Tests.{eq-eqb, not-true}
 use lib.ListN.{length, get_or, set, length-set}
 use lib.Seq.{get_or-set_same, get_or-set_other}
 use Rattle.disc.specs.Types.{Fragment, Disc}
-use Rattle.fragments.specs.Fragment.{unused_record, end, complete, is_reserved, is_tail}
+use Rattle.fragments.specs.Fragment.{unused_record, end, complete, is_tail}
 use Rattle.fragments.specs.List.{limit}
 use Rattle.disc.specs.Records.{used, last_record, with_record, has_tail}
 use Rattle.disc.specs.Rules.{at, Follows, Owned, Sound}
-use Rattle.fragments.proofs.Laws.Bool.{and_right, contradiction}
+use Rattle.fragments.proofs.Laws.Bool.{contradiction}
 use Rattle.fragments.proofs.Laws.Numbers.{equal_cases}
 use Rattle.fragments.proofs.Laws.List.{listed_le, listed-used, listed_count}
 use Rattle.disc.proofs.Laws.Sound.{sessions-rise}
@@ -59,56 +58,18 @@ pub record Ordered (d : Disc) : Type 0 where
   pub owned : (d.pending ≡ 0 → ⊥) → Owned d
 
 pub sound_ordered : (d : Disc) → Sound d → Ordered d
-sound_ordered d s =
-    record {
-      array = s.array;
-      some = s.some;
-      unused = s.unused;
-      first_session = s.first_session;
-      first_start = s.first_start;
-      next = s.next;
-      ends = s.ends;
-      recorded = s.recorded;
-      zeroed = s.zeroed;
-      incomplete = s.incomplete;
-      tail = s.tail;
-      few = s.few;
-      none = s.none;
-      owned = s.owned;
-    }
+sound_ordered d s = grind arith
 
 -- the rules that are left: for a disc that is not finalized, and for one that is
 pub open_sound :
     (d : Disc) → Ordered d → d.finalized ≡ false → (has_tail d ≡ false → (used d ≡ limit) ⊎ (d.capacity ≤ (end (last_record d)).0 + 1)) → Sound d
-open_sound d o f full =
-    record {
-      array = o.array;
-      some = o.some;
-      unused = o.unused;
-      first_session = o.first_session;
-      first_start = o.first_start;
-      next = o.next;
-      ends = o.ends;
-      recorded = o.recorded;
-      zeroed = o.zeroed;
-      incomplete = o.incomplete;
-      tail = o.tail;
-      full = λ e. full;
-      few = o.few;
-      none = o.none;
-      owned = o.owned;
-      closed = λ e. absurd (contradiction e f);
-      settled = λ e. absurd (contradiction e f);
-    }
+open_sound d o f full = grind arith
 
 -- one record changed, by the cases of an index
 at-changed :
     (d : Disc) (k : ℕ) (g : Fragment) (i : ℕ) (P : Fragment → Type 0)
     → k < length d.fragments → (i ≡ k → P g) → ((i ≡ k → ⊥) → P (at d i)) → P (get_or (set d.fragments k g) i unused_record)
-at-changed d k g i P h here else =
-    equal_cases i k
-    (λ e. rw (ap (λ j. get_or (set d.fragments k g) j unused_record) e ∙ get_or-set_same d.fragments k g unused_record h) (here e))
-    (λ n. rw (get_or-set_other d.fragments k i g unused_record n) (else n))
+at-changed d k g i P h here else = grind (arith, get_or-set_same, get_or-set_other)
 
 -- another record in the place of the last one
 pub record Replaces (d : Disc) (g : Fragment) : Type 0 where
@@ -134,8 +95,7 @@ module _ (d : Disc) (s : Sound d) (g : Fragment) (r : Replaces d g) where
   by_place i P here else = at-changed d (used d - 1) g i P place here else
 
   replaced-last : last_record (with_record d (used d) g) ≡ g
-  replaced-last =
-      ap (λ n. at (with_record d (used d) g) (n - 1)) replaced-used ∙ get_or-set_same d.fragments (used d - 1) g unused_record place
+  replaced-last = grind (arith, replaced-used, get_or-set_same, place)
 
   replaced-follows : (i : ℕ) → suc i < used d → Follows (at (with_record d (used d) g) i) (at (with_record d (used d) g) (suc i))
   replaced-follows i h =
@@ -279,8 +239,7 @@ module _ (d : Disc) (o : Ordered d) (t : Fragment) (x : Extends d t) where
       (at-changed d (used d) t i P (omega (arith, x.free, o.array)) here else)
 
   tail-length : t.length ≡ 0 → ⊥
-  tail-length z =
-      contradiction (eq-eqb t.recorded t.length (x.recorded ∙ sym z)) (not-true _ (and_right (not (is_reserved t.kind)) (not (complete t)) x.tail))
+  tail-length z = grind arith
 
   pub extended-used : used (with_record d (used d + 1) t) ≡ suc (used d)
   extended-used =

@@ -1,23 +1,24 @@
 -- Which sectors are recorded, pending and readable: by the record that has them, and by the fragment that an address lies in.
+use Rattle.std.proofs.lemmas.Bool.Decides.{nat_tests}
 use Prim.Native.Nat.{ℕ, zero, suc, ◌+◌, ◌-◌, ◌*◌, ◌/◌, ◌≤◌, ◌<◌}
 use mathlib.Core.Path.{◌≡◌, refl, sym, ◌∙◌, ap}
 use mathlib.Core.Bool.{true, ◌&&◌}
 use mathlib.Core.List.{List, [], ◌∷◌}
 use native.Mathlib.Omega.{arith}
-use borrow.Author.Tests.{leb-true, leb-false, le-leb, ltb-true, ltb-false, lt-ltb, eq-eqb, eqb-true, eqb-false}
+use borrow.Author.Tests.{leb-true, leb-false, le-leb, ltb-true, ltb-false, lt-ltb, eqb-true, eqb-false}
 use lib.Dec.{eqb, leb, ltb}
 use lib.ListN.{length, get_or, replicate}
 use Rattle.disc.specs.Types.{Lba, Fragment, Disc, Some, None}
 use Rattle.disc.specs.Blank.{blank}
 use Rattle.fragments.specs.Address.{lba, sectors_in, first_sector}
-use Rattle.fragments.specs.Fragment.{unused_record, end, complete, first_unrecorded, next_after, last_readable_of, holds_recorded, holds}
+use Rattle.fragments.specs.Fragment.{unused_record, end, complete, first_unrecorded, last_readable_of, holds_recorded, holds}
 use Rattle.fragments.specs.List.{limit, pending_of, highest_readable}
 use Rattle.disc.specs.Records.{pending_in, next_writable, records, used, numbered, at_address, is_recorded, is_pending, is_readable, last_readable}
 use Rattle.disc.specs.Rules.{at, Sound}
-use Rattle.fragments.proofs.Laws.Bool.{and_left, and_right, and_both, by_cases, cond_yes, cond_no, or_left, or_right, or_cases, same_test, contradiction}
+use Rattle.fragments.proofs.Laws.Bool.{and_left, and_right, and_both, by_cases, or_left, or_right, or_cases, same_test}
 use Rattle.fragments.proofs.Laws.Numbers.{equal_cases}
 use Rattle.fragments.proofs.Laws.List.{listed_at, some_cases, at_some, find_hit, find_none}
-use Rattle.disc.proofs.Laws.Sound.{none_pending, other_pending, own_pending, disjoint, writable-within}
+use Rattle.disc.proofs.Laws.Sound.{other_pending, own_pending, disjoint, writable-within}
 use Rattle.disc.proofs.Laws.Onward.{Held, Onward}
 
 -- a sector is recorded where a record in use holds it in its recorded blocks
@@ -29,18 +30,15 @@ module _ (d : Disc) (a : Lba) where
       (λ i l t. k i l (rw (listed_at d.fragments i unused_record l) at t)) e
 
   pub at-recorded : (i : ℕ) → i < used d → holds_recorded a (at d i) ≡ true → is_recorded d a ≡ true
-  at-recorded i l t =
-      at_some (holds_recorded a) (records d) i unused_record l (rw (listed_at d.fragments i unused_record l) t)
+  at-recorded i l t = grind (arith, at_some, listed_at)
 
 -- the test, as two bounds
 module _ (a : Lba) (f : Fragment) where
   pub recorded-from : holds_recorded a f ≡ true → (first_sector f.start).0 ≤ a.0
-  recorded-from e =
-      leb-true _ _ (and_left (leb (first_sector f.start).0 a.0) (ltb a.0 (first_sector (first_unrecorded f)).0) e)
+  recorded-from e = grind arith
 
   pub recorded-below : holds_recorded a f ≡ true → a.0 < (first_sector (first_unrecorded f)).0
-  recorded-below e =
-      ltb-true _ _ (and_right (leb (first_sector f.start).0 a.0) (ltb a.0 (first_sector (first_unrecorded f)).0) e)
+  recorded-below e = grind arith
 
   pub recorded-between :
       (first_sector f.start).0 ≤ a.0 → a.0 < (first_sector (first_unrecorded f)).0 → holds_recorded a f ≡ true
@@ -91,18 +89,10 @@ pub record Waits (d : Disc) (a : ℕ) (f : Fragment) : Type 0 where
 
 module _ (d : Disc) (a : Lba) where
   pub pending-waits : is_pending d a ≡ true → Waits d a.0 (numbered d d.owner)
-  pending-waits t =
-      let f = numbered d d.owner in
-      let low = leb (first_sector (first_unrecorded f)).0 a.0 in
-      let high = ltb a.0 (next_after d.pending f).0 in
-      record { from = leb-true _ _ (and_left low high t); below = ltb-true _ _ (and_right low high t) }
+  pending-waits t = grind arith
 
   pub waits-pending : (f : Fragment) → numbered d d.owner ≡ f → Waits d a.0 f → is_pending d a ≡ true
-  waits-pending f e w =
-      let g = numbered d d.owner in
-      let k = ap (λ (h : Fragment). (first_sector (first_unrecorded h)).0) e in
-      and_both (le-leb (first_sector (first_unrecorded g)).0 a.0 (omega (arith, k, w.from)))
-      (lt-ltb a.0 (next_after d.pending g).0 (omega (arith, k, w.below)))
+  waits-pending f e w = grind arith
 
 -- where a record's readable sectors end
 abbrev pub reach : Disc → ℕ → ℕ
@@ -114,18 +104,11 @@ module _ (d : Disc) (s : Sound d) where
   owner-index i e = let k : d.owner - 1 ≡ i = omega (arith, e) in ap (λ (j : ℕ). get_or d.fragments j unused_record) k
 
   complete-none : (i : ℕ) → complete (at d i) ≡ true → pending_in d (suc i) ≡ 0
-  complete-none i t =
-      equal_cases d.pending 0 (λ z. none_pending d (suc i) z)
-      (λ z.
-      other_pending d (suc i)
-      (λ e. contradiction (ap complete (owner-index i e) ∙ t) (s.owned z).incomplete))
+  complete-none i t = grind (arith, nat_tests)
 
   -- within the fragment
   pub reach-within : (i : ℕ) → i < used d → reach d i ≤ (first_sector (end (at d i))).0
-  reach-within i l =
-      by_cases (complete (at d i))
-      (λ t. omega (arith, complete-none i t, eqb-true (at d i).recorded (at d i).length t))
-      (λ t. let w = writable-within d s i l t in omega (arith, w.1))
+  reach-within i l = grind (arith, nat_tests, writable-within)
 
   -- a sector is readable where a record in use has it before that end
   pub readable_cases :
@@ -268,9 +251,7 @@ highest_most :
     → (last_readable_of (pending_of p o (n + i)) (get_or fs i unused_record)).0 ≤ (highest_readable p o n fs).0
 unfolding highest_readable
 highest_most p o n [] i h = absurd (omega arith)
-highest_most p o n (f ∷ fs) zero h =
-    let same : n + 0 ≡ n = omega arith in
-    rw same (omega arith)
+highest_most p o n (f ∷ fs) zero h = grind (arith, nat_tests)
 highest_most p o n (f ∷ fs) (suc i) h =
     let same : n + suc i ≡ n + 1 + i = omega arith in
     let rest = highest_most p o (n + 1) fs i (omega arith) in
@@ -300,22 +281,7 @@ module _ (d : Disc) (s : Sound d) where
   last-cases :
       {P : Type 0} (i : ℕ) → ((last_readable_of (pending_in d (suc i)) (at d i)).0 ≡ 0 → reach d i ≡ (first_sector (at d i).start).0 → P)
       → ((last_readable_of (pending_in d (suc i)) (at d i)).0 ≡ reach d i - 1 → (first_sector (at d i).start).0 < reach d i → P) → P
-  last-cases i none some =
-      let w = (at d i).recorded in
-      let p = pending_in d (suc i) in
-      let test = eqb w 0 && eqb p 0 in
-      let last = lba (reach d i - 1) in
-      by_cases test
-      (λ t.
-      let unrecorded = eqb-true w 0 (and_left (eqb w 0) (eqb p 0) t) in
-      let free = eqb-true p 0 (and_right (eqb w 0) (eqb p 0) t) in
-      none (ap (λ (b : Lba). b.0) (cond_yes test (lba 0) last t)) (omega (arith, unrecorded, free)))
-      (λ t.
-      some (ap (λ (b : Lba). b.0) (cond_no test (lba 0) last t))
-      (equal_cases w 0
-      (λ unrecorded.
-      equal_cases p 0 (λ free. absurd (contradiction (and_both (eq-eqb w 0 unrecorded) (eq-eqb p 0 free)) t)) (λ held. omega (arith, held)))
-      (λ recorded. omega (arith, recorded))))
+  last-cases i none some = grind (arith, nat_tests)
 
   -- the same with the numbers that the walk along the list has
   record-last :

@@ -1,15 +1,16 @@
 -- The test `sound` and the rules at indices say the same.
+use Rattle.std.proofs.lemmas.Bool.Decides.{nat_tests}
 use Prim.Native.Nat.{ℕ, zero, suc, ◌+◌, ◌*◌, ◌≤◌, ◌<◌}
-use mathlib.Core.Path.{◌≡◌, refl, ap}
+use mathlib.Core.Path.{◌≡◌, refl}
 use mathlib.Core.Bool.{Bool, true, not, ◌&&◌, ◌||◌}
 use mathlib.Core.List.{List, [], ◌∷◌}
 use mathlib.Core.Logic.{inl, inr, ⊎_elim}
 use native.Mathlib.Omega.{arith}
-use borrow.Author.Tests.{eq-eqb, ne_eqb, eqb-true, eqb-false, le-leb, leb-true, lt-ltb, ltb-true, not-true}
+use borrow.Author.Tests.{eq-eqb, ne_eqb, eqb-true, eqb-false, le-leb, leb-true, ltb-true, not-true}
 use lib.Dec.{eqb, leb, ltb}
 use lib.ListN.{length, get_or}
 use Rattle.disc.specs.Types.{Fragment, Disc, Kind, Reserved, Appended}
-use Rattle.fragments.specs.Fragment.{unused_record, end, complete, is_reserved, is_tail, next_fragment_start, next_session_start, is_zero}
+use Rattle.fragments.specs.Fragment.{unused_record, end, complete, is_reserved, is_tail, is_zero}
 use Rattle.fragments.specs.List.{limit, listed, every}
 use Rattle.disc.specs.Records.{records, used, is_listed, numbered, last_record, has_tail}
 use Rattle.disc.specs.Sound.{used_first, first_at_zero, follows, follows_from, in_order, ends_within, recorded_within, zeroed_within, incomplete_last, tail_last, tail_or_full, pending_named, finalized_complete, is_array, sound}
@@ -23,24 +24,7 @@ zero_kind Reserved e = refl
 zero_kind Appended e = absurd (contradiction e refl)
 
 pub zero_record : (f : Fragment) → is_zero f ≡ true → f ≡ unused_record
-zero_record f e =
-    let t = is_reserved f.kind in
-    let z = eqb f.zeroed 0 in
-    let w = eqb f.recorded 0 in
-    let l = eqb f.length 0 in
-    let b = eqb f.start.0 0 in
-    let s = eqb f.session 0 in
-    let e5 = and_left (s && b && l && w && z) t e in
-    let e4 = and_left (s && b && l && w) z e5 in
-    let e3 = and_left (s && b && l) w e4 in
-    let e2 = and_left (s && b) l e3 in
-    let ps = eqb-true f.session 0 (and_left s b e2) in
-    let pb = eqb-true f.start.0 0 (and_right s b e2) in
-    let pl = eqb-true f.length 0 (and_right (s && b) l e3) in
-    let pw = eqb-true f.recorded 0 (and_right (s && b && l) w e4) in
-    let pz = eqb-true f.zeroed 0 (and_right (s && b && l && w) z e5) in
-    let pk = zero_kind f.kind (and_right (s && b && l && w && z) t e) in
-    λ i. record { session = ps i; start = record { 0 = pb i }; length = pl i; recorded = pw i; zeroed = pz i; kind = pk i }
+zero_record f e = grind arith
 
 -- the unused records
 pub zeros-at : (fs : List Fragment) (i : ℕ) → every is_zero fs ≡ true → get_or fs i unused_record ≡ unused_record
@@ -75,18 +59,10 @@ at-used_first (f ∷ fs) h =
 
 -- the order of the records
 pub follows_either : (p f : Fragment) → follows p f ≡ true → Follows p f
-follows_either p f e =
-    or_cases (eqb f.session p.session && eqb f.start.0 (next_fragment_start (end p)).0) _
-    (λ a. inl (eqb-true _ _ (and_left _ (eqb f.start.0 (next_fragment_start (end p)).0) a), eqb-true _ _ (and_right (eqb f.session p.session) _ a)))
-    (λ b. inr (eqb-true _ _ (and_left _ (eqb f.start.0 (next_session_start (end p)).0) b), eqb-true _ _ (and_right (eqb f.session (p.session + 1)) _ b)))
-    e
+follows_either p f e = grind arith
 
 pub either_follows : (p f : Fragment) → Follows p f → follows p f ≡ true
-either_follows p f w =
-    ⊎_elim
-    (λ h. or_left _ (and_both (eq-eqb _ _ h.0) (eq-eqb _ _ h.1)))
-    (λ h. or_right (eqb f.session p.session && eqb f.start.0 (next_fragment_start (end p)).0) (and_both (eq-eqb _ _ h.0) (eq-eqb _ _ h.1)))
-    w
+either_follows p f w = grind arith
 
 pub follows-at :
     (p : Fragment) (rs : List Fragment) (i : ℕ) (d : Fragment)
@@ -94,7 +70,7 @@ pub follows-at :
 unfolding follows_from
 follows-at p [] i d e h = absurd (omega arith)
 follows-at p (f ∷ fs) zero d e h = and_left (follows p f) (follows_from f fs) e
-follows-at p (f ∷ fs) (suc i) d e h = follows-at f fs i d (and_right (follows p f) (follows_from f fs) e) (omega arith)
+follows-at p (f ∷ fs) (suc i) d e h = grind (arith, nat_tests, follows-at f fs i d)
 
 pub at_follows :
     (p : Fragment) (rs : List Fragment) (d : Fragment)
@@ -122,13 +98,8 @@ pub tail_at :
     → tail_last c rs ≡ true → i < length rs → is_tail (get_or rs i d) ≡ true → (suc i ≡ length rs) × ((end (get_or rs i d)).0 ≡ c)
 unfolding tail_last
 tail_at c [] i d e h t = absurd (omega arith)
-tail_at c (f ∷ fs) zero d e h t =
-    let k : (eqb (length fs) 0 && eqb (end f).0 c) ≡ true = rw t at e in
-    (omega (arith, eqb-true (length fs) 0 (and_left (eqb (length fs) 0) (eqb (end f).0 c) k)), eqb-true _ _ (and_right (eqb (length fs) 0) (eqb (end f).0 c) k))
-tail_at c (f ∷ fs) (suc i) d e h t =
-    by_cases (is_tail f)
-    (λ a. absurd (let k : (eqb (length fs) 0 && eqb (end f).0 c) ≡ true = rw a at e in omega (arith, eqb-true (length fs) 0 (and_left (eqb (length fs) 0) (eqb (end f).0 c) k))))
-    (λ a. let k = tail_at c fs i d (rw a at e) (omega arith) t in (ap suc k.0, k.1))
+tail_at c (f ∷ fs) zero d e h t = grind (arith, nat_tests)
+tail_at c (f ∷ fs) (suc i) d e h t = grind (arith, nat_tests, tail_at c fs i d)
 
 pub at_tail :
     (c : ℕ) (rs : List Fragment) (d : Fragment)
@@ -157,53 +128,15 @@ pub record Tests (d : Disc) : Type 0 where
 
 pub sound-tests : (d : Disc) → sound d ≡ true → Tests d
 unfolding sound
-sound-tests d e =
-    let t-first = used_first d.fragments in
-    let t-begin = first_at_zero (records d) in
-    let t-order = in_order (records d) in
-    let t-ends = ends_within d.capacity (records d) in
-    let t-recorded = recorded_within (records d) in
-    let t-zeroed = zeroed_within (records d) in
-    let t-incomplete = incomplete_last (last_record d).session (records d) in
-    let t-tail = tail_last d.capacity (records d) in
-    let t-full = tail_or_full d in
-    let t-pending = pending_named d in
-    let t_closed = finalized_complete d in
-    let t-array = is_array d in
-    let e11 = e in
-    let e10 = and_left (t-first && t-begin && t-order && t-ends && t-recorded && t-zeroed && t-incomplete && t-tail && t-full && t-pending && t_closed) t-array e11 in
-    let e9 = and_left (t-first && t-begin && t-order && t-ends && t-recorded && t-zeroed && t-incomplete && t-tail && t-full && t-pending) t_closed e10 in
-    let e8 = and_left (t-first && t-begin && t-order && t-ends && t-recorded && t-zeroed && t-incomplete && t-tail && t-full) t-pending e9 in
-    let e7 = and_left (t-first && t-begin && t-order && t-ends && t-recorded && t-zeroed && t-incomplete && t-tail) t-full e8 in
-    let e6 = and_left (t-first && t-begin && t-order && t-ends && t-recorded && t-zeroed && t-incomplete) t-tail e7 in
-    let e5 = and_left (t-first && t-begin && t-order && t-ends && t-recorded && t-zeroed) t-incomplete e6 in
-    let e4 = and_left (t-first && t-begin && t-order && t-ends && t-recorded) t-zeroed e5 in
-    let e3 = and_left (t-first && t-begin && t-order && t-ends) t-recorded e4 in
-    let e2 = and_left (t-first && t-begin && t-order) t-ends e3 in
-    let e1 = and_left (t-first && t-begin) t-order e2 in
-    record {
-      first = and_left t-first t-begin e1;
-      begin = and_right (t-first) t-begin e1;
-      order = and_right (t-first && t-begin) t-order e2;
-      ends = and_right (t-first && t-begin && t-order) t-ends e3;
-      recorded = and_right (t-first && t-begin && t-order && t-ends) t-recorded e4;
-      zeroed = and_right (t-first && t-begin && t-order && t-ends && t-recorded) t-zeroed e5;
-      incomplete = and_right (t-first && t-begin && t-order && t-ends && t-recorded && t-zeroed) t-incomplete e6;
-      tail = and_right (t-first && t-begin && t-order && t-ends && t-recorded && t-zeroed && t-incomplete) t-tail e7;
-      full = and_right (t-first && t-begin && t-order && t-ends && t-recorded && t-zeroed && t-incomplete && t-tail) t-full e8;
-      pending = and_right (t-first && t-begin && t-order && t-ends && t-recorded && t-zeroed && t-incomplete && t-tail && t-full) t-pending e9;
-      closed = and_right (t-first && t-begin && t-order && t-ends && t-recorded && t-zeroed && t-incomplete && t-tail && t-full && t-pending) t_closed e10;
-      array = and_right (t-first && t-begin && t-order && t-ends && t-recorded && t-zeroed && t-incomplete && t-tail && t-full && t-pending && t_closed) t-array e11;
-    }
+sound-tests d e = grind arith
 
 pub tests-sound : (d : Disc) → Tests d → sound d ≡ true
 unfolding sound
-tests-sound d t =
-    and_both (and_both (and_both (and_both (and_both (and_both (and_both (and_both (and_both (and_both (and_both t.first t.begin) t.order) t.ends) t.recorded) t.zeroed) t.incomplete) t.tail) t.full) t.pending) t.closed) t.array
+tests-sound d t = grind arith
 
 -- a test of every record in use, at an index and back
 pub record_at : (p : Fragment → Bool) (d : Disc) (i : ℕ) → every p (records d) ≡ true → i < used d → p (at d i) ≡ true
-record_at p d i e h = rw (listed_at d.fragments i unused_record h) at (every-at p (records d) i unused_record e h)
+record_at p d i e h = grind (arith, listed_at, every-at)
 
 pub at_records : (p : Fragment → Bool) (d : Disc) → ((i : ℕ) → i < used d → p (at d i) ≡ true) → every p (records d) ≡ true
 at_records p d h = at_every p (records d) unused_record (λ i l. rw (listed_at d.fragments i unused_record l) (h i l))
@@ -213,8 +146,7 @@ first-at :
     → first_at_zero rs ≡ true → (1 ≤ length rs) × ((get_or rs 0 d).session ≡ 1) × ((get_or rs 0 d).start.0 ≡ 0)
 unfolding first_at_zero
 first-at [] d e = absurd (contradiction e refl)
-first-at (f ∷ fs) d e =
-    (omega arith, eqb-true _ _ (and_left (eqb f.session 1) (eqb f.start.0 0) e), eqb-true _ _ (and_right (eqb f.session 1) (eqb f.start.0 0) e))
+first-at (f ∷ fs) d e = grind (arith, nat_tests)
 
 at_first :
     (rs : List Fragment) (d : Fragment) → 1 ≤ length rs → (get_or rs 0 d).session ≡ 1 → (get_or rs 0 d).start.0 ≡ 0 → first_at_zero rs ≡ true
@@ -252,15 +184,7 @@ pending_owned d e z =
 
 pub owned_pending : (d : Disc) → d.pending < 16 → (d.pending ≡ 0 → d.owner ≡ 0) → ((d.pending ≡ 0 → ⊥) → Owned d) → pending_named d ≡ true
 unfolding pending_named
-owned_pending d few none owned =
-    by_cases (eqb d.pending 0)
-    (λ z. rw z (eq-eqb _ _ (none (eqb-true _ _ z))))
-    (λ z.
-    let o = owned (eqb-false _ _ z) in
-    rw z
-    (and_both
-    (and_both (lt-ltb _ _ few) (and_both {a = not (eqb d.owner 0)} (rw (ne_eqb d.owner 0 (λ n. omega (arith, o.number)))) (le-leb _ _ o.listed)))
-    (rw o.incomplete)))
+owned_pending d few none owned = grind arith
 
 pub sound-rules : (d : Disc) → sound d ≡ true → Sound d
 unfolding ends_within recorded_within zeroed_within incomplete_last tail_or_full pending_named finalized_complete

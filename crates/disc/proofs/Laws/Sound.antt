@@ -1,41 +1,40 @@
 -- What a sound list gives beyond its rules: fragments lie apart, next writable addresses differ, numbers are small, and the recorded
 -- blocks fit the disc.
-use Prim.Native.Nat.{ℕ, zero, suc, ◌+◌, ◌-◌, ◌≤◌, ◌<◌}
+use Rattle.std.proofs.lemmas.Bool.Decides.{nat_tests}
+use Prim.Native.Nat.{ℕ, zero, suc, ◌+◌, ◌≤◌, ◌<◌}
 use mathlib.Core.Path.{◌≡◌, refl, ◌∙◌, ap}
 use mathlib.Core.Bool.{true, false}
 use mathlib.Core.List.{List, [], ◌∷◌}
 use mathlib.Core.Logic.{⊎_elim}
 use native.Mathlib.Nat.{eq-or-lt_of_le}
 use native.Mathlib.Omega.{arith}
-use borrow.Author.Tests.{eq-eqb, ne_eqb, eqb-true, eqb-false, leb-true}
+use borrow.Author.Tests.{eq-eqb, ne_eqb, eqb-true, eqb-false}
 use lib.Dec.{eqb, leb}
 use Rattle.disc.specs.Types.{Fragment, Disc}
 use Rattle.fragments.specs.Address.{first_sector}
 use Rattle.fragments.specs.Fragment.{end, complete, is_zero}
-use Rattle.disc.specs.Records.{pending_in, next_writable, records, used, is_listed, numbered}
+use Rattle.disc.specs.Records.{pending_in, next_writable, used, is_listed, numbered}
 use Rattle.fragments.specs.List.{limit, listed, sum_recorded, every}
-use Rattle.disc.specs.Sound.{used_first, follows, follows_from, in_order, ends_within, recorded_within}
+use Rattle.disc.specs.Sound.{used_first, follows_from, in_order, ends_within, recorded_within}
 use Rattle.disc.specs.Rules.{at, Follows, Sound}
-use Rattle.fragments.proofs.Laws.Bool.{and_left, and_right, by_cases, cond_yes, cond_no}
+use Rattle.fragments.proofs.Laws.Bool.{by_cases, cond_yes, cond_no}
 use Rattle.fragments.proofs.Laws.Numbers.{below_suc, order_cases}
-use Rattle.fragments.proofs.Laws.List.{limit_below, use_cases, listed_off, listed-on, listed_le}
-use Rattle.disc.proofs.Laws.Records.{listed-number}
-use Rattle.disc.proofs.Laws.Rules.{zeros-at, follows_either, sound-tests, rules-sound}
+use Rattle.fragments.proofs.Laws.List.{use_cases, listed_off, listed-on, listed_le}
+use Rattle.disc.proofs.Laws.Rules.{sound-tests, rules-sound}
 
 -- at least the dividing block lies between a record and the next one; between sessions Closure and Intro do
 pub apart : (p f : Fragment) → Follows p f → (end p).0 + 1 ≤ f.start.0
-apart p f w = ⊎_elim (λ h. omega (arith, h.1)) (λ h. omega (arith, h.1)) w
+apart p f w = grind arith
 
 sessions_apart : (p f : Fragment) → Follows p f → (f.session ≡ p.session → ⊥) → (end p).0 + 128 ≤ f.start.0
 sessions_apart p f w n = ⊎_elim (λ h. absurd (n h.0)) (λ h. omega (arith, h.1)) w
 
 step_session : (p f : Fragment) → Follows p f → p.session ≤ f.session
-step_session p f w = ⊎_elim (λ h. omega (arith, h.0)) (λ h. omega (arith, h.0)) w
+step_session p f w = grind arith
 
 -- the pending sectors are those of one fragment, and no other one's
 pub none_pending : (d : Disc) (n : ℕ) → d.pending ≡ 0 → pending_in d n ≡ 0
-none_pending d n z =
-    by_cases (eqb d.owner n) (λ e. cond_yes (eqb d.owner n) d.pending 0 e ∙ z) (λ e. cond_no (eqb d.owner n) d.pending 0 e)
+none_pending d n z = grind arith
 
 pub other_pending : (d : Disc) (n : ℕ) → (d.owner ≡ n → ⊥) → pending_in d n ≡ 0
 other_pending d n z = cond_no (eqb d.owner n) d.pending 0 (ne_eqb d.owner n z)
@@ -71,17 +70,11 @@ module _ (d : Disc) (s : Sound d) where
   -- sessions rise by one at the most, so a record's is no higher than its number
   pub session-most : (i : ℕ) → i < used d → (at d i).session ≤ suc i
   session-most zero h = omega (arith, s.first_session)
-  session-most (suc i) h =
-      let before = session-most i (omega arith) in
-      ⊎_elim (λ w. omega (arith, w.0)) (λ w. omega (arith, w.0)) (s.next i h)
+  session-most (suc i) h = grind (arith, nat_tests, session-most i)
 
   -- no fragment's number and no session's reaches AAh
   pub numbers-below : (n : ℕ) → is_listed d n ≡ true → (n < 0xAA) × ((numbered d n).session < 0xAA)
-  numbers-below n e =
-      let listed = listed-number d n e in
-      let few : n < 0xAA = omega (arith, listed.1, used_most, limit_below) in
-      let session = session-most (n - 1) (omega (arith, listed.0, listed.1)) in
-      (few, omega (arith, few, listed.0, session))
+  numbers-below n e = grind (arith, nat_tests, used_most, session-most)
 
   -- between fragments of different sessions lie Closure and Intro
   pub sessions-far : (i j : ℕ) → i < j → j < used d → ((at d j).session ≡ (at d i).session → ⊥) → (end (at d i)).0 + 128 ≤ (at d j).start.0
@@ -119,17 +112,13 @@ module _ (d : Disc) (s : Sound d) where
       strictly l n = omega arith
 
   pub pending-in-few : (n : ℕ) → pending_in d n < 16
-  pending-in-few n =
-      by_cases (eqb d.owner n) (λ e. rw e s.few) (λ e. rw e (omega arith))
+  pending-in-few n = grind arith
 
   -- a next writable address lies in its own fragment
   pub writable-within :
       (i : ℕ) → i < used d → complete (at d i) ≡ false
       → ((first_sector (at d i).start).0 ≤ (next_writable d (suc i) (at d i)).0) × ((next_writable d (suc i) (at d i)).0 < (first_sector (end (at d i))).0)
-  writable-within i h e =
-      let few = pending-in-few (suc i) in
-      let room = incomplete-room i h e in
-      (omega arith, omega arith)
+  writable-within i h e = grind (arith, nat_tests)
 
   -- so no two incomplete fragments have the same one
   pub writable-once :
@@ -150,21 +139,12 @@ sum_fits :
     → (end p).0 + sum_recorded rs ≤ c
 unfolding follows_from every sum_recorded
 sum_fits c p [] o h e w = omega arith
-sum_fits c p (f ∷ fs) o h e w =
-    let ends = leb-true (end f).0 c (and_left (leb (end f).0 c) (every (λ f. leb (end f).0 c) fs) e) in
-    let fits = leb-true f.recorded f.length (and_left (leb f.recorded f.length) (every (λ f. leb f.recorded f.length) fs) w) in
-    let rest =
-    sum_fits c f fs (and_right (follows p f) (follows_from f fs) o) ends
-    (and_right (leb (end f).0 c) (every (λ f. leb (end f).0 c) fs) e)
-    (and_right (leb f.recorded f.length) (every (λ f. leb f.recorded f.length) fs) w) in
-    omega (arith, apart p f (follows_either p f (and_left (follows p f) (follows_from f fs) o)))
+sum_fits c p (f ∷ fs) o h e w = grind (arith, nat_tests, sum_fits c f fs)
 
 zeros-sum : (fs : List Fragment) → every is_zero fs ≡ true → sum_recorded fs ≡ 0
 unfolding every sum_recorded
 zeros-sum [] e = refl
-zeros-sum (f ∷ fs) e =
-    let none : f.recorded ≡ 0 = ap (λ g. g.recorded) (zeros-at (f ∷ fs) 0 e) in
-    omega (arith, zeros-sum fs (and_right (is_zero f) (every is_zero fs) e))
+zeros-sum (f ∷ fs) e = grind (arith, nat_tests, zeros-sum fs)
 
 -- unused records add nothing
 pub sum-listed : (fs : List Fragment) → used_first fs ≡ true → sum_recorded fs ≡ sum_recorded (listed fs)
@@ -179,18 +159,8 @@ sum-records :
     (c : ℕ) (rs : List Fragment) → in_order rs ≡ true → ends_within c rs ≡ true → recorded_within rs ≡ true → sum_recorded rs ≤ c
 unfolding in_order ends_within recorded_within every sum_recorded
 sum-records c [] o e w = omega arith
-sum-records c (f ∷ fs) o e w =
-    let ends = leb-true (end f).0 c (and_left (leb (end f).0 c) (every (λ f. leb (end f).0 c) fs) e) in
-    let fits = leb-true f.recorded f.length (and_left (leb f.recorded f.length) (every (λ f. leb f.recorded f.length) fs) w) in
-    omega (
-      arith,
-      sum_fits c f fs o ends
-          (and_right (leb (end f).0 c) (every (λ f. leb (end f).0 c) fs) e)
-          (and_right (leb f.recorded f.length) (every (λ f. leb f.recorded f.length) fs) w),
-    )
+sum-records c (f ∷ fs) o e w = grind (arith, nat_tests, end, leb, every, sum_fits)
 
 -- the recorded blocks of all fragments together fit the disc
 pub sum-within : (d : Disc) → Sound d → sum_recorded d.fragments ≤ d.capacity
-sum-within d s =
-    let t = sound-tests d (rules-sound d s) in
-    rw (sum-listed d.fragments t.first) (sum-records d.capacity (records d) t.order t.ends t.recorded)
+sum-within d s = grind (arith, sound-tests, rules-sound, sum-listed, sum-records)

@@ -83,28 +83,26 @@ pub take-padded : (x : List ℕ) (n : ℕ) → length x ≡ n → take n (padded
 unfolding padded
 take-padded x n h = take_at x (zeros (32768 - length x)) n h
 
--- what stands in front of a block, with zeros after it
-front_splice : (m x : List ℕ) → take (length x) (splice m 0 x) ≡ x
-unfolding splice
-front_splice m x = take_at x (drop (0 + length x) m) (length x) refl
-
+-- a stretch of a block's length, with zeros after what was put there
 pub padded-put :
-    (m x p q : List ℕ) → length m ≡ 32768 → length x ≤ 32768 → p ≡ splice m 0 x → q ≡ take (length x) p ++ zeros (length p - length x)
-    → q ≡ padded x
+    (m x p q : List ℕ) (a : ℕ) → length m ≡ 32768 → a + length x ≤ 32768 → p ≡ splice m a x
+    → q ≡ take (a + length x) p ++ zeros (length p - (a + length x)) → q ≡ padded (take a m ++ x)
 unfolding padded
-padded-put m x p q hm hx e f =
-    let t : take (length x) p ≡ x = ap (take (length x)) e ∙ front_splice m x in
-    let l : length p ≡ 32768 = ap length e ∙ (length-splice m 0 x (omega arith) ∙ hm) in
-    f ∙ rw (t, l)
+padded-put m x p q a size room e f =
+    let t : take (a + length x) p ≡ take a m ++ x = ap (take (a + length x)) e ∙ splice-take m a x (omega arith) in
+    let l : length p ≡ 32768 = ap length e ∙ (length-splice m a x (omega arith) ∙ size) in
+    let k : length (take a m ++ x) ≡ a + length x = length-append (take a m) x ∙ omega (arith, length-take-le a m (omega arith)) in
+    f ∙ rw (t, l, k)
 
 -- the same for what stands in two places
 pub padded_parts :
     (m x y p p₁ q : List ℕ) → length m ≡ 32768 → length x + length y ≤ 32768 → p ≡ splice m 0 x → p₁ ≡ splice p (length x) y
     → q ≡ take (length x + length y) p₁ ++ zeros (length p₁ - (length x + length y)) → q ≡ padded (x ++ y)
-padded_parts m x y p p₁ q hm h e d f =
-    let both : p₁ ≡ splice m 0 (x ++ y) = d ∙ (ap (λ (l : List ℕ). splice l (length x) y) e ∙ splice-splice m 0 (length x) x y (omega arith) (omega arith)) in
-    let l : length x + length y ≡ length (x ++ y) = sym (length-append x y) in
-    padded-put m (x ++ y) p₁ q hm (omega (arith, l)) both (rw l at f)
+unfolding splice
+padded_parts m x y p p₁ q size room e d f =
+    let l : length p ≡ 32768 = ap length e ∙ (length-splice m 0 x (omega arith) ∙ size) in
+    let t : take (length x) p ≡ x = ap (take (length x)) e ∙ take_at x (drop (0 + length x) m) (length x) refl in
+    padded-put p y p₁ q (length x) l room d f ∙ ap (λ (z : List ℕ). padded (z ++ y)) t
 
 -- a part of a run is a part of the whole
 pub run_in_run :
@@ -134,28 +132,6 @@ pub sector-after : (l x : List ℕ) (c i : ℕ) → length l ≡ 2048 * c → ta
 sector-after l x c i size =
     let place : 2048 * (c + i) ≡ length l + 2048 * i = omega (arith, size) in
     ap (λ (n : ℕ). take 2048 (drop n (l ++ x))) place ∙ ap (take 2048) (drop-append-add l x (2048 * i))
-
--- one turn of a copy
-copy_suc :
-    (s t : List ℕ) (i : ℕ) → i < length s → i < length t → set (take i s ++ drop i t) i (get_or s i 0) ≡ take (suc i) s ++ drop (suc i) t
-copy_suc [] t i h k = absurd (not-suc-le-zero h)
-copy_suc (x ∷ xs) [] i h k = absurd (not-suc-le-zero k)
-copy_suc (x ∷ xs) (y ∷ ys) zero h k = refl
-copy_suc (x ∷ xs) (y ∷ ys) (suc i) h k = ap (λ (l : List ℕ). x ∷ l) (copy_suc xs ys i (le_of_suc-le-suc h) (le_of_suc-le-suc k))
-
-pub copy_more :
-    (s t : List ℕ) (i : ℕ) → i < length s → i < length t
-    → set (take i s ++ drop i t) i (get_or s i 0) ≡ take (i + 1) s ++ drop (i + 1) t
-copy_more s t i h k = rw add-one (copy_suc s t i h k)
-
--- one turn of the clearing
-pub zeros_none : (t : List ℕ) → t ≡ zeros 0 ++ drop 0 t
-unfolding zeros
-zeros_none t = refl
-
-pub zeros_more : (n : ℕ) (t : List ℕ) → n < length t → set (zeros n ++ drop n t) n 0 ≡ zeros (n + 1) ++ drop (n + 1) t
-unfolding zeros
-zeros_more n t h = fill_more n 0 t h
 
 -- the end of a slice lent to be cleared
 pub clear_end :

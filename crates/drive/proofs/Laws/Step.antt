@@ -54,6 +54,18 @@ module _ (s : Drive) (q : Request) where
     unfolding verdict_on
     verdict-judge h = rw (eq-eqb (length q.cdb) 12 block, h)
 
+-- the tests of what is lent, one after the other
+module _ (d : Disc) (m p : ℕ) where
+  pub medium_refused : (m ≡ 32768 * d.capacity → ⊥) → lent d m p ≡ false
+  medium_refused h = rw (ne_eqb m (32768 * d.capacity) h) refl
+
+  module _ (medium : m ≡ 32768 * d.capacity) where
+    pub pending_refused : (p ≡ 32768 → ⊥) → lent d m p ≡ false
+    pending_refused h = rw (eq-eqb m (32768 * d.capacity) medium, ne_eqb p 32768 h) refl
+
+    pub both_lent : p ≡ 32768 → lent d m p ≡ true
+    both_lent h = rw (eq-eqb m (32768 * d.capacity) medium, eq-eqb p 32768 h) refl
+
 -- with right buffers the disc decides alone, L1 included
 pub verdict_judges :
     (s : Drive) (q : Request) → lent s.disc (length s.medium) (length s.pending) ≡ true
@@ -128,7 +140,6 @@ decided_feasible s q d h e =
             report = f.report;
             whole = f.whole;
           };
-      block = j.block;
       flush = f.flush;
       transfer = f.transfer;
     }

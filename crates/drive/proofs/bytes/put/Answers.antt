@@ -6,4 +6,4 @@ use Rattle.drive.proofs.bytes.put.Goals as goal
 
 pub returns : goal.returns
 returns c =
-    put-splice c.args.target.now c.args.at (c.args.at + length c.args.source.now) c.copy.ensures (omega arith)
+    put-splice c.args.target.now c.args.at (c.args.at + length c.args.source.now) c.copy_from_slice.ensures.after (omega arith)

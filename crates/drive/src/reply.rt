@@ -62,6 +62,7 @@ fn send_run(transfer: Transfer, medium: &[u8], pending: &[u8], reply: &mut [u8])
 }
 
 // The one or the other; how many bytes it is.
+#[tactic(auto, unfolding(crate::specs::Reply::sent_bytes))]
 pub(crate) fn send(
     transfer: Transfer,
     report: Reply,
@@ -75,6 +76,8 @@ pub(crate) fn send(
 {
     match transfer {
         Transfer::Send { .. } => send_run(transfer, medium, pending, reply),
-        _ => send_report(report, reply),
+        Transfer::Nothing | Transfer::Gather { .. } | Transfer::Fill { .. } => {
+            send_report(report, reply)
+        }
     }
 }

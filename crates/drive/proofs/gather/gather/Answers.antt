@@ -1,7 +1,6 @@
 use native.Mathlib.Omega.{arith}
 use mathlib.Core.Path.{◌≡◌, ◌∙◌}
 use Prim.Native.Nat.{◌+◌, ◌<◌}
-use borrow.Author.Rules.{rules}
 use Rattle.drive.proofs.Laws.Gather.{few-medium, few-pending, full-medium, full-pending}
 use Rattle.drive.proofs.gather.gather.Goals as goal
 

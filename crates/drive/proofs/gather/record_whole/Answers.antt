@@ -1,4 +1,4 @@
-use mathlib.Core.Path.{◌≡◌, sym, ◌∙◌}
+use mathlib.Core.Path.{sym, ◌∙◌}
 use native.Mathlib.Omega.{arith}
 use Rattle.drive.proofs.Laws.Bytes.{splice_nil}
 use Rattle.drive.proofs.Laws.Gather.{whole-more}

@@ -72,7 +72,6 @@ untouched s q a d =
 -- what the code that carries a decision out asks: what its plan asks of the lent buffers is there
 pub record Feasible (p : Plan) (r : Reply) (payload medium pending buffer : List ℕ) : Type 0 where
   pub sends : Sendable medium pending p.transfer r (length buffer)
-  pub block : length pending ≡ 32768
   pub flush : FlushFits (length medium) p.flush
   pub transfer : TransferFits (length medium) (length payload) p.transfer
 

@@ -1,5 +1,5 @@
 // One command: the link's tests of what is lent, the decision, and the bytes moved by its plan.
-ghost use Rattle.std.specs.Prelude.{◌≡◌, ◌&&◌, ◌*◌, eqb};
+ghost use Rattle.std.specs.Prelude.{◌≡◌};
 ghost use Rattle.drive.specs.Step.{drive, request, declined, Feasible, CarriedOut, AnsweredByChange, Answered};
 
 use crate::{reply, transfer};
@@ -29,23 +29,15 @@ pub struct Outcome {
 fn refused(sense: Sense, refusal: LinkRefusal) -> Outcome
     ensures { result ≡ declined sense refusal }
 {
-    let change = Change {
-        sense,
-        effect: Effect::Keep,
-    };
     Outcome {
         answer: Answer::Link(refusal),
-        change,
+        change: Change {
+            sense,
+            effect: Effect::Keep,
+        },
         length: 0,
         recorded: 0,
     }
-}
-
-// Whether the medium has so many blocks and the pending buffer is one block.
-fn is_lent(capacity: u32, medium: usize, pending: usize) -> bool
-    ensures { result ≡ (eqb medium (32768 * capacity) && eqb pending 32768) }
-{
-    (medium == BLOCK_LENGTH * (capacity as usize)) & (pending == BLOCK_LENGTH)
 }
 
 // Sends the reply, then moves the bytes that the plan names.
@@ -53,23 +45,24 @@ fn carry_out(
     decision: Decision,
     data: &[u8],
     medium: &mut [u8],
-    pending: &mut [u8],
+    pending: &mut [u8; BLOCK_LENGTH],
     reply: &mut [u8],
 ) -> Outcome
     requires { Feasible decision.plan decision.reply «data».now medium.old pending.old reply.old }
     ensures { CarriedOut decision «data».now medium.old pending.old reply.old
         result medium.new pending.new reply.new }
 {
-    let plan = decision.plan;
-    let sent = plan.transfer;
-    let report = decision.reply;
-    let length = reply::send(sent, report, medium, pending, reply);
-    transfer::carry_out(plan, data, medium, pending);
-    let answer = decision.answer;
-    let change = decision.change;
+    let length = reply::send(
+        decision.plan.transfer,
+        decision.reply,
+        medium,
+        pending,
+        reply,
+    );
+    transfer::carry_out(decision.plan, data, medium, pending);
     Outcome {
-        answer,
-        change,
+        answer: decision.answer,
+        change: decision.change,
         length,
         recorded: decision.recorded,
     }
@@ -89,13 +82,15 @@ pub fn serve(
         (request cdb.now «data».now reply.old)
         result medium.new pending.new reply.new }
 {
-    let sense = disc.sense;
     if cdb.len() != CDB_LENGTH {
-        return refused(sense, LinkRefusal::CommandBlockLength);
+        return refused(disc.sense, LinkRefusal::CommandBlockLength);
     }
-    if !is_lent(disc.capacity, medium.len(), pending.len()) {
-        return refused(sense, LinkRefusal::MediumSize);
+    if medium.len() != BLOCK_LENGTH * (disc.capacity as usize) {
+        return refused(disc.sense, LinkRefusal::MediumSize);
     }
+    let Some(pending) = pending.as_mut_array() else {
+        return refused(disc.sense, LinkRefusal::MediumSize);
+    };
     let decision = commands::decide(disc, cdb, data.len(), reply.len());
     carry_out(decision, data, medium, pending, reply)
 }
@@ -114,12 +109,9 @@ pub fn command(
         result medium.new pending.new reply.new }
 {
     let outcome = serve(cdb, data, disc, medium, pending, reply);
-    let answer = outcome.answer;
-    let change = outcome.change;
-    let after = disc.changed(change);
     Response {
-        answer,
-        disc: after,
+        answer: outcome.answer,
+        disc: disc.changed(outcome.change),
         length: outcome.length,
         recorded: outcome.recorded,
     }

@@ -54,13 +54,14 @@ fn send_run(transfer: Transfer, medium: &[u8], pending: &[u8], reply: &mut [u8])
         ≡ splice reply.old 0 (sent_within transfer medium.now ++ pending_within transfer pending.now) }
 {
     let recorded = transfer.run(medium);
-    bytes::put(reply, 0, recorded);
     let held = transfer.pending_run(pending);
+    bytes::put(reply, 0, recorded);
     bytes::put(reply, recorded.len(), held);
     recorded.len() + held.len()
 }
 
 // The one or the other; how many bytes it is.
+#[tactic(auto, unfolding(crate::specs::Reply::sent_bytes))]
 pub(crate) fn send(
     transfer: Transfer,
     report: Reply,
@@ -73,12 +74,9 @@ pub(crate) fn send(
     ensures reply { reply.new ≡ splice reply.old 0 (sent_bytes transfer report medium.now pending.now) }
 {
     match transfer {
-        Transfer::Send {
-            address: _,
-            recorded: _,
-            place: _,
-            pending: _,
-        } => send_run(transfer, medium, pending, reply),
-        _ => send_report(report, reply),
+        Transfer::Send { .. } => send_run(transfer, medium, pending, reply),
+        Transfer::Nothing | Transfer::Gather { .. } | Transfer::Fill { .. } => {
+            send_report(report, reply)
+        }
     }
 }

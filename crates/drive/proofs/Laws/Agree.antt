@@ -1,43 +1,29 @@
 -- Bytes of a splice by their index, and media that agree at some indices.
-use mathlib.Core.Path.{◌≡◌, sym, ap, ◌∙◌}
+use mathlib.Core.Path.{◌≡◌, sym, ◌∙◌}
 use mathlib.Core.Logic.{◌⊎◌, inl, inr, ⊎_elim}
 use Prim.Native.Nat.{ℕ, ◌+◌, ◌-◌, ◌≤◌, ◌<◌}
 use native.Mathlib.Decide.{dec_lt}
 use native.Mathlib.Omega.{arith}
-use mathlib.Core.List.{List, ◌++◌, append_assoc}
-use lib.ListN.{length, get_or, take, drop, length-append, length-drop, get_or-append}
-use lib.Seq.{length-take-le, get_or-take, get_or-drop, get_or-append-add, ext_get_or}
+use borrow.Author.Rules.{rules}
+use mathlib.Core.List.{List}
+use lib.ListN.{length, get_or, take, drop}
+use Rattle.std.proofs.lemmas.List.{places, same_lists}
 use Rattle.drive.specs.Bytes.{splice}
 
 module _ (m : List ℕ) (a : ℕ) (x : List ℕ) (i : ℕ) (within : a ≤ length m) where
   -- outside of the stretch nothing changes
   pub splice-before : i < a → get_or (splice m a x) i 0 ≡ get_or m i 0
   unfolding splice
-  splice-before h =
-      let l : i < length (take a m) = omega (arith, length-take-le a m within) in
-      get_or-append (take a m) (x ++ drop (a + length x) m) 0 i l ∙ get_or-take a m i 0 h
+  splice-before h = search (rules, places)
 
   pub splice-after : a + length x ≤ i → get_or (splice m a x) i 0 ≡ get_or m i 0
   unfolding splice
-  splice-after h =
-      let front : length (take a m ++ x) ≡ a + length x = length-append (take a m) x ∙ omega (arith, length-take-le a m within) in
-      let e : i ≡ length (take a m ++ x) + (i - (a + length x)) = omega arith in
-      let e₂ : (a + length x) + (i - (a + length x)) ≡ i = omega arith in
-      rw (← append_assoc (take a m) x (drop (a + length x) m))
-      (ap (λ (j : ℕ). get_or ((take a m ++ x) ++ drop (a + length x) m) j 0) e
-      ∙ get_or-append-add (take a m ++ x) (drop (a + length x) m) (i - (a + length x)) 0
-      ∙ get_or-drop (a + length x) m (i - (a + length x)) 0
-      ∙ ap (λ (j : ℕ). get_or m j 0) e₂)
+  splice-after h = search (rules, places)
 
   -- within it the medium's own bytes do not count
   pub splice-within : a ≤ i → i < a + length x → get_or (splice m a x) i 0 ≡ get_or x (i - a) 0
   unfolding splice
-  splice-within h g =
-      let e : i ≡ length (take a m) + (i - a) = omega (arith, length-take-le a m within) in
-      let k : i - a < length x = omega arith in
-      ap (λ (j : ℕ). get_or (take a m ++ (x ++ drop (a + length x) m)) j 0) e
-      ∙ get_or-append-add (take a m) (x ++ drop (a + length x) m) (i - a) 0
-      ∙ get_or-append x (drop (a + length x) m) 0 (i - a) k
+  splice-within h g = search (rules, places)
 
 -- two media hold the same byte at each index of which R says so
 abbrev pub Agree : (ℕ → Type 0) → List ℕ → List ℕ → Type 0
@@ -65,12 +51,4 @@ kept_splice m a x i h out = ⊎_elim (λ u. splice-before m a x i h u) (λ u. sp
 pub agree_run :
     (m n : List ℕ) (a k : ℕ) → a + k ≤ length m → length m ≡ length n
     → ((i : ℕ) → a ≤ i → i < a + k → get_or m i 0 ≡ get_or n i 0) → take k (drop a m) ≡ take k (drop a n)
-agree_run m n a k h l same =
-    let lm : length (take k (drop a m)) ≡ k = length-take-le k (drop a m) (omega (arith, length-drop a m)) in
-    let ln : length (take k (drop a n)) ≡ k = length-take-le k (drop a n) (omega (arith, length-drop a n)) in
-    ext_get_or 0 (take k (drop a m)) (take k (drop a n)) (lm ∙ sym ln)
-    (λ i b.
-    let below : i < k = omega (arith, b, lm) in
-    get_or-take k (drop a m) i 0 below
-    ∙ (get_or-drop a m i 0
-    ∙ (same (a + i) (omega arith) (omega arith) ∙ (sym (get_or-drop a n i 0) ∙ sym (get_or-take k (drop a n) i 0 below)))))
+agree_run m n a k h l same = same_lists _ _ (search (rules, places)) (λ i d g. let e = same (a + i) in grind (arith, places, e))

@@ -6,7 +6,7 @@ use Prim.Native.Nat.{ℕ, ◌+◌, ◌*◌, ◌/◌, ◌%◌, ◌≤◌, ◌<◌
 use native.Mathlib.Decide.{dec_lt}
 use native.Mathlib.Omega.{arith}
 use mathlib.Core.List.{List, []}
-use lib.ListN.{length, get_or, take, length-take}
+use lib.ListN.{length, get_or, take}
 use borrow.Author.Tests.{eq-eqb, eqb-true}
 use lib.Dec.{eqb}
 use Rattle.outcomes.specs.Lent.{FlushFits, TransferFits}
@@ -14,6 +14,7 @@ use Rattle.outcomes.specs.Recorded.{flushes, transfers, records_block, flushed_c
 use Rattle.fragments.proofs.Laws.Bool.{or_right, contradiction, by_cases, or_false_left}
 use Rattle.outcomes.proofs.Laws.Recorded.{among_between, among-from, among_below}
 use Rattle.drive.specs.Types.{Flush, Option, None, Some, Transfer, Nothing, Send, Gather, Fill, Plan, Block}
+use Rattle.std.proofs.lemmas.Grind.{common_steps}
 use Rattle.drive.specs.Bytes.{zeros, padded}
 use Rattle.drive.specs.Moves.{stream, gathered_medium, flushed_medium, flushed_pending, transferred_medium, transferred_pending, moved_medium, moved_pending}
 use Rattle.drive.proofs.Laws.Bytes.{length-zeros, length-splice, length-padded}
@@ -29,12 +30,16 @@ outside_blocks b n i h =
       | no u ↦ elim (dec_lt i (32768 * b + 32768 * n)) [ yes v ↦ absurd (h (omega arith) (omega arith)) | no v ↦ inr (omega arith) ]
     ]
 
+-- a block of sectors of which some are missing
+sectors-padded : (n : ℕ) (p : List ℕ) → n < 16 → length (padded (take (2048 * n) p)) ≡ 32768
+sectors-padded n p h = length-padded (take (2048 * n) p) (grind (arith, common_steps))
+
 -- lengths stay
 pub length-flushed_medium : (f : Option Flush) (m p : List ℕ) → length p ≡ 32768 → FlushFits (length m) f → length (flushed_medium f m p) ≡ length m
 unfolding flushed_medium
 length-flushed_medium None m p h w = refl
 length-flushed_medium (Some f) m p h w =
-    let l : length (padded (take (2048 * f.sectors) p)) ≡ 32768 = length-padded (take (2048 * f.sectors) p) (rw (length-take (2048 * f.sectors) p) (omega arith)) in
+    let l = sectors-padded f.sectors p (omega arith) in
     length-splice m (32768 * f.block.0) (padded (take (2048 * f.sectors) p)) (omega (arith, l, w.2))
 
 pub length-flushed_pending : (f : Option Flush) (p : List ℕ) → length p ≡ 32768 → length (flushed_pending f p) ≡ 32768
@@ -66,7 +71,7 @@ pub flushed_kept :
 unfolding flushed_medium flushes
 flushed_kept None m p i h w none = refl
 flushed_kept (Some f) m p i h w none =
-    let l : length (padded (take (2048 * f.sectors) p)) ≡ 32768 = length-padded (take (2048 * f.sectors) p) (rw (length-take (2048 * f.sectors) p) (omega arith)) in
+    let l = sectors-padded f.sectors p (omega arith) in
     let out = outside_blocks f.block.0 1 i (λ u v. contradiction (eq-eqb (i / 32768) f.block.0 (omega arith)) none) in
     kept_splice m (32768 * f.block.0) (padded (take (2048 * f.sectors) p)) i (omega (arith, w.2))
     (⊎_elim (λ u. inl u) (λ u. inr (omega (arith, l, u))) out)
@@ -131,7 +136,7 @@ module _ (R : ℕ → Type 0) (m n p q : List ℕ) (hp : length p ≡ 32768) (hq
   flushed-agree (Some f) w sectors =
       let x = padded (take (2048 * f.sectors) p) in
       let y : padded (take (2048 * f.sectors) q) ≡ x = ap padded (sym (sectors f.block f.sectors refl)) in
-      let l : length x ≡ 32768 = length-padded (take (2048 * f.sectors) p) (rw (length-take (2048 * f.sectors) p) (omega arith)) in
+      let l = sectors-padded f.sectors p (omega arith) in
       rw y
       (agree_splice R (λ i. (R i) ⊎ (eqb (i / 32768) f.block.0 ≡ true)) m n (32768 * f.block.0) x (omega (arith, w.2)) (omega (arith, w.2, hm))
       (λ i r out. ⊎_elim (λ u. u) (λ u. absurd (let e = eqb-true (i / 32768) f.block.0 u in ⊎_elim (λ v. omega (arith, e, v)) (λ v. omega (arith, e, v, l)) out)) r) same)

@@ -54,6 +54,15 @@ module _ (s : Drive) (q : Request) where
     unfolding verdict_on
     verdict-judge h = rw (eq-eqb (length q.cdb) 12 block, h)
 
+    -- the medium's length, then that of the pending buffer
+    pub verdict-medium : (length s.medium ≡ 32768 * s.disc.capacity → ⊥) → refuse_link s.disc MediumSize ≡ verdict_on s q
+    verdict-medium h = verdict-lent (rw (ne_eqb (length s.medium) (32768 * s.disc.capacity) h) refl)
+
+    pub verdict-pending :
+        length s.medium ≡ 32768 * s.disc.capacity → (length s.pending ≡ 32768 → ⊥) → refuse_link s.disc MediumSize ≡ verdict_on s q
+    verdict-pending e h =
+        verdict-lent (rw (eq-eqb (length s.medium) (32768 * s.disc.capacity) e, ne_eqb (length s.pending) 32768 h) refl)
+
 -- with right buffers the disc decides alone, L1 included
 pub verdict_judges :
     (s : Drive) (q : Request) → lent s.disc (length s.medium) (length s.pending) ≡ true
@@ -66,6 +75,9 @@ verdict_judges s q l =
     sym (verdict-block s q h) ∙ sym (judge-block s.disc q.cdb (length q.payload) (length q.buffer) h))
 
 -- what is lent
+pub both_lent : (d : Disc) (m p : ℕ) → m ≡ 32768 * d.capacity → p ≡ 32768 → lent d m p ≡ true
+both_lent d m p e f = rw (eq-eqb m (32768 * d.capacity) e, eq-eqb p 32768 f) refl
+
 pub lent_medium : (d : Disc) (m p : ℕ) → lent d m p ≡ true → m ≡ 32768 * d.capacity
 lent_medium d m p h = eqb-true _ _ (and_left (eqb m (32768 * d.capacity)) (eqb p 32768) h)
 
@@ -128,7 +140,6 @@ decided_feasible s q d h e =
             report = f.report;
             whole = f.whole;
           };
-      block = j.block;
       flush = f.flush;
       transfer = f.transfer;
     }

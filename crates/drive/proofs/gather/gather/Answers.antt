@@ -1,33 +1,30 @@
-use mathlib.Core.Path.{◌≡◌, refl, ◌∙◌}
 use native.Mathlib.Omega.{arith}
-use Rattle.drive.proofs.Laws.Gather.{gathered_none, gathered-more, gathered_all}
-use Prim.Native.Nat.{◌-◌}
-use borrow.Author.Rules.{rules}
+use mathlib.Core.Path.{◌≡◌, ◌∙◌}
+use Prim.Native.Nat.{◌+◌, ◌<◌}
+use Rattle.drive.proofs.Laws.Gather.{few-medium, few-pending, full-medium, full-pending}
 use Rattle.drive.proofs.gather.gather.Goals as goal
 
-pub loop-i-init : goal.loop-i-init
-loop-i-init c =
+pub returns-then-sectors-missing : goal.returns-then-sectors-missing
+returns-then-sectors-missing c =
     let s = c.args in
-    (search rules, omega arith, refl, gathered_none s.block.0 s.held s.medium.now s.pending.now s.«data».now (omega arith) (omega arith))
-
-pub loop-i-preserved : goal.loop-i-preserved
-loop-i-preserved c =
-    let s = c.args in
-    let l = c.loop-i in
-    let r = c.gather_next-i.result in (
-      omega arith,
-      omega arith,
-      omega arith,
-      gathered-more s.block.0 s.held l.i r s.sectors s.medium.now s.pending.now s.«data».now l.medium l.pending
-          (omega arith) (omega arith) (omega arith) (omega arith) l.invariant.3 c.gather_next-i.new.medium c.gather_next-i.new.pending _ refl
-          (rw (c.whole_blocks.ensures, c.left_over-held_here.ensures) at c.gather_next-i.ensures.medium) (rw c.left_over-held_here.ensures at c.gather_next-i.ensures.pending),
-    )
+    let few : s.held + s.sectors < 16 = omega (arith, c.missing-missing.ensures) in
+    record {
+      medium = few-medium s.held s.sectors s.pending.now s.«data».now few s.block.0 s.medium.now;
+      pending = few-pending s.held s.sectors s.pending.now s.«data».now few c.put.new.target _ c.told-pending c.requires.1 c.put.ensures c.clear_from.ensures;
+    }
 
 pub returns : goal.returns
 returns c =
     let s = c.args in
-    let l = c.loop-i in
-    let all : l.i ≡ s.sectors = omega arith in
-    let e = gathered_all s.block.0 s.held s.sectors s.medium.now s.pending.now s.«data».now l.medium l.pending
-    (omega arith) (omega arith) (omega arith) (rw all at l.invariant.3) in
-    record { medium = e.0; pending = (rw c.left_over-left.ensures at c.clear_from.ensures) ∙ e.1 }
+    let k = c.missing-missing.result in
+    let first = c.split_at.result.0.now in
+    let rest = c.split_at.result.1.now in
+    let full : s.held + k ≡ 16 = omega (arith, c.missing-missing.ensures) in
+    record {
+      medium =
+          full-medium s.held s.sectors k s.pending.now s.«data».now first rest (omega arith) c.requires.1 full (omega arith) c.split_at.ensures.front c.split_at.ensures.back
+          s.block.0 s.medium.now c.record_parts.new.medium _ (omega arith) c.record_parts.ensures c.record_whole.ensures;
+      pending =
+          full-pending s.held s.sectors k s.pending.now s.«data».now first rest (omega arith) c.requires.1 full (omega arith) c.split_at.ensures.front c.split_at.ensures.back
+          _ _ (c.remainder-left.ensures ∙ c.chunks_exact.ensures.remainder) c.write_block.ensures;
+    }

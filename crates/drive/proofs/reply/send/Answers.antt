@@ -1,9 +1,8 @@
 use lib.ListN.{length}
 use Rattle.drive.specs.Bytes.{splice}
-use Rattle.drive.proofs.Laws.Reply.{run-sent, report-sent}
+use Rattle.drive.proofs.Laws.Reply.{run-sent}
 use mathlib.Core.Path.{◌∙◌, ap}
 use native.Mathlib.Omega.{arith}
-use borrow.Author.Rules.{rules}
 use Rattle.drive.proofs.reply.send.Goals as goal
 
 pub send_run-requires : goal.send_run-requires
@@ -15,8 +14,3 @@ pub returns-in-Send : goal.returns-in-Send
 returns-in-Send c =
     let e = run-sent c.args.medium.now c.args.pending.now c.args.transfer c.args.report (length c.args.reply.now) c.requires _ _ _ _ c.in-Send.is in
     record { value = c.send_run.ensures.value ∙ ap length e; reply = c.send_run.ensures.reply ∙ ap (splice c.args.reply.now 0) e }
-
-pub returns-in_default : goal.returns-in_default
-returns-in_default c =
-    let e = report-sent c.args.transfer c.args.report c.args.medium.now c.args.pending.now (search rules) in
-    record { value = c.send_report.ensures.value ∙ ap length e; reply = c.send_report.ensures.reply ∙ ap (splice c.args.reply.now 0) e }

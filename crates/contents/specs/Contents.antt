@@ -1,6 +1,6 @@
 -- What READ TOC (43h) says of a fragment list, uncut.
 use Rattle.std.specs.Prelude.{ℕ, ◌+◌, Bool, cond, not, ◌&&◌, ◌||◌, List, [], ◌∷◌, ◌++◌, length, eqb, leb}
-use Rattle.contents.specs.Types.{Lba, Fragment}
+use Rattle.contents.specs.Types.{Fragment}
 use Rattle.features.specs.Bytes.{bytes16}
 use Rattle.fragments.specs.Address.{first_sector}
 use Rattle.fragments.specs.Fragment.{end}

@@ -1,5 +1,5 @@
 -- The closed sessions of a fragment list.
-use Rattle.std.specs.Prelude.{ℕ, Bool, cond, ◌||◌, List, [], ◌∷◌, eqb, ltb}
+use Rattle.std.specs.Prelude.{ℕ, Bool, cond, not, ◌&&◌, ◌||◌, List, [], ◌∷◌, eqb, ltb}
 use Rattle.contents.specs.Types.{Fragment}
 use Rattle.fragments.specs.Fragment.{unused_record}
 use Rattle.fragments.specs.List.{listed, last_of}
@@ -7,6 +7,10 @@ use Rattle.fragments.specs.List.{listed, last_of}
 -- a session is closed if it comes before the last one, and on a finalized disc in any case
 abbrev pub is_closed : Bool → ℕ → Fragment → Bool
 is_closed finalized last f = finalized || ltb f.session last
+
+-- a fragment is the first one of a closed session; the one before it is of the session `before`
+abbrev pub begins_closed : Bool → ℕ → ℕ → Fragment → Bool
+begins_closed finalized last before f = not (eqb f.session before) && is_closed finalized last f
 
 -- those of some fragments whose session is closed; `last` is the number of the last session
 unfoldable pub closed_of : Bool → ℕ → List Fragment → List Fragment

@@ -1,7 +1,7 @@
 // An entry of the table of contents.
-ghost use Rattle.std.specs.Prelude.{◌≡◌, min};
-ghost use Rattle.features.specs.Bytes.{bytes32, stored};
-ghost use Rattle.contents.specs.Entry.{time_bytes, address_bytes, entry};
+ghost use Rattle.std.specs.Prelude.{◌≡◌};
+ghost use Rattle.features.specs.Bytes.{bytes32};
+ghost use Rattle.contents.specs.Entry.{time_bytes, entry};
 
 use fragments::Lba;
 
@@ -21,50 +21,34 @@ const MINUTE: u64 = 4500;
 
 const PREGAP: u64 = 150;
 
-// The entry with an address as a number, the highest byte first.
-fn with_number(bytes: [u8; LENGTH], address: u64) -> [u8; LENGTH]
-    ensures { result ≡ stored bytes 4 (bytes32 address) }
+// An address as a number, the highest byte first.
+fn number_bytes(address: u64) -> [u8; 4]
+    ensures { result ≡ bytes32 address }
 {
-    let mut bytes = bytes;
-    bytes[4] = (address / 0x1000000 % 0x100) as u8;
-    bytes[5] = (address / 0x10000 % 0x100) as u8;
-    bytes[6] = (address / 0x100 % 0x100) as u8;
-    bytes[7] = (address % 0x100) as u8;
-    bytes
+    ((address % 0x100000000) as u32).to_be_bytes()
 }
 
-// The address, or the last one that has a time.
-fn timed(address: u64) -> u64
-    ensures { result ≡ min address 1151849 }
+// An address as a time; one past the last time has that one.
+fn time_bytes(address: u64) -> [u8; 4]
+    ensures { result ≡ time_bytes address }
 {
-    if address <= LAST_TIMED {
-        return address;
-    }
-    LAST_TIMED
-}
-
-// The entry with an address as a time.
-fn with_time(bytes: [u8; LENGTH], address: u64) -> [u8; LENGTH]
-    ensures { result ≡ stored bytes 4 (time_bytes address) }
-{
-    let frames = timed(address) + PREGAP;
-    let mut bytes = bytes;
-    bytes[4] = 0;
-    bytes[5] = (frames / MINUTE) as u8;
-    bytes[6] = (frames / SECOND % 60) as u8;
-    bytes[7] = (frames % SECOND) as u8;
-    bytes
+    let frames = address.min(LAST_TIMED) + PREGAP;
+    [
+        0,
+        (frames / MINUTE) as u8,
+        (frames / SECOND % 60) as u8,
+        (frames % SECOND) as u8,
+    ]
 }
 
 // The entry of a number and an address; with the time bit set the address is a time.
 pub(crate) fn entry(time: u8, number: u8, address: Lba) -> [u8; LENGTH]
     ensures { result ≡ entry time number address }
 {
-    let mut bytes = [0u8; LENGTH];
-    bytes[1] = ADR_CTL;
-    bytes[2] = number;
-    if time == 0 {
-        return with_number(bytes, address.0);
-    }
-    with_time(bytes, address.0)
+    let [a, b, c, d] = if time == 0 {
+        number_bytes(address.0)
+    } else {
+        time_bytes(address.0)
+    };
+    [0, ADR_CTL, number, 0, a, b, c, d]
 }

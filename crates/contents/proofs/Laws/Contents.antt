@@ -1,11 +1,11 @@
 -- The entries of the closed sessions, a turn of the walk along the records at a time.
-use Prim.Native.Nat.{ℕ, ◌+◌, ◌-◌, ◌*◌, ◌≤◌, ◌<◌}
+use Prim.Native.Nat.{ℕ, suc, ◌+◌, ◌-◌, ◌*◌, ◌≤◌, ◌<◌}
 use mathlib.Core.Path.{◌≡◌, refl, sym, ap, ◌∙◌}
-use mathlib.Core.Bool.{Bool, true, false, cond}
+use mathlib.Core.Bool.{Bool}
 use mathlib.Core.List.{List, [], ◌∷◌, ◌++◌}
 use native.Mathlib.Omega.{arith}
-use lib.ListN.{length, get_or, take, drop, length-append}
-use lib.Seq.{take_all}
+use lib.ListN.{length, get_or, drop, drop_of_length-le, length-append}
+use lib.Seq.{drop-cons}
 use lib.Dec.{eqb, leb}
 use borrow.Author.Tests.{eq-eqb, ne_eqb}
 use Rattle.contents.specs.Types.{Lba, Fragment}
@@ -13,21 +13,16 @@ use Rattle.fragments.specs.Address.{first_sector}
 use Rattle.fragments.specs.Fragment.{end}
 use Rattle.fragments.specs.List.{limit, listed}
 use Rattle.fragments.proofs.Laws.Bool.{by_cases, cond_yes, cond_no}
-use Rattle.fragments.proofs.Laws.List.{listed-drop-off, listed-drop-on, listed-drop-end}
 use Rattle.features.specs.Bytes.{bytes16, stored}
 use Rattle.features.proofs.Laws.Bytes.{stored_parts, length-stored}
 use Rattle.contents.proofs.Laws.Stored.{stored_front}
-use Rattle.contents.specs.Sessions.{is_closed, closed_of, firsts, last_fragment, last_session, closed_fragments}
+use Rattle.contents.specs.Sessions.{is_closed, closed_of, firsts, last_fragment, last_session}
 use Rattle.contents.specs.Entry.{entry}
-use Rattle.contents.specs.Contents.{is_shown, session_entry, shown_entry, session_entries, lead_out, toc_entries, table_of}
+use Rattle.contents.specs.Contents.{session_entry, shown_entry, session_entries, lead_out, toc_entries, table_of}
 
 -- an entry has eight bytes
 pub entry_length : (t n : ℕ) (a : Lba) → length (entry t n a) ≡ 8
 entry_length t n a = by_cases (eqb t 0) (λ e. rw e) (λ e. rw e)
-
-pub shown_most : (z : Bool) (k b t s : ℕ) (f : Fragment) → length (shown_entry z k b t s f) ≤ 8
-shown_most z k b t s f =
-    by_cases (is_shown z k b s f) (λ e. rw e (omega (arith, entry_length t f.session (first_sector f.start)))) (λ e. rw e (omega arith))
 
 -- one fragment more
 shown_next :
@@ -40,18 +35,13 @@ shown_next z k b t s f fs =
 
 module _ (z : Bool) (k t s : ℕ) (fs : List Fragment) (i b : ℕ) (d : Fragment) where
   pub entries-on :
-      i < length fs → ((get_or fs i d).length ≡ 0 → ⊥)
-      → session_entries t s (closed_of z k (firsts b (listed (drop i fs))))
-      ≡ shown_entry z k b t s (get_or fs i d) ++ session_entries t s (closed_of z k (firsts (get_or fs i d).session (listed (drop (i + 1) fs))))
-  entries-on h e = rw (listed-drop-on fs i d h e) (shown_next z k b t s (get_or fs i d) (listed (drop (i + 1) fs)))
+      i < length fs → session_entries t s (closed_of z k (firsts b (drop i fs)))
+      ≡ shown_entry z k b t s (get_or fs i d) ++ session_entries t s (closed_of z k (firsts (get_or fs i d).session (drop (i + 1) fs)))
+  entries-on h = let e : i + 1 ≡ suc i = omega arith in rw (e, drop-cons fs i d h) (shown_next z k b t s (get_or fs i d) (drop (suc i) fs))
 
-  pub entries-off : i < length fs → (get_or fs i d).length ≡ 0 → session_entries t s (closed_of z k (firsts b (listed (drop i fs)))) ≡ []
+  pub entries-end : length fs ≤ i → session_entries t s (closed_of z k (firsts b (drop i fs))) ≡ []
   unfolding firsts closed_of session_entries
-  entries-off h e = rw (listed-drop-off fs i d h e)
-
-  pub entries-end : length fs ≤ i → session_entries t s (closed_of z k (firsts b (listed (drop i fs)))) ≡ []
-  unfolding firsts closed_of session_entries
-  entries-end h = rw (listed-drop-end fs i h)
+  entries-end h = rw (drop_of_length-le fs h)
 
 -- bytes that are put after the header, part by part: `all` of them, of which `rest` is left after i parts of eight bytes at the most
 pub record Putting (reply₀ all rest : List ℕ) (i : ℕ) (reply : List ℕ) (at : ℕ) : Type 0 where
@@ -60,9 +50,6 @@ pub record Putting (reply₀ all rest : List ℕ) (i : ℕ) (reply : List ℕ) (
   pub bytes : stored reply₀ 4 all ≡ stored reply at rest
   pub place : 4 + length all ≡ at + length rest
   pub size : length reply ≡ length reply₀
-
-pub putting_start : (reply all : List ℕ) → Putting reply all all 0 reply 4
-putting_start reply all = record { turns = omega arith; most = omega arith; bytes = refl; place = refl; size = refl }
 
 pub putting_on :
     (reply₀ all x rest : List ℕ) (i : ℕ) (reply reply₁ : List ℕ) (at at₁ : ℕ) → Putting reply₀ all (x ++ rest) i reply at → i < limit → length x ≤ 8
@@ -76,6 +63,14 @@ putting_on reply₀ all x rest i reply reply₁ at at₁ w h few e put =
       size = ap length put ∙ (length-stored reply at x ∙ w.size);
     }
 
+-- a turn that puts nothing
+pub putting_off :
+    (reply₀ all x rest : List ℕ) (i : ℕ) (reply : List ℕ) (at : ℕ)
+    → Putting reply₀ all (x ++ rest) i reply at → i < limit → x ≡ [] → Putting reply₀ all rest (i + 1) reply at
+unfolding stored
+putting_off reply₀ all x rest i reply at w h e =
+    putting_on reply₀ all [] rest i reply reply at at (rw e at w) h (omega arith) (omega arith) refl
+
 pub putting_done :
     (reply₀ all rest : List ℕ) (i : ℕ) (reply : List ℕ) (at : ℕ) → Putting reply₀ all rest i reply at → rest ≡ []
     → (at ≡ 4 + length all) × ((reply ≡ stored reply₀ 4 all) × (at ≤ 4 + 8 * limit))
@@ -85,51 +80,38 @@ putting_done reply₀ all rest i reply at w e =
     let none : length rest ≡ 0 = ap length e in
     (omega (arith, place, none), (sym (w.bytes ∙ rw e), omega (arith, w.most, w.turns)))
 
--- an entry that is put whole, from the part of it that is lent
-pub entry-put :
-    (l : List ℕ) (at t n : ℕ) (a : Lba) (made after : List ℕ) → made ≡ entry t n a → after ≡ stored l at (take 8 made)
-    → (at + 8 ≡ at + length (entry t n a)) × (after ≡ stored l at (entry t n a))
-entry-put l at t n a made after e put =
-    let size = entry_length t n a in
-    let whole : take 8 made ≡ entry t n a = rw e (take_all 8 (entry t n a) (omega (arith, size))) in
-    (omega (arith, size), put ∙ ap (stored l at) whole)
-
 -- the entries of a form, put after the header
-module _ (l : List ℕ) (z : Bool) (fs : List Fragment) (k f t s : ℕ) (last : last_session fs ≡ k) where
-  abbrev PutEntries : List ℕ → ℕ → Type 0
-  PutEntries after n = (n ≡ 4 + length (toc_entries z fs f t s)) × ((after ≡ stored l 4 (toc_entries z fs f t s)) × (n ≤ 4 + 8 * (limit + 1)))
+module _ (l : List ℕ) (z : Bool) (fs rs : List Fragment) (k f t s : ℕ) (last : last_session fs ≡ k) (in-use : rs ≡ listed fs) where
+  abbrev pub PutEntries : List ℕ → ℕ → Type 0
+  PutEntries after n = (n ≡ 4 + length (toc_entries z fs f t s)) × (after ≡ stored l 4 (toc_entries z fs f t s))
 
   pub sessions-put :
-      (first after made : List ℕ) (at : ℕ) (g : Fragment) (a : Lba) → f ≡ 0 → g ≡ last_fragment (closed_fragments z fs)
-      → (at ≡ 4 + length (session_entries t s (closed_of z k (firsts 0 (listed fs))))) × ((first ≡ stored l 4 (session_entries t s (closed_of z k (firsts 0 (listed fs))))) × (at ≤ 4 + 8 * limit))
-      → a ≡ first_sector (end g) → made ≡ entry t lead_out a → after ≡ stored first at (take 8 made) → PutEntries after (at + 8)
-  sessions-put first after made at g a form0 e w q made-entry put =
+      (first after made : List ℕ) (at n : ℕ) (g : Fragment) (a : Lba) → f ≡ 0 → g ≡ last_fragment (closed_of z k rs)
+      → at ≡ 4 + length (session_entries t s (closed_of z k (firsts 0 rs))) → first ≡ stored l 4 (session_entries t s (closed_of z k (firsts 0 rs)))
+      → a ≡ first_sector (end g) → made ≡ entry t lead_out a → n ≡ at + length made → after ≡ stored first at made → PutEntries after n
+  sessions-put first after made at n g a form0 e place bytes q m more put =
       let x = session_entries t s (closed_of z k (firsts 0 (listed fs))) in
-      let p = entry-put first at t lead_out a made after made-entry put in
-      let both : after ≡ stored l 4 (x ++ entry t lead_out a) = p.1 ∙ (rw (w.0, w.1.0) (stored_parts l 4 x (entry t lead_out a))) in
-      let ends : first_sector (end (last_fragment (closed_fragments z fs))) ≡ a = sym (q ∙ ap (λ (h : Fragment). first_sector (end h)) e) in
-      let whole : toc_entries z fs f t s ≡ x ++ entry t lead_out a =
-      cond_yes (eqb f 0) _ _ (eq-eqb f 0 form0)
-      ∙ (ap (λ (n : ℕ). session_entries t s (closed_of z n (firsts 0 (listed fs))) ++ entry t lead_out (first_sector (end (last_fragment (closed_fragments z fs))))) last
-      ∙ ap (λ (b : Lba). x ++ entry t lead_out b) ends) in
-      rw whole (omega (arith, w.0, p.0, length-append x (entry t lead_out a)), (both, omega (arith, w.1.1)))
+      let y = entry t lead_out (first_sector (end (last_fragment (closed_of z k (listed fs))))) in
+      let whole : toc_entries z fs f t s ≡ x ++ y = cond_yes (eqb f 0) _ _ (eq-eqb f 0 form0) ∙ rw last in
+      let same : made ≡ y = rw (m, q, e, in-use) in
+      rw whole (
+        omega (arith, rw in-use at place, rw same at more, length-append x y),
+        rw (put, same, bytes, place, in-use) (stored_parts l 4 x y),
+      )
 
   pub last-put :
-      (after made : List ℕ) (g : Fragment) (a : Lba) → (f ≡ 0 → ⊥) → g ≡ last_fragment (closed_of z k (firsts 0 (listed fs)))
-      → a ≡ first_sector g.start → made ≡ entry t g.session a → after ≡ stored l 4 (take 8 made) → PutEntries after 12
-  last-put after made g a form1 e q made-entry put =
-      let p = entry-put l 4 t g.session a made after made-entry put in
-      let whole : toc_entries z fs f t s ≡ entry t g.session a =
-      cond_no (eqb f 0) _ _ (ne_eqb f 0 form1)
-      ∙ (ap (λ (n : ℕ). session_entry t (last_fragment (closed_of z n (firsts 0 (listed fs))))) last
-      ∙ (ap (session_entry t) (sym e) ∙ ap (entry t g.session) (sym q))) in
-      rw whole (omega (arith, p.0), (p.1, omega arith))
+      (after made : List ℕ) (n : ℕ) (g : Fragment) (a : Lba) → (f ≡ 0 → ⊥) → g ≡ last_fragment (closed_of z k (firsts 0 rs))
+      → a ≡ first_sector g.start → made ≡ entry t g.session a → n ≡ 4 + length made → after ≡ stored l 4 made → PutEntries after n
+  last-put after made n g a form1 e q m more put =
+      let y = session_entry t (last_fragment (closed_of z k (firsts 0 (listed fs)))) in
+      let whole : toc_entries z fs f t s ≡ y = cond_no (eqb f 0) _ _ (ne_eqb f 0 form1) ∙ rw last in
+      let same : made ≡ y = rw (m, q, e, in-use) in
+      rw whole (rw same at more, rw same at put)
 
 -- the header put before them
 pub table-put :
     (l entries middle made after : List ℕ) (n last : ℕ) → n ≡ 4 + length entries → middle ≡ stored l 4 entries
-    → made ≡ bytes16 (2 + (n - 4)) ++ 1 ∷ last ∷ [] → after ≡ stored middle 0 (take 4 made) → after ≡ stored l 0 (table_of last entries)
+    → made ≡ bytes16 (2 + (n - 4)) ++ 1 ∷ last ∷ [] → after ≡ stored middle 0 made → after ≡ stored l 0 (table_of last entries)
 table-put l entries middle made after n last size one head two =
     let k : n - 4 ≡ length entries = omega (arith, size) in
-    let made-head : take 4 made ≡ bytes16 (2 + length entries) ++ 1 ∷ last ∷ [] = rw (head, k) (take_all 4 _ (omega arith)) in
-    two ∙ (rw (made-head, one) (stored_front l _ _ _ _ entries))
+    rw (two, head, one, k) (stored_front l _ _ _ _ entries)

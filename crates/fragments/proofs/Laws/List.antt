@@ -138,18 +138,6 @@ listed_stop [] = refl
 listed_stop (f ∷ fs) =
     use_cases f (λ e. rw (listed_off f fs e) e) (λ e. rw (listed-on f fs e) (listed_stop fs))
 
--- one step along the records in use
-module _ (fs : List Fragment) (i : ℕ) (d : Fragment) (h : i < length fs) where
-  pub listed-drop-off : (get_or fs i d).length ≡ 0 → listed (drop i fs) ≡ []
-  listed-drop-off e = rw (drop-cons fs i d h) (listed_off (get_or fs i d) (drop (suc i) fs) e)
-
-  pub listed-drop-on : ((get_or fs i d).length ≡ 0 → ⊥) → listed (drop i fs) ≡ get_or fs i d ∷ listed (drop (i + 1) fs)
-  listed-drop-on e = rw (add-one, drop-cons fs i d h) (listed-on (get_or fs i d) (drop (suc i) fs) e)
-
-pub listed-drop-end : (fs : List Fragment) (i : ℕ) → length fs ≤ i → listed (drop i fs) ≡ []
-unfolding listed
-listed-drop-end fs i h = rw (drop_of_length-le fs h)
-
 -- the sum of the recorded blocks with one record changed
 pub sum-set :
     (fs : List Fragment) (k : ℕ) (g d : Fragment)

@@ -1,26 +1,16 @@
-use Rattle.contents.proofs.Laws.Sessions.{last_on, last_off, last_end}
-use mathlib.Core.Path.{sym, ◌∙◌}
-use native.Mathlib.Omega.{arith}
-use Prim.Native.Nat.{◌-◌}
+use Rattle.std.proofs.Common.{◌≡◌, rules, tests, ◌∙◌, unwrap_or, None}
+use Rattle.std.proofs.lemmas.Iterator.{YieldsList-from_slice, items_from_drains}
+use Rattle.std.proofs.lemmas.Iterator.Consumers.{YieldsList-at, YieldsList-from_filter}
+use Rattle.fragments.specs.Fragment.{unused_record}
+use Rattle.contents.specs.Sessions.{is_closed}
+use Rattle.contents.proofs.Laws.Sessions.{closed-is, last-is}
 use Rattle.contents.proofs.closed.Closing.last_fragment.Goals as goal
-
-pub returns-then-f-eq0 : goal.returns-then-f-eq0
-returns-then-f-eq0 c =
-    let w = c.loop-i in
-    let a = c.args in
-    sym (w.invariant.2 ∙ last_off a.self.finalized a.self.last a.fragments w.i _ w.last (omega arith) c.if-f-eq0.true)
-
-pub loop-i-preserved : goal.loop-i-preserved
-loop-i-preserved c =
-    let w = c.loop-i in
-    let a = c.args in (
-      omega arith,
-      w.invariant.1,
-      rw c.closed_or-last.ensures (w.invariant.2 ∙ last_on a.self.finalized a.self.last a.fragments w.i _ w.last (omega arith) c.if-f-eq0.false),
-    )
 
 pub returns : goal.returns
 returns c =
-    let w = c.loop-i in
-    let a = c.args in
-    sym (w.invariant.2 ∙ last_end a.self.finalized a.self.last a.fragments w.i w.last w.last (omega arith))
+    let a = c.args.self in
+    let drained = c.last.ensures.ran.1 in
+    let items = items_from_drains c.last.ensures.ran.0 (drained.1.0, drained.1.1, λ _. (drained.0, drained.1.2))
+    (YieldsList-from_filter _ (is_closed a.finalized a.last) (YieldsList-at c.filter-closed.ensures.source (YieldsList-from_slice a.records.now (cc))) c.filter-closed.ensures.closure (λ x b q k. search (rules, tests))) in
+    let out : c.unwrap_or_default.result ≡ unwrap_or c.copied.result unused_record = search rules in
+    rw (closed-is, ← items) (out ∙ (rw (c.copied.ensures, c.last.ensures.ran.2) (last-is (λ x. x.now) None unused_record c.last.ensures.ran.0)))

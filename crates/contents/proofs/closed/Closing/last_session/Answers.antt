@@ -1,26 +1,24 @@
-use Rattle.contents.proofs.Laws.Sessions.{first_on, first_off, first-end}
-use mathlib.Core.Path.{sym, ◌∙◌}
-use native.Mathlib.Omega.{arith}
-use Prim.Native.Nat.{◌-◌}
+use Rattle.std.proofs.Common.{get_or, sym, ◌∙◌}
+use Rattle.fragments.specs.Fragment.{unused_record}
+use Rattle.contents.specs.Sessions.{begins_closed}
+use Rattle.fragments.proofs.Laws.Bool.{cond_yes, cond_no}
+use Rattle.contents.proofs.Laws.Sessions.{first_on, first-end}
 use Rattle.contents.proofs.closed.Closing.last_session.Goals as goal
+use Rattle.contents.proofs.closed.Closing.last_session.Goals.{then-begins, else-begins}
 
-pub returns-then-f-eq0 : goal.returns-then-f-eq0
-returns-then-f-eq0 c =
-    let w = c.loop-i in
-    let a = c.args in
-    sym (w.invariant.2 ∙ first_off a.self.finalized a.self.last a.fragments w.i _ w.last w.before (omega arith) c.if-f-eq0.true)
-
-pub loop-i-preserved : goal.loop-i-preserved
-loop-i-preserved c =
-    let w = c.loop-i in
-    let a = c.args in (
-      omega arith,
-      w.invariant.1,
-      rw c.first_or-last.ensures (w.invariant.2 ∙ first_on a.self.finalized a.self.last a.fragments w.i _ w.last w.before (omega arith) c.if-f-eq0.false),
-    )
+pub loop-f-preserved : goal.loop-f-preserved
+loop-f-preserved c =
+    let w = c.loop-f in
+    let a = c.args.self in
+    let f = get_or a.records.now w.f-index unused_record in
+    let on = w.invariant ∙ first_on a.finalized a.last a.records.now w.f-index w.before unused_record w.last c.loop-f-test.true in
+    elim c.if-begins.branch [
+      | then-begins t ↦ rw t.last-is (rw (cond_yes (begins_closed a.finalized a.last w.before f) f w.last (sym c.begins.ensures ∙ t.if-begins.true)) at on)
+      | else-begins t ↦ rw t.last-is (rw (cond_no (begins_closed a.finalized a.last w.before f) f w.last (sym c.begins.ensures ∙ t.if-begins.false)) at on)
+    ]
 
 pub returns : goal.returns
 returns c =
-    let w = c.loop-i in
-    let a = c.args in
-    sym (w.invariant.2 ∙ first-end a.self.finalized a.self.last a.fragments w.i w.last w.last w.before (omega arith))
+    let w = c.loop-f in
+    let a = c.args.self in
+    sym (w.invariant ∙ first-end a.finalized a.last a.records.now w.f-index w.before w.last w.last c.loop-f-test.false)

@@ -37,7 +37,8 @@ impl Listing {
 }
 
 // The length of the whole reply to a request type and a starting feature. It makes no bytes: L4 asks for it, and a call that does would
-// cost every command a copy of the records.
+// cost every command a copy of the records. Two numbers and no struct, here and below: a command brings them as two fields, and
+// `configuration_bytes` takes them one by one.
 pub fn configuration_length(request_type: u8, start: u16) -> usize
     ensures { result ≡ length (configuration_bytes request_type start) }
 {

@@ -14,7 +14,7 @@ pub struct Listing {
 }
 
 // The numbers of features in order, zeros after them, and how many there are. An array beside a count: there is no heap, and `asked_of`
-// promises the zeros.
+// promises the zeros. It is not one generic with Listing: `listing` and `asked_of` name their fields.
 #[derive(Clone, Copy)]
 pub struct Asked {
     pub numbers: [u32; feature::COUNT],

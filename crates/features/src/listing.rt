@@ -14,7 +14,7 @@ pub struct Listing {
 }
 
 // The numbers of features in order, zeros after them, and how many there are. An array beside a count: there is no heap, and `asked_of`
-// promises the zeros.
+// promises the zeros. It is not one generic with Listing: `listing` and `asked_of` name their fields.
 #[derive(Clone, Copy)]
 pub struct Asked {
     pub numbers: [u32; feature::COUNT],
@@ -37,7 +37,8 @@ impl Listing {
 }
 
 // The length of the whole reply to a request type and a starting feature. It makes no bytes: L4 asks for it, and a call that does would
-// cost every command a copy of the records.
+// cost every command a copy of the records. Two numbers and no struct, here and below: a command brings them as two fields, and
+// `configuration_bytes` takes them one by one.
 pub fn configuration_length(request_type: u8, start: u16) -> usize
     ensures { result ≡ length (configuration_bytes request_type start) }
 {

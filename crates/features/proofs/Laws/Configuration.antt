@@ -239,9 +239,6 @@ pub configuration_most : (r s : ℕ) → length (configuration_bytes r s) ≤ 10
 unfolding configuration_bytes
 configuration_most r s = omega (arith, asked_most r s features, all-features)
 
--- a listing holds its reply, and its first bytes are the reply's
-pub listing-holds : (x : List ℕ) (l : Listing) → l ≡ listing x → length x ≤ length l.bytes
-listing-holds x l e = rw e (omega (arith, length-append x (replicate (128 - length x) 0)))
-
+-- the first bytes of a listing are its reply's
 pub listing-first : (n : ℕ) (x : List ℕ) (l : Listing) → l ≡ listing x → n ≤ length x → take n l.bytes ≡ take n x
 listing-first n x l e h = rw e (take-append-le n x (replicate (128 - length x) 0) h)

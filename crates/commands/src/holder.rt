@@ -10,15 +10,15 @@ use search::Holder;
 
 impl ReadyDisc {
     // With its number; number 0 and an unused record where there is none.
-    fn holder_at(self, address: Lba) -> Holder
-        ensures { result ≡ held self.disc.fragments (at_address self.disc address) }
+    fn holder_at(&self, address: Lba) -> Holder
+        ensures { result ≡ held self.now.disc.fragments (at_address self.now.disc address) }
     {
         search::halving(self.disc.fragments, address).holder
     }
 
     // Its number.
-    pub(crate) fn at_address(self, address: Lba) -> Found
-        ensures { result ≡ at_address self.disc address }
+    pub(crate) fn at_address(&self, address: Lba) -> Found
+        ensures { result ≡ at_address self.now.disc address }
     {
         let holder = self.holder_at(address);
         if holder.number == 0 {
@@ -28,8 +28,8 @@ impl ReadyDisc {
     }
 
     // Where its recorded sectors end, and where its readable ones do; both 0 where there is none.
-    pub(crate) fn reach_around(self, address: Lba) -> Reach
-        ensures { result ≡ reach_around self.disc address }
+    pub(crate) fn reach_around(&self, address: Lba) -> Reach
+        ensures { result ≡ reach_around self.now.disc address }
     {
         let holder = self.holder_at(address);
         Reach {
@@ -39,8 +39,8 @@ impl ReadyDisc {
     }
 
     // The incomplete fragment whose next writable address it is, with its number: no other than the one that the address lies in.
-    pub(crate) fn writable_at(self, address: Lba) -> Holder
-        ensures { result ≡ held self.disc.fragments (writable_at self.disc address) }
+    pub(crate) fn writable_at(&self, address: Lba) -> Holder
+        ensures { result ≡ held self.now.disc.fragments (writable_at self.now.disc address) }
     {
         let holder = self.holder_at(address);
         if holder

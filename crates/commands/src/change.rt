@@ -21,8 +21,8 @@ pub(crate) fn flushed(mut f: Fragment, pending: u8) -> Fragment
     requires { (pending < 16) × (f.recorded < 2 ^ 24) × (f.zeroed ≤ sectors_in f.recorded) }
     ensures { result ≡ flushed_record pending f }
 {
-    f.recorded = f.recorded + 1;
-    f.zeroed = f.zeroed + fragments::missing(pending as usize) as u32;
+    f.recorded += 1;
+    f.zeroed += fragments::missing(pending as usize) as u32;
     f
 }
 
@@ -31,7 +31,7 @@ pub(crate) fn grown(mut f: Fragment, sectors: usize) -> Fragment
     requires { f.recorded + whole_blocks sectors < 2 ^ 24 }
     ensures { result ≡ grown_record (whole_blocks sectors) f }
 {
-    f.recorded = f.recorded + fragments::whole_blocks(sectors) as u32;
+    f.recorded += fragments::whole_blocks(sectors) as u32;
     f
 }
 
@@ -40,7 +40,7 @@ pub(crate) fn filled(mut f: Fragment) -> Fragment
     requires { (f.recorded ≤ f.length) × (f.length < 2 ^ 24) × (f.zeroed ≤ sectors_in f.recorded) }
     ensures { result ≡ filled_record f }
 {
-    f.zeroed = f.zeroed + fragments::sectors_in(f.length - f.recorded) as u32;
+    f.zeroed += fragments::sectors_in(f.length - f.recorded) as u32;
     f.recorded = f.length;
     f
 }

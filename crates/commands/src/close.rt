@@ -15,11 +15,11 @@ use protocol::{DriveRefusal, Reply};
 
 impl ReadyDisc {
     // An incomplete reserved fragment is closed; `f` is its record after the flush.
-    fn close_reserved(self, first: Flushing, number: usize, f: Fragment) -> Decision
-        requires first_value { first ≡ flushing self.disc }
-        requires le_number { (1 ≤ number) × (number ≤ used (flush self.disc)) }
-        requires f_value { f ≡ numbered (flush self.disc) number }
-        ensures { decided self.disc result ≡ close_incomplete self.disc (flush self.disc) number Reserved }
+    fn close_reserved(&self, first: Flushing, number: usize, f: Fragment) -> Decision
+        requires first_value { first ≡ flushing self.now.disc }
+        requires le_number { (1 ≤ number) × (number ≤ used (flush self.now.disc)) }
+        requires f_value { f ≡ numbered (flush self.now.disc) number }
+        ensures { decided self.now.disc result ≡ close_incomplete self.now.disc (flush self.now.disc) number Reserved }
     {
         let blocks = f.length - f.recorded;
         let block = change::first_unrecorded(f);
@@ -35,11 +35,11 @@ impl ReadyDisc {
     }
 
     // A written tail is closed; `f` is its record after the flush.
-    fn close_appended(self, first: Flushing, number: usize, f: Fragment) -> Decision
-        requires first_value { first ≡ flushing self.disc }
-        requires number_value { number ≡ used (flush self.disc) }
-        requires f_value { f ≡ numbered (flush self.disc) number }
-        ensures { decided self.disc result ≡ close_incomplete self.disc (flush self.disc) number Appended }
+    fn close_appended(&self, first: Flushing, number: usize, f: Fragment) -> Decision
+        requires first_value { first ≡ flushing self.now.disc }
+        requires number_value { number ≡ used (flush self.now.disc) }
+        requires f_value { f ≡ numbered (flush self.now.disc) number }
+        ensures { decided self.now.disc result ≡ close_incomplete self.now.disc (flush self.now.disc) number Appended }
     {
         let plan = Plan::new(first.plan, Transfer::Nothing);
         let short = f.shortened();
@@ -53,8 +53,9 @@ impl ReadyDisc {
     }
 
     // CLOSE of a fragment (001).
-    fn close_fragment(self, number: usize) -> Result<Decision, DriveRefusal>
-        ensures { concluded self.disc result ≡ close_fragment self.disc number }
+    #[tactic(auto, unfolding(crate::specs::Close::close_fragment))]
+    fn close_fragment(&self, number: usize) -> Result<Decision, DriveRefusal>
+        ensures { concluded self.now.disc result ≡ close_fragment self.now.disc number }
     {
         if !self.disc.is_listed(number) {
             return Err(DriveRefusal::InvalidFieldInCommand);
@@ -75,12 +76,13 @@ impl ReadyDisc {
     }
 
     // CLOSE TRACK/SESSION by its function.
+    #[tactic(auto, unfolding(crate::specs::Close::close))]
     pub(crate) fn close_track_session(
-        self,
+        &self,
         function: u8,
         number: usize,
     ) -> Result<Decision, DriveRefusal>
-        ensures { concluded self.disc result ≡ close self.disc function number }
+        ensures { concluded self.now.disc result ≡ close self.now.disc function number }
     {
         match function {
             0b001 => self.close_fragment(number),

@@ -10,6 +10,7 @@ use disc::{Disc, Verdict};
 use protocol::{Command, LinkRefusal};
 
 // What is to be performed on which disc: the link refusals that need no buffer, in order.
+#[tactic(auto, unfolding(crate::specs::Judge::judge, crate::specs::Judge::judge_command))]
 fn admitted(
     disc: Disc,
     cdb: &[u8],

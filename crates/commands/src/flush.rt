@@ -12,8 +12,9 @@ use protocol::Reply;
 
 impl ReadyDisc {
     // The flush of the pending block; nothing happens with none pending.
-    pub(crate) fn flushing(self) -> Flushing
-        ensures { result ≡ flushing self.disc }
+    #[tactic(auto, unfolding(crate::specs::Flush::flush_entry, crate::specs::Flush::flush_plan, crate::specs::Flush::flush_count))]
+    pub(crate) fn flushing(&self) -> Flushing
+        ensures { result ≡ flushing self.now.disc }
     {
         let sectors = self.disc.pending;
         if sectors == 0 {
@@ -30,8 +31,9 @@ impl ReadyDisc {
     }
 
     // The flush of sectors that are pending in any other fragment.
-    pub(crate) fn flushing_others(self, number: usize) -> Flushing
-        ensures { result ≡ flushing_others self.disc number }
+    #[tactic(auto, unfolding(crate::specs::Write::flush_others_entry, crate::specs::Write::flush_others_plan, crate::specs::Write::flush_others_count))]
+    pub(crate) fn flushing_others(&self, number: usize) -> Flushing
+        ensures { result ≡ flushing_others self.now.disc number }
     {
         if self.disc.owner as usize == number {
             return Flushing::none();
@@ -40,8 +42,8 @@ impl ReadyDisc {
     }
 
     // SYNCHRONIZE CACHE: the flush.
-    pub(crate) fn synchronize_cache(self) -> Decision
-        ensures { decided self.disc result ≡ synchronize_cache self.disc }
+    pub(crate) fn synchronize_cache(&self) -> Decision
+        ensures { decided self.now.disc result ≡ synchronize_cache self.now.disc }
     {
         let first = self.flushing();
         let effect = Effect::Settle {

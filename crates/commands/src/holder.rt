@@ -9,22 +9,22 @@ use fragments::{Entry, Lba, Reach};
 
 impl ReadyDisc {
     // With its number, if there is one.
-    fn holder_at(self, address: Lba) -> Option<Entry>
-        ensures { result ≡ held self.disc.fragments (at_address self.disc address) }
+    fn holder_at(&self, address: Lba) -> Option<Entry>
+        ensures { result ≡ held self.now.disc.fragments (at_address self.now.disc address) }
     {
         search::halving(self.disc.fragments, address).holder
     }
 
     // Its number.
-    pub(crate) fn at_address(self, address: Lba) -> Option<usize>
-        ensures { result ≡ at_address self.disc address }
+    pub(crate) fn at_address(&self, address: Lba) -> Option<usize>
+        ensures { result ≡ at_address self.now.disc address }
     {
         self.holder_at(address).map(|holder| holder.number)
     }
 
     // Where its recorded sectors end, and where its readable ones do; both 0 where there is none.
-    pub(crate) fn reach_around(self, address: Lba) -> Reach
-        ensures { result ≡ reach_around self.disc address }
+    pub(crate) fn reach_around(&self, address: Lba) -> Reach
+        ensures { result ≡ reach_around self.now.disc address }
     {
         match self.holder_at(address) {
             Some(holder) => Reach {
@@ -39,8 +39,8 @@ impl ReadyDisc {
     }
 
     // The incomplete fragment whose next writable address it is, with its number: no other than the one that the address lies in.
-    pub(crate) fn writable_at(self, address: Lba) -> Option<Entry>
-        ensures { result ≡ held self.disc.fragments (writable_at self.disc address) }
+    pub(crate) fn writable_at(&self, address: Lba) -> Option<Entry>
+        ensures { result ≡ held self.now.disc.fragments (writable_at self.now.disc address) }
     {
         let holder = self.holder_at(address)?;
         if holder

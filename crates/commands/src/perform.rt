@@ -9,8 +9,9 @@ use protocol::{Command, DriveRefusal, Reply};
 
 impl ReadyDisc {
     // Each listed command; an opcode that is not listed is refused.
-    pub(crate) fn perform(self, command: Command) -> Result<Decision, DriveRefusal>
-        ensures { concluded self.disc result ≡ perform self.disc command }
+    #[tactic(auto, using(disc::proofs::Laws::Apply::unchanged_verdict), unfolding(crate::specs::Judge::perform, crate::specs::Judge::test_unit_ready))]
+    pub(crate) fn perform(&self, command: Command) -> Result<Decision, DriveRefusal>
+        ensures { concluded self.now.disc result ≡ perform self.now.disc command }
     {
         match command {
             Command::TestUnitReady => Ok(Decision::unchanged(Reply::none())),

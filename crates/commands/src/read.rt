@@ -10,8 +10,9 @@ use protocol::{DriveRefusal, Reply};
 
 impl ReadyDisc {
     // READ: sends the run. A fragment's readable sectors are its recorded ones, on the medium, and after them those pending in it.
-    pub(crate) fn read(self, address: Lba, sectors: u32) -> Result<Decision, DriveRefusal>
-        ensures { concluded self.disc result ≡ read self.disc address sectors }
+    #[tactic(auto, using(disc::proofs::Laws::Apply::unchanged_verdict), unfolding(crate::specs::Read::read))]
+    pub(crate) fn read(&self, address: Lba, sectors: u32) -> Result<Decision, DriveRefusal>
+        ensures { concluded self.now.disc result ≡ read self.now.disc address sectors }
     {
         if sectors == 0 {
             return Ok(Decision::unchanged(Reply::none()));

@@ -18,6 +18,7 @@ pub(crate) struct ReadyDisc {
 
 impl ReadyDisc {
     // The tests in order: L2 of the capacity, then L3.
+    #[tactic(auto, using(crate::proofs::Laws::Judge::allowed_ready), unfolding(crate::specs::Judge::judge_command))]
     pub(crate) fn of(disc: Disc) -> Result<ReadyDisc, LinkRefusal>
         ensures same_disc { IfOk result (λ ready. ready.disc ≡ disc) }
         ensures allowed { OnOk result (allowed_state disc ≡ true) }

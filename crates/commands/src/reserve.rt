@@ -13,10 +13,10 @@ use protocol::{DriveRefusal, Reply};
 
 impl ReadyDisc {
     // The blank tail, the last record, as a reserved fragment of so many blocks, with a tail after it.
-    fn split_tail(self, last: Entry, blocks: u32) -> Effect
-        requires splitting { Splitting self.disc blocks }
-        requires last_value { last ≡ last_of self.disc.fragments }
-        ensures { affected self.disc result ≡ split_tail self.disc blocks }
+    fn split_tail(&self, last: Entry, blocks: u32) -> Effect
+        requires splitting { Splitting self.now.disc blocks }
+        requires last_value { last ≡ last_of self.now.disc.fragments }
+        ensures { affected self.now.disc result ≡ split_tail self.now.disc blocks }
     {
         let f = last.fragment.reserved(blocks);
         let reserved = Entry::new(last.number, f);
@@ -30,8 +30,9 @@ impl ReadyDisc {
     }
 
     // RESERVE TRACK: its refusals in order, then the tail is split.
-    pub(crate) fn reserve_track(self, size: u32) -> Result<Decision, DriveRefusal>
-        ensures { concluded self.disc result ≡ reserve self.disc size }
+    #[tactic(auto, unfolding(crate::specs::Reserve::reserve))]
+    pub(crate) fn reserve_track(&self, size: u32) -> Result<Decision, DriveRefusal>
+        ensures { concluded self.now.disc result ≡ reserve self.now.disc size }
     {
         if self.disc.finalized {
             return Err(DriveRefusal::WriteProtected);

@@ -14,9 +14,9 @@ use protocol::{DriveRefusal, Reply};
 
 impl ReadyDisc {
     // The flush that comes first; refused where it leaves some reserved fragment incomplete.
-    fn flush_of_complete(self) -> Result<Flushing, DriveRefusal>
-        ensures ok { IfOk result (λ first. (first ≡ flushing self.disc) × (has_incomplete_reserved (flush self.disc) ≡ false)) }
-        ensures err { IfErr result (λ refusal. (refusal ≡ IncompleteTrackInSession) × (has_incomplete_reserved (flush self.disc) ≡ true)) }
+    fn closing_flush(&self) -> Result<Flushing, DriveRefusal>
+        ensures ok { IfOk result (λ first. (first ≡ flushing self.now.disc) × (has_incomplete_reserved (flush self.now.disc) ≡ false)) }
+        ensures err { IfErr result (λ refusal. (refusal ≡ IncompleteTrackInSession) × (has_incomplete_reserved (flush self.now.disc) ≡ true)) }
     {
         let first = self.flushing();
         if fragments::has_incomplete_reserved(first.entry.put(self.disc.fragments)) {
@@ -26,10 +26,10 @@ impl ReadyDisc {
     }
 
     // The last record that is left with the tail closed, after that flush, whose last record is `last`.
-    fn last_kept(self, flushed: Entry, last: Entry) -> Entry
-        requires flushed_value { flushed ≡ flush_entry self.disc }
-        requires last_value { last ≡ last_of (flush self.disc).fragments }
-        ensures { result ≡ last_of (close_tail (flush self.disc)).fragments }
+    fn last_kept(&self, flushed: Entry, last: Entry) -> Entry
+        requires flushed_value { flushed ≡ flush_entry self.now.disc }
+        requires last_value { last ≡ last_of (flush self.now.disc).fragments }
+        ensures { result ≡ last_of (close_tail (flush self.now.disc)).fragments }
     {
         let f = last.fragment;
         if !f.is_tail() {
@@ -46,14 +46,15 @@ impl ReadyDisc {
     }
 
     // CLOSE of the session (010).
-    pub(crate) fn close_session(self) -> Result<Decision, DriveRefusal>
-        ensures { concluded self.disc result ≡ close_session self.disc }
+    #[tactic(auto, using(disc::proofs::Laws::Apply::unchanged_verdict), unfolding(crate::specs::Close::close_session))]
+    pub(crate) fn close_session(&self) -> Result<Decision, DriveRefusal>
+        ensures { concluded self.now.disc result ≡ close_session self.now.disc }
     {
         let before = self.disc.last();
         if self.disc.finalized | self.disc.is_only_tail(before) {
             return Ok(Decision::unchanged(Reply::none()));
         }
-        let first = self.flush_of_complete()?;
+        let first = self.closing_flush()?;
         let last = first.entry.over_last(before);
         let kept = self.last_kept(first.entry, last);
         if kept.number == Disc::LIMIT {
@@ -73,13 +74,14 @@ impl ReadyDisc {
     }
 
     // CLOSE of the disc (110): finalized.
-    pub(crate) fn finalize(self) -> Result<Decision, DriveRefusal>
-        ensures { concluded self.disc result ≡ finalize self.disc }
+    #[tactic(auto, using(disc::proofs::Laws::Apply::unchanged_verdict), unfolding(crate::specs::Close::finalize))]
+    pub(crate) fn finalize(&self) -> Result<Decision, DriveRefusal>
+        ensures { concluded self.now.disc result ≡ finalize self.now.disc }
     {
         if self.disc.finalized {
             return Ok(Decision::unchanged(Reply::none()));
         }
-        let first = self.flush_of_complete()?;
+        let first = self.closing_flush()?;
         let before = self.disc.last();
         if self.disc.is_only_tail(before) & (before.fragment.session == 1) {
             return Err(DriveRefusal::EmptyTrack);

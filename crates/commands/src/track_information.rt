@@ -10,13 +10,14 @@ use protocol::DriveRefusal;
 
 impl ReadyDisc {
     // By its address type: 0 for an address, 1 for a number.
+    #[tactic(auto, unfolding(reporting::specs::Reports::read_track_information))]
     pub(crate) fn read_track_information(
-        self,
+        &self,
         address_type: u8,
         number: u32,
         allocation: u16,
     ) -> Result<Decision, DriveRefusal>
-        ensures { concluded self.disc result ≡ read_track_information self.disc address_type number allocation }
+        ensures { concluded self.now.disc result ≡ read_track_information self.now.disc address_type number allocation }
     {
         match address_type {
             0 => {

@@ -25,11 +25,11 @@ fn owner_of(pending: usize, number: usize) -> u8
 
 impl ReadyDisc {
     // More sectors gathered in the fragment with a number, whose record is `f`, after the flush that leaves `flushed`.
-    fn gather(self, flushed: Entry, number: usize, f: Fragment, sectors: u32) -> Effect
-        requires flushed_value { flushed ≡ flush_others_entry self.disc number }
-        requires gathering { Gathering self.disc number sectors }
-        requires f_value { f ≡ numbered self.disc number }
-        ensures { affected self.disc result ≡ gather (flush_others self.disc number) number sectors }
+    fn gather(&self, flushed: Entry, number: usize, f: Fragment, sectors: u32) -> Effect
+        requires flushed_value { flushed ≡ flush_others_entry self.now.disc number }
+        requires gathering { Gathering self.now.disc number sectors }
+        requires f_value { f ≡ numbered self.now.disc number }
+        ensures { affected self.now.disc result ≡ gather (flush_others self.now.disc number) number sectors }
     {
         let held = self.disc.pending_in(number) as usize + sectors as usize;
         let left = fragments::left_over(held);
@@ -42,16 +42,17 @@ impl ReadyDisc {
     }
 
     // A WRITE of 1 up at the next writable address of the fragment with a number, whose record is `f`.
+    #[tactic(auto, unfolding(crate::specs::Write::write_to))]
     fn write_to(
-        self,
+        &self,
         address: Lba,
         sectors: u32,
         number: usize,
         f: Fragment,
     ) -> Result<Decision, DriveRefusal>
-        requires writable { Writable self.disc address number }
-        requires f_value { f ≡ numbered self.disc number }
-        ensures { concluded self.disc result ≡ write_to self.disc address sectors number }
+        requires writable { Writable self.now.disc address number }
+        requires f_value { f ≡ numbered self.now.disc number }
+        ensures { concluded self.now.disc result ≡ write_to self.now.disc address sectors number }
     {
         if address.passes(sectors, f.end_address()) {
             return Err(DriveRefusal::EndOfUserArea);
@@ -71,8 +72,9 @@ impl ReadyDisc {
     }
 
     // WRITE: goes to the fragment whose next writable address it names.
-    pub(crate) fn write(self, address: Lba, sectors: u32) -> Result<Decision, DriveRefusal>
-        ensures { concluded self.disc result ≡ write self.disc address sectors }
+    #[tactic(auto, using(disc::proofs::Laws::Apply::unchanged_verdict), unfolding(crate::specs::Write::write, crate::specs::Write::write_found))]
+    pub(crate) fn write(&self, address: Lba, sectors: u32) -> Result<Decision, DriveRefusal>
+        ensures { concluded self.now.disc result ≡ write self.now.disc address sectors }
     {
         if sectors == 0 {
             return Ok(Decision::unchanged(Reply::none()));

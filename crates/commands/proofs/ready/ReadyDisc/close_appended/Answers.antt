@@ -18,9 +18,9 @@ use Rattle.commands.proofs.ready.ReadyDisc.close_appended.Goals as goal
 pub returns : goal.returns
 unfolding close_incomplete
 returns c =
-    let d = c.args.self.disc in
+    let d = c.args.self.now.disc in
     let n = c.args.number in
-    let r = c.args.self.ready in
+    let r = c.args.self.now.ready in
     let first = c.requires.first_value in
     let f = c.requires.f_value in
     let u = c.requires.number_value in

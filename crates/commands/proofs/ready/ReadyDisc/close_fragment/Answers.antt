@@ -1,32 +1,18 @@
 use Rattle.commands.specs.Types.{Reserved, Appended}
 use Rattle.commands.specs.Flush.{flush}
-use Rattle.commands.specs.Close.{close_fragment}
 use Rattle.disc.proofs.Laws.Records.{listed-number}
 use Rattle.commands.proofs.Laws.Flush.{flush-used, flush-sound}
-use Rattle.commands.proofs.Laws.Close.{close-blank, close-complete, close-incomplete, appended_last}
+use Rattle.commands.proofs.Laws.Close.{close-complete, close-incomplete, appended_last}
 use Rattle.commands.proofs.Laws.Effect.{flush-numbered}
 use mathlib.Core.Path.{sym, ◌∙◌}
 use native.Mathlib.Omega.{arith}
 use Rattle.commands.proofs.ready.ReadyDisc.close_fragment.Goals as goal
 
-pub returns-then-not-is_listed : goal.returns-then-not-is_listed
-unfolding close_fragment
-returns-then-not-is_listed c = rw (← c.is_listed.ensures, c.if-not-is_listed.true)
-
-pub returns-then-is_blank : goal.returns-then-is_blank
-returns-then-is_blank c =
-    let d = c.args.self.disc in
-    let n = c.args.number in
-    let r = c.args.self.ready in
-    let li = sym c.is_listed.ensures ∙ c.if-not-is_listed.false in
-    let l = listed-number d n li in
-    sym (close-blank d n li (rw c.numbered-before.ensures at (sym c.is_blank.ensures ∙ c.if-is_blank.true)))
-
 pub returns-then-is_complete : goal.returns-then-is_complete
 returns-then-is_complete c =
-    let d = c.args.self.disc in
+    let d = c.args.self.now.disc in
     let n = c.args.number in
-    let r = c.args.self.ready in
+    let r = c.args.self.now.ready in
     let li = sym c.is_listed.ensures ∙ c.if-not-is_listed.false in
     let l = listed-number d n li in
     let fo = rw (c.flushing-first.ensures, c.numbered-before.ensures) at c.over-f.ensures ∙ flush-numbered d r n l.0 in
@@ -35,9 +21,9 @@ returns-then-is_complete c =
 
 pub close_reserved-requires : goal.close_reserved-requires
 close_reserved-requires c =
-    let d = c.args.self.disc in
+    let d = c.args.self.now.disc in
     let n = c.args.number in
-    let r = c.args.self.ready in
+    let r = c.args.self.now.ready in
     let li = sym c.is_listed.ensures ∙ c.if-not-is_listed.false in
     let l = listed-number d n li in
     let fo = rw (c.flushing-first.ensures, c.numbered-before.ensures) at c.over-f.ensures ∙ flush-numbered d r n l.0 in
@@ -45,9 +31,9 @@ close_reserved-requires c =
 
 pub close_appended-requires : goal.close_appended-requires
 close_appended-requires c =
-    let d = c.args.self.disc in
+    let d = c.args.self.now.disc in
     let n = c.args.number in
-    let r = c.args.self.ready in
+    let r = c.args.self.now.ready in
     let li = sym c.is_listed.ensures ∙ c.if-not-is_listed.false in
     let l = listed-number d n li in
     let fo = rw (c.flushing-first.ensures, c.numbered-before.ensures) at c.over-f.ensures ∙ flush-numbered d r n l.0 in
@@ -61,9 +47,9 @@ close_appended-requires c =
 
 pub returns-in-Reserved : goal.returns-in-Reserved
 returns-in-Reserved c =
-    let d = c.args.self.disc in
+    let d = c.args.self.now.disc in
     let n = c.args.number in
-    let r = c.args.self.ready in
+    let r = c.args.self.now.ready in
     let li = sym c.is_listed.ensures ∙ c.if-not-is_listed.false in
     let l = listed-number d n li in
     let fo = rw (c.flushing-first.ensures, c.numbered-before.ensures) at c.over-f.ensures ∙ flush-numbered d r n l.0 in
@@ -73,9 +59,9 @@ returns-in-Reserved c =
 
 pub returns-in-Appended : goal.returns-in-Appended
 returns-in-Appended c =
-    let d = c.args.self.disc in
+    let d = c.args.self.now.disc in
     let n = c.args.number in
-    let r = c.args.self.ready in
+    let r = c.args.self.now.ready in
     let li = sym c.is_listed.ensures ∙ c.if-not-is_listed.false in
     let l = listed-number d n li in
     let fo = rw (c.flushing-first.ensures, c.numbered-before.ensures) at c.over-f.ensures ∙ flush-numbered d r n l.0 in

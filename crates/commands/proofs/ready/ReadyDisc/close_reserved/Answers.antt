@@ -19,9 +19,9 @@ use Rattle.commands.proofs.ready.ReadyDisc.close_reserved.Goals as goal
 
 pub overflow_sub-blocks : goal.overflow_sub-blocks
 overflow_sub-blocks c =
-    let d = c.args.self.disc in
+    let d = c.args.self.now.disc in
     let n = c.args.number in
-    let r = c.args.self.ready in
+    let r = c.args.self.now.ready in
     let first = c.requires.first_value in
     let f = c.requires.f_value in
     let m = numbers (flush d) n (flush_ready d r) c.requires.le_number.0 c.requires.le_number.1 in
@@ -29,9 +29,9 @@ overflow_sub-blocks c =
 
 pub first_unrecorded-block-requires : goal.first_unrecorded-block-requires
 first_unrecorded-block-requires c =
-    let d = c.args.self.disc in
+    let d = c.args.self.now.disc in
     let n = c.args.number in
-    let r = c.args.self.ready in
+    let r = c.args.self.now.ready in
     let first = c.requires.first_value in
     let f = c.requires.f_value in
     let m = numbers (flush d) n (flush_ready d r) c.requires.le_number.0 c.requires.le_number.1 in
@@ -39,9 +39,9 @@ first_unrecorded-block-requires c =
 
 pub filled-requires : goal.filled-requires
 filled-requires c =
-    let d = c.args.self.disc in
+    let d = c.args.self.now.disc in
     let n = c.args.number in
-    let r = c.args.self.ready in
+    let r = c.args.self.now.ready in
     let first = c.requires.first_value in
     let f = c.requires.f_value in
     let m = numbers (flush d) n (flush_ready d r) c.requires.le_number.0 c.requires.le_number.1 in
@@ -49,9 +49,9 @@ filled-requires c =
 
 pub overflow_add-first : goal.overflow_add-first
 overflow_add-first c =
-    let d = c.args.self.disc in
+    let d = c.args.self.now.disc in
     let n = c.args.number in
-    let r = c.args.self.ready in
+    let r = c.args.self.now.ready in
     let first = c.requires.first_value in
     let f = c.requires.f_value in
     let m = numbers (flush d) n (flush_ready d r) c.requires.le_number.0 c.requires.le_number.1 in
@@ -60,9 +60,9 @@ overflow_add-first c =
 pub returns : goal.returns
 unfolding close_incomplete
 returns c =
-    let d = c.args.self.disc in
+    let d = c.args.self.now.disc in
     let n = c.args.number in
-    let r = c.args.self.ready in
+    let r = c.args.self.now.ready in
     let first = c.requires.first_value in
     let f = c.requires.f_value in
     let m = numbers (flush d) n (flush_ready d r) c.requires.le_number.0 c.requires.le_number.1 in

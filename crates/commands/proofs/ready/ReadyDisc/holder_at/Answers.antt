@@ -6,6 +6,6 @@ use Rattle.commands.proofs.ready.ReadyDisc.holder_at.Goals as goal
 
 pub returns : goal.returns
 returns c =
-    let d = c.args.self.disc in
+    let d = c.args.self.now.disc in
     ap (λ (s : Sought). s.holder) c.halving.ensures
-    ∙ holder-found d (sound-rules d c.args.self.ready.sound) c.args.address
+    ∙ holder-found d (sound-rules d c.args.self.now.ready.sound) c.args.address

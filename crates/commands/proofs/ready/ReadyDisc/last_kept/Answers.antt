@@ -11,8 +11,8 @@ use Rattle.commands.proofs.ready.ReadyDisc.last_kept.Goals as goal
 
 pub returns-then-not-is_tail : goal.returns-then-not-is_tail
 returns-then-not-is_tail c =
-    let d = c.args.self.disc in
-    let r = c.args.self.ready in
+    let d = c.args.self.now.disc in
+    let r = c.args.self.now.ready in
     let e = flush d in
     let s = flush-sound d r in
     let p = flush_pending d in
@@ -21,8 +21,8 @@ returns-then-not-is_tail c =
 
 pub returns-then-f-ne0 : goal.returns-then-f-ne0
 returns-then-f-ne0 c =
-    let d = c.args.self.disc in
-    let r = c.args.self.ready in
+    let d = c.args.self.now.disc in
+    let r = c.args.self.now.ready in
     let e = flush d in
     let s = flush-sound d r in
     let p = flush_pending d in
@@ -32,8 +32,8 @@ returns-then-f-ne0 c =
 
 pub overflow_sub-number : goal.overflow_sub-number
 overflow_sub-number c =
-    let d = c.args.self.disc in
-    let r = c.args.self.ready in
+    let d = c.args.self.now.disc in
+    let r = c.args.self.now.ready in
     let e = flush d in
     let s = flush-sound d r in
     let p = flush_pending d in
@@ -42,8 +42,8 @@ overflow_sub-number c =
 
 pub returns-then-number-eq0 : goal.returns-then-number-eq0
 returns-then-number-eq0 c =
-    let d = c.args.self.disc in
-    let r = c.args.self.ready in
+    let d = c.args.self.now.disc in
+    let r = c.args.self.now.ready in
     let e = flush d in
     let s = flush-sound d r in
     let p = flush_pending d in
@@ -55,8 +55,8 @@ returns-then-number-eq0 c =
 
 pub returns : goal.returns
 returns c =
-    let d = c.args.self.disc in
-    let r = c.args.self.ready in
+    let d = c.args.self.now.disc in
+    let r = c.args.self.now.ready in
     let e = flush d in
     let s = flush-sound d r in
     let p = flush_pending d in

@@ -13,6 +13,6 @@ use Rattle.commands.proofs.ready.ReadyDisc.synchronize_cache.Goals as goal
 pub returns : goal.returns
 unfolding synchronize_cache
 returns c =
-    let d = c.args.self.disc in
+    let d = c.args.self.now.disc in
     rw (c.accepted.ensures, accepted_verdict, c.none.ensures, c.new-plan.ensures, c.flushing-first.ensures)
-    (ap (λ x. accepted x (flush_count d) no_reply (plan (flush_plan d) Nothing)) (affected-settled d c.args.self.ready) ∙ sym (accept_count d (flush d) _ _ _ (rise-flush d c.args.self.ready)))
+    (ap (λ x. accepted x (flush_count d) no_reply (plan (flush_plan d) Nothing)) (affected-settled d c.args.self.now.ready) ∙ sym (accept_count d (flush d) _ _ _ (rise-flush d c.args.self.now.ready)))

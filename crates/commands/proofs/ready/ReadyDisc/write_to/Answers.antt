@@ -12,40 +12,36 @@ use mathlib.Core.Path.{sym, ◌∙◌, ap}
 use native.Mathlib.Omega.{arith}
 use Rattle.commands.proofs.ready.ReadyDisc.write_to.Goals as goal
 
-pub returns-then-passes : goal.returns-then-passes
-unfolding write_to
-returns-then-passes c = rw ((sym (c.passes.ensures ∙ ap (λ e. ltb e.0 (c.args.address.0 + c.args.sectors)) (c.end_address.ensures ∙ ap (λ f. first_sector (end f)) c.requires.f_value)) ∙ c.if-passes.true))
-
 pub first_unrecorded-block-requires : goal.first_unrecorded-block-requires
 first_unrecorded-block-requires c =
-    let d = c.args.self.disc in
+    let d = c.args.self.now.disc in
     let a = c.args.address in
     let n = c.args.number in
     let k = c.args.sectors in
-    let p = place d a n c.args.self.ready c.requires.writable in
+    let p = place d a n c.args.self.now.ready c.requires.writable in
     rw c.requires.f_value (omega (arith, p.ends, p.room))
 
 pub gather-effect-requires : goal.gather-effect-requires
 gather-effect-requires c =
-    let d = c.args.self.disc in
+    let d = c.args.self.now.disc in
     let a = c.args.address in
     let n = c.args.number in
     let k = c.args.sectors in
-    let p = place d a n c.args.self.ready c.requires.writable in
+    let p = place d a n c.args.self.now.ready c.requires.writable in
     let h = ltb-false (first_sector (end (numbered d n))).0 (a.0 + k) (sym (c.passes.ensures ∙ ap (λ e. ltb e.0 (c.args.address.0 + c.args.sectors)) (c.end_address.ensures ∙ ap (λ f. first_sector (end f)) c.requires.f_value)) ∙ c.if-passes.false) in
     record {
       flushed_value = ap (λ x. x.entry) c.flushing_others-first.ensures;
-      gathering = gathering d a n k c.args.self.ready c.requires.writable h;
+      gathering = gathering d a n k c.args.self.now.ready c.requires.writable h;
       f_value = c.requires.f_value;
     }
 
 pub overflow_add-first : goal.overflow_add-first
 overflow_add-first c =
-    let d = c.args.self.disc in
+    let d = c.args.self.now.disc in
     let a = c.args.address in
     let n = c.args.number in
     let k = c.args.sectors in
-    let p = place d a n c.args.self.ready c.requires.writable in
+    let p = place d a n c.args.self.now.ready c.requires.writable in
     let h = ltb-false (first_sector (end (numbered d n))).0 (a.0 + k) (sym (c.passes.ensures ∙ ap (λ e. ltb e.0 (c.args.address.0 + c.args.sectors)) (c.end_address.ensures ∙ ap (λ f. first_sector (end f)) c.requires.f_value)) ∙ c.if-passes.false) in
     let f = fit d a n k p c.requires.writable h in
     rw (c.flushing_others-first.ensures, c.whole_blocks-gathered.ensures)
@@ -54,10 +50,10 @@ overflow_add-first c =
 pub returns : goal.returns
 unfolding write_to accept
 returns c =
-    let d = c.args.self.disc in
+    let d = c.args.self.now.disc in
     let a = c.args.address in
     let n = c.args.number in
     let k = c.args.sectors in
-    let p = place d a n c.args.self.ready c.requires.writable in
+    let p = place d a n c.args.self.now.ready c.requires.writable in
     let h = ltb-false (first_sector (end (numbered d n))).0 (a.0 + k) (sym (c.passes.ensures ∙ ap (λ e. ltb e.0 (c.args.address.0 + c.args.sectors)) (c.end_address.ensures ∙ ap (λ f. first_sector (end f)) c.requires.f_value)) ∙ c.if-passes.false) in
-    rw (c.accepted.ensures, accepted_verdict, c.gather-effect.ensures, c.none.ensures, c.new-plan.ensures, c.flushing_others-first.ensures, c.whole_blocks-gathered.ensures, c.first_unrecorded-block.ensures, c.pending_in-pending.ensures, c.requires.f_value, le-ltb _ _ h, write_count d n k c.args.self.ready c.requires.writable.from p.slot)
+    rw (c.accepted.ensures, accepted_verdict, c.gather-effect.ensures, c.none.ensures, c.new-plan.ensures, c.flushing_others-first.ensures, c.whole_blocks-gathered.ensures, c.first_unrecorded-block.ensures, c.pending_in-pending.ensures, c.requires.f_value, le-ltb _ _ h, write_count d n k c.args.self.now.ready c.requires.writable.from p.slot)

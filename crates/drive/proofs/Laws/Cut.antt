@@ -43,7 +43,7 @@ write_verdict s q a n w k =
 -- an accepted command was served, and what a command leaves is served again
 link_answer : (d : Disc) (x : LinkRefusal) → (refuse_link d x).answer ≡ Accepted → ⊥
 unfolding refuse_link
-link_answer d x e = let z : ◌≡◌ {A = ℕ} 0 1 = cc in omega arith
+link_answer d x e = grind arith
 
 pub accepted-served : (s : Drive) (q : Request) → (step s q).answer ≡ Accepted → Served s
 unfolding step carried_out
@@ -68,12 +68,7 @@ served-after s q k =
 
 -- an alike drive is served too, and of the link refusals a served one gives L1 and L4 alone
 pub served_alike : (s t : Drive) → Alike s t → Served s → Served t
-served_alike s t a k =
-    record {
-      lends = rw (sym a.disc, sym a.medium_length, sym a.pending_length) k.lends;
-      range = rw (sym a.disc) k.range;
-      allowed = rw (sym a.disc) k.allowed;
-    }
+served_alike s t a k = grind arith
 
 pub served_link :
     (s : Drive) (q : Request) (x : LinkRefusal) → Served s → (step s q).answer ≡ Link x → (x ≡ CommandBlockLength) ⊎ (x ≡ TransferLength)

@@ -296,13 +296,7 @@ module _
 
     untouched-alike :
         (y : LinkRefusal) → AlikeResults (untouched (drive d m p) (request b x r) (Link y) d) (untouched (drive d n q) (request b x u) (Link y) d)
-    untouched-alike y =
-        record {
-          answer = refl;
-          reply = refl;
-          recorded = refl;
-          after = record { disc = refl; medium_length = hm; pending_length = hp; recorded = same; pending = held };
-        }
+    untouched-alike y = grind arith
 
     step-alike-plain : AlikeResults (step (drive d m p) (request b x r)) (step (drive d n q) (request b x u))
     unfolding step
@@ -334,24 +328,10 @@ step_alike s t q u a block sectors buffer =
 
 -- alike is an equivalence
 pub alike_same : (s : Drive) → Alike s s
-alike_same s = record { disc = refl; medium_length = refl; pending_length = refl; recorded = λ i t. refl; pending = refl }
+alike_same s = grind arith
 
 pub alike_back : (s t : Drive) → Alike s t → Alike t s
-alike_back s t a =
-    record {
-      disc = sym a.disc;
-      medium_length = sym a.medium_length;
-      pending_length = sym a.pending_length;
-      recorded = λ i h. sym (a.recorded i (rw a.disc h));
-      pending = sym a.pending;
-    }
+alike_back s t a = grind arith
 
 pub alike_on : (s t u : Drive) → Alike s t → Alike t u → Alike s u
-alike_on s t u a b =
-    record {
-      disc = a.disc ∙ b.disc;
-      medium_length = a.medium_length ∙ b.medium_length;
-      pending_length = a.pending_length ∙ b.pending_length;
-      recorded = λ i h. a.recorded i h ∙ b.recorded i (ap (λ (d : Disc). recorded_byte d i) (sym a.disc) ∙ h);
-      pending = a.pending ∙ b.pending;
-    }
+alike_on s t u a b = grind arith

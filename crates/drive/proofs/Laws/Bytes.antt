@@ -2,7 +2,7 @@
 use mathlib.Core.Path.{◌≡◌, refl, sym, ap, ◌∙◌}
 use Prim.Native.Nat.{ℕ, ◌+◌, ◌-◌, ◌*◌, ◌≤◌, ◌<◌}
 use native.Mathlib.Omega.{arith}
-use borrow.Rule.Slice.PartMut.{put_mid, mid_of}
+use borrow.Rule.Slice.PartMut.{put_mid}
 use mathlib.Core.List.{List, [], ◌++◌, append-nil}
 use lib.ListN.{length, take, drop, length-append, length-drop, length-replicate, replicate-append-replicate}
 use lib.Seq.{paste, take_at, take-take, take-append-le, drop-drop, drop-append-le, drop-append-add}
@@ -78,13 +78,6 @@ pub padded-put :
 unfolding padded zeros splice
 padded-put m x p q a size room e f = grind (arith, common_steps)
 
--- the same for what stands in two places
-pub padded_parts :
-    (m x y p p₁ q : List ℕ) → length m ≡ 32768 → length x + length y ≤ 32768 → p ≡ splice m 0 x → p₁ ≡ splice p (length x) y
-    → q ≡ take (length x + length y) p₁ ++ zeros (length p₁ - (length x + length y)) → q ≡ padded (x ++ y)
-unfolding padded zeros splice
-padded_parts m x y p p₁ q size room e d f = grind (arith, common_steps)
-
 -- a part of a run is a part of the whole
 pub run_in_run :
     (l : List ℕ) (a w b v : ℕ) → b + v ≤ w → a + b ≤ length l → take v (drop b (take w (drop a l))) ≡ take v (drop (a + b) l)
@@ -110,10 +103,3 @@ pub sector-after : (l x : List ℕ) (c i : ℕ) → length l ≡ 2048 * c → ta
 sector-after l x c i size =
     let place : 2048 * (c + i) ≡ length l + 2048 * i = omega (arith, size) in
     ap (λ (n : ℕ). take 2048 (drop n (l ++ x))) place ∙ ap (take 2048) (drop-append-add l x (2048 * i))
-
--- the end of a slice lent to be cleared
-pub clear_end :
-    (p z : List ℕ) (a : ℕ) → a ≤ length p → z ≡ zeros (length (mid_of a (length p - a) p))
-    → put_mid a (length p - a) p z ≡ take a p ++ zeros (length p - a)
-unfolding zeros
-clear_end p z a h e = grind (arith, common_steps)

@@ -23,7 +23,7 @@ use Rattle.drive.proofs.Laws.Moves.{cut-pending, cut-medium}
 use Rattle.drive.proofs.Laws.Kept.{length-flushed_medium, length-flushed_pending}
 use Rattle.drive.specs.Types.{Lba, Disc, Accepted, LinkRefusal, Verdict, Block, Flush, Option, None, Gather, Plan, Link, CommandBlockLength, TransferLength}
 use Rattle.drive.specs.Moves.{moved_medium, moved_pending, flushed_medium, flushed_pending, transferred_medium, transferred_pending}
-use Rattle.drive.specs.Step.{Drive, drive, Request, lent, verdict_on, carried_out, step}
+use Rattle.drive.specs.Step.{Drive, Request, lent, verdict_on, carried_out, step}
 use Rattle.drive.specs.Requests.{WriteOf}
 use Rattle.drive.proofs.Laws.Step.{verdict_decided, verdict-judge, lent_pending, judgement}
 use Rattle.drive.proofs.Laws.Alike.{verdict_cases, lent-after, step_judges}
@@ -43,7 +43,7 @@ write_verdict s q a n w k =
 -- an accepted command was served, and what a command leaves is served again
 link_answer : (d : Disc) (x : LinkRefusal) → (refuse_link d x).answer ≡ Accepted → ⊥
 unfolding refuse_link
-link_answer d x e = let z : ◌≡◌ {A = ℕ} 0 1 = cc in omega arith
+link_answer d x e = grind arith
 
 pub accepted-served : (s : Drive) (q : Request) → (step s q).answer ≡ Accepted → Served s
 unfolding step carried_out
@@ -68,12 +68,7 @@ served-after s q k =
 
 -- an alike drive is served too, and of the link refusals a served one gives L1 and L4 alone
 pub served_alike : (s t : Drive) → Alike s t → Served s → Served t
-served_alike s t a k =
-    record {
-      lends = rw (sym a.disc, sym a.medium_length, sym a.pending_length) k.lends;
-      range = rw (sym a.disc) k.range;
-      allowed = rw (sym a.disc) k.allowed;
-    }
+served_alike s t a k = grind arith
 
 pub served_link :
     (s : Drive) (q : Request) (x : LinkRefusal) → Served s → (step s q).answer ≡ Link x → (x ≡ CommandBlockLength) ⊎ (x ≡ TransferLength)
@@ -94,13 +89,18 @@ module _ (s : Drive) (q : Request) (a : Lba) (n : ℕ) (w : WriteOf q a n) (k : 
   write-after : (step s q).after.disc ≡ (write s.disc a n).disc
   write-after = step-disc s q ∙ ap (λ (v : Verdict). v.disc) (write_verdict s q a n w k)
 
-  write-medium : (step s q).after.medium ≡ moved_medium (write s.disc a n).plan s.medium s.pending q.payload
+  -- and the bytes, by its plan
+  write-medium : (v : Plan) → (write s.disc a n).plan ≡ v → (step s q).after.medium ≡ moved_medium v s.medium s.pending q.payload
   unfolding step carried_out
-  write-medium = ap (λ (v : Verdict). moved_medium v.plan s.medium s.pending q.payload) (write_verdict s q a n w k)
+  write-medium v e =
+      ap (λ (u : Verdict). moved_medium u.plan s.medium s.pending q.payload) (write_verdict s q a n w k)
+      ∙ ap (λ (u : Plan). moved_medium u s.medium s.pending q.payload) e
 
-  write-pending : (step s q).after.pending ≡ moved_pending (write s.disc a n).plan s.pending q.payload
+  write-pending : (v : Plan) → (write s.disc a n).plan ≡ v → (step s q).after.pending ≡ moved_pending v s.pending q.payload
   unfolding step carried_out
-  write-pending = ap (λ (v : Verdict). moved_pending v.plan s.pending q.payload) (write_verdict s q a n w k)
+  write-pending v e =
+      ap (λ (u : Verdict). moved_pending u.plan s.pending q.payload) (write_verdict s q a n w k)
+      ∙ ap (λ (u : Plan). moved_pending u s.pending q.payload) e
 
   write-fits : Fits (length s.medium) (length q.payload) (length q.buffer) (write s.disc a n)
   write-fits =
@@ -128,6 +128,9 @@ module _
         ≡ moved_medium (plan f (Gather b h (n + k))) m p (x ++ y)
     unfolding moved_medium moved_pending transferred_medium transferred_pending flushed_medium flushed_pending
     cut-moved-medium within = cut-medium h n k (flushed_pending f p) x y hp hx hy b.0 (flushed_medium f m p) within
+
+same_drive : (s t : Drive) → s.disc ≡ t.disc → s.medium ≡ t.medium → s.pending ≡ t.pending → s ≡ t
+same_drive s t disc medium pending = grind arith
 
 -- a WRITE of n + m sectors and its parts of n and of m
 module _
@@ -203,28 +206,15 @@ module _
         ∙ (ap (λ (x : Disc). (write x (lba (a.0 + n)) m).disc) between ∙ (c.2 ∙ sym (write-after s q a (n + m) w k))) in
         let second : (write s₁.disc (lba (a.0 + n)) m).plan ≡ plan None (Gather (block (p.from.0 + (p.held + n) / 16)) ((p.held + n) % 16) m) =
         ap (λ (x : Disc). (write x (lba (a.0 + n)) m).plan) between ∙ p.second in
-        let pending₁ : s₁.pending ≡ moved_pending (plan p.flush (Gather p.from p.held n)) s.pending one.payload =
-        write-pending s one a n w₁ k ∙ ap (λ (x : Plan). moved_pending x s.pending one.payload) p.first in
-        let medium₁ : s₁.medium ≡ moved_medium (plan p.flush (Gather p.from p.held n)) s.medium s.pending one.payload =
-        write-medium s one a n w₁ k ∙ ap (λ (x : Plan). moved_medium x s.medium s.pending one.payload) p.first in
-        let all = one.payload ++ two.payload in
+        let pending₁ = write-pending s one a n w₁ k _ p.first in
+        let medium₁ = write-medium s one a n w₁ k _ p.first in
         let whole = plan p.flush (Gather p.from p.held (n + m)) in
-        let medium-parts : moved_medium (write s₁.disc (lba (a.0 + n)) m).plan s₁.medium s₁.pending two.payload ≡ moved_medium whole s.medium s.pending all =
-        rw (second, medium₁, pending₁)
+        let medium : (step s₁ two).after.medium ≡ moved_medium whole s.medium s.pending (one.payload ++ two.payload) =
+        rw (write-medium s₁ two (lba (a.0 + n)) m w₂ k₁ _ second, medium₁, pending₁)
         (cut-moved-medium p.flush p.from p.held n m s.medium s.pending one.payload two.payload (omega (arith, lp, gather.0)) w₁.payload w₂.payload (omega (arith, lm, gather.3))) in
-        let pending-parts : moved_pending (write s₁.disc (lba (a.0 + n)) m).plan s₁.pending two.payload ≡ moved_pending whole s.pending all =
-        rw (second, pending₁)
+        let pending : (step s₁ two).after.pending ≡ moved_pending whole s.pending (one.payload ++ two.payload) =
+        rw (write-pending s₁ two (lba (a.0 + n)) m w₂ k₁ _ second, pending₁)
         (cut-moved-pending p.flush p.from p.held n m s.medium s.pending one.payload two.payload (omega (arith, lp, gather.0)) w₁.payload w₂.payload) in
-        let medium-whole : (step s q).after.medium ≡ moved_medium whole s.medium s.pending all =
-        write-medium s q a (n + m) w k
-        ∙ (ap (λ (x : Plan). moved_medium x s.medium s.pending q.payload) p.whole ∙ ap (moved_medium whole s.medium s.pending) joined) in
-        let pending-whole : (step s q).after.pending ≡ moved_pending whole s.pending all =
-        write-pending s q a (n + m) w k
-        ∙ (ap (λ (x : Plan). moved_pending x s.pending q.payload) p.whole ∙ ap (moved_pending whole s.pending) joined) in
-        let medium : (step s₁ two).after.medium ≡ (step s q).after.medium =
-        write-medium s₁ two (lba (a.0 + n)) m w₂ k₁ ∙ (medium-parts ∙ sym medium-whole) in
-        let pending : (step s₁ two).after.pending ≡ (step s q).after.pending =
-        write-pending s₁ two (lba (a.0 + n)) m w₂ k₁ ∙ (pending-parts ∙ sym pending-whole) in
-        ap (λ (x : Disc). drive x (step s₁ two).after.medium (step s₁ two).after.pending) disc
-        ∙ (ap (λ (x : List ℕ). drive (step s q).after.disc x (step s₁ two).after.pending) medium
-        ∙ ap (λ (x : List ℕ). drive (step s q).after.disc (step s q).after.medium x) pending)
+        let medium-whole = write-medium s q a (n + m) w k _ p.whole ∙ ap (moved_medium whole s.medium s.pending) joined in
+        let pending-whole = write-pending s q a (n + m) w k _ p.whole ∙ ap (moved_pending whole s.pending) joined in
+        same_drive _ _ disc (medium ∙ sym medium-whole) (pending ∙ sym pending-whole)

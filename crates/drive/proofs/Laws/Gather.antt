@@ -2,9 +2,10 @@
 use mathlib.Core.Path.{◌≡◌, sym, ap, ◌∙◌}
 use Prim.Native.Nat.{ℕ, ◌+◌, ◌-◌, ◌*◌, ◌/◌, ◌%◌, ◌≤◌, ◌<◌}
 use native.Mathlib.Omega.{arith}
-use mathlib.Core.List.{List, [], ◌++◌, append-nil, append_assoc}
-use lib.ListN.{length, take, drop, length-append, length-drop, take-append-drop}
+use mathlib.Core.List.{List, [], ◌++◌, append-nil}
+use lib.ListN.{length, take, drop, length-append, length-drop}
 use lib.Seq.{take-add, take_at, drop_at, drop-drop, take-append-add, drop-append-add, length-take-le}
+use Rattle.std.proofs.lemmas.Grind.{common_steps}
 use Rattle.drive.specs.Bytes.{zeros, splice, padded}
 use Rattle.drive.specs.Moves.{stream, gathered_medium, gathered_pending}
 use Rattle.drive.proofs.Laws.Bytes.{splice_nil, splice-splice, padded-whole, padded-put}
@@ -53,21 +54,17 @@ module _
     block = take (2048 * held) p ++ y
 
     block-length : length block ≡ 32768
-    block-length =
-        length-append (take (2048 * held) p) y
-        ∙ omega (arith, length-take-le (2048 * held) p hp, ap length first, length-take-le (2048 * k) x (omega arith))
+    block-length = grind (arith, common_steps)
 
     others-length : length z ≡ 2048 * (n - k)
-    others-length = ap length others ∙ (length-drop (2048 * k) x ∙ omega (arith, sectors))
+    others-length = grind (arith, common_steps)
 
     whole-blocks : 32768 * ((held + n) / 16) ≡ length block + 32768 * (length z / 32768)
     whole-blocks = omega (arith, block-length, others-length)
 
     parts : stream held p x ≡ block ++ z
     unfolding stream
-    parts =
-        ap (λ (l : List ℕ). take (2048 * held) p ++ l) (sym (take-append-drop (2048 * k) x))
-        ∙ rw (← first, ← others) (sym (append_assoc (take (2048 * held) p) y z))
+    parts = grind (arith, common_steps)
 
     pub full-medium :
         (b : ℕ) (m medium medium₁ : List ℕ) → 32768 * b ≤ length m → medium ≡ splice m (32768 * b) (padded block)

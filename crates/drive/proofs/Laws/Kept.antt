@@ -3,7 +3,6 @@ use mathlib.Core.Path.{◌≡◌, refl, sym, ap, ◌∙◌, subst}
 use mathlib.Core.Bool.{true, false}
 use mathlib.Core.Logic.{◌⊎◌, inl, inr, ⊎_elim}
 use Prim.Native.Nat.{ℕ, ◌+◌, ◌*◌, ◌/◌, ◌%◌, ◌≤◌, ◌<◌}
-use native.Mathlib.Decide.{dec_lt}
 use native.Mathlib.Omega.{arith}
 use mathlib.Core.List.{List, []}
 use lib.ListN.{length, get_or, take}
@@ -24,11 +23,7 @@ use Rattle.decisions.specs.Plan.{recording}
 
 -- a byte of the medium that is not in block b, nor in any of n blocks from b on
 outside_blocks : (b n i : ℕ) → (b ≤ i / 32768 → i / 32768 < b + n → ⊥) → (i < 32768 * b) ⊎ (32768 * b + 32768 * n ≤ i)
-outside_blocks b n i h =
-    elim (dec_lt i (32768 * b)) [
-      | yes u ↦ inl u
-      | no u ↦ elim (dec_lt i (32768 * b + 32768 * n)) [ yes v ↦ absurd (h (omega arith) (omega arith)) | no v ↦ inr (omega arith) ]
-    ]
+outside_blocks b n i h = grind arith
 
 -- a block of sectors of which some are missing
 sectors-padded : (n : ℕ) (p : List ℕ) → n < 16 → length (padded (take (2048 * n) p)) ≡ 32768

@@ -3,8 +3,9 @@ use mathlib.Core.Path.{◌≡◌, sym, ap, ◌∙◌}
 use Prim.Native.Nat.{ℕ, ◌+◌, ◌*◌, ◌/◌, ◌%◌, ◌≤◌}
 use native.Mathlib.Omega.{arith}
 use mathlib.Core.List.{List, [], ◌++◌, append_assoc}
-use lib.ListN.{length, take, drop, length-append, length-drop}
-use lib.Seq.{drop-drop, take-add, take-append-le, drop-append-le, length-take-le}
+use lib.ListN.{length, take, drop, length-drop}
+use lib.Seq.{drop-drop, take-add, drop-append-le, length-take-le}
+use Rattle.std.proofs.lemmas.Grind.{common_steps}
 use Rattle.drive.specs.Bytes.{zeros, splice, padded}
 use Rattle.drive.specs.Moves.{stream, gathered_medium, gathered_pending}
 use Rattle.drive.proofs.Laws.Bytes.{length-zeros, zeros_add, padded_nil, splice_nil, splice-splice, length-splice, length-padded, take-padded}
@@ -13,7 +14,7 @@ use Rattle.drive.proofs.Laws.Bytes.{length-zeros, zeros_add, padded_nil, splice_
 module _ (held n : ℕ) (pending sectors : List ℕ) (hp : 2048 * held ≤ length pending) (hx : length sectors ≡ 2048 * n) where
   pub length-stream : length (stream held pending sectors) ≡ 2048 * (held + n)
   unfolding stream
-  length-stream = length-append (take (2048 * held) pending) sectors ∙ omega (arith, length-take-le (2048 * held) pending hp)
+  length-stream = grind (arith, common_steps)
 
   pub length_whole : length (take (32768 * ((held + n) / 16)) (stream held pending sectors)) ≡ 32768 * ((held + n) / 16)
   length_whole = length-take-le (32768 * ((held + n) / 16)) (stream held pending sectors) (omega (arith, length-stream))
@@ -51,9 +52,7 @@ module _
 
     first : take (32768 * ((held + n) / 16)) (stream held pending x) ≡ take (32768 * ((held + n) / 16)) (stream held pending (x ++ y))
     unfolding stream
-    first =
-        sym (take-append-le (32768 * ((held + n) / 16)) (take (2048 * held) pending ++ x) y (omega (arith, length-stream held n pending x hp hx)))
-        ∙ ap (take (32768 * ((held + n) / 16))) (append_assoc (take (2048 * held) pending) x y)
+    first = grind (arith, common_steps)
 
     whole-blocks : 32768 * ((held + n) / 16) + 32768 * (((held + n) % 16 + k) / 16) ≡ 32768 * ((held + (n + k)) / 16)
     whole-blocks = omega arith

@@ -3,10 +3,10 @@ use mathlib.Core.Path.{◌≡◌, refl, sym, ap, subst, ◌∙◌}
 use mathlib.Core.Bool.{true, false, not}
 use Prim.Native.Nat.{ℕ, ◌+◌, ◌*◌, ◌≤◌}
 use native.Mathlib.Omega.{arith}
-use borrow.Author.Tests.{eq-eqb, ne_eqb, eqb-true, eqb-false}
+use borrow.Author.Tests.{eqb-true, eqb-false}
 use mathlib.Core.List.{List}
 use lib.Dec.{eqb}
-use lib.ListN.{length, take, drop, length-append, length-take}
+use lib.ListN.{length}
 use Rattle.protocol.specs.Answer.{number}
 use Rattle.protocol.specs.Command.{decode}
 use Rattle.protocol.specs.Reply.{reply_bytes}
@@ -14,9 +14,10 @@ use Rattle.commands.specs.Judge.{judge}
 use Rattle.outcomes.specs.Lent.{TransferFits, RunFits, Fits}
 use Rattle.disc.specs.Verdict.{refuse_link, rise}
 use Rattle.disc.specs.Apply.{affected, changed, decided}
-use Rattle.fragments.proofs.Laws.Bool.{and_left, and_right, cond_cases, by_cases}
+use Rattle.fragments.proofs.Laws.Bool.{cond_cases, by_cases}
 use Rattle.outcomes.proofs.Laws.Judge.{Decided, on_link, judge-decided, decided-rise, decided-most, judge-block}
 use Rattle.outcomes.proofs.Laws.Lent.{judge-fits}
+use Rattle.std.proofs.lemmas.Grind.{common_steps}
 use Rattle.drive.specs.Types.{Lba, Disc, LinkRefusal, Decision, Outcome, CommandBlockLength, MediumSize, Reply, Transfer, Nothing, Send, Gather, Fill, Verdict, Response}
 use Rattle.drive.specs.Moves.{flushed_medium, flushed_pending, transferred_medium, transferred_pending, moved_medium, moved_pending}
 use Rattle.drive.specs.Reply.{sent_bytes}
@@ -40,28 +41,27 @@ verdict_decided s q =
 module _ (s : Drive) (q : Request) where
   pub verdict-block : (length q.cdb ≡ 12 → ⊥) → refuse_link s.disc CommandBlockLength ≡ verdict_on s q
   unfolding verdict_on
-  verdict-block h = rw (ne_eqb (length q.cdb) 12 h)
+  verdict-block h = grind arith
 
   module _ (block : length q.cdb ≡ 12) where
     pub verdict-lent :
         lent s.disc (length s.medium) (length s.pending) ≡ false → refuse_link s.disc MediumSize ≡ verdict_on s q
     unfolding verdict_on
-    verdict-lent h = rw (eq-eqb (length q.cdb) 12 block, h)
+    verdict-lent h = grind arith
 
     pub verdict-judge :
         lent s.disc (length s.medium) (length s.pending) ≡ true
         → judge s.disc q.cdb (length q.payload) (length q.buffer) ≡ verdict_on s q
     unfolding verdict_on
-    verdict-judge h = rw (eq-eqb (length q.cdb) 12 block, h)
+    verdict-judge h = grind arith
 
     -- the medium's length, then that of the pending buffer
     pub verdict-medium : (length s.medium ≡ 32768 * s.disc.capacity → ⊥) → refuse_link s.disc MediumSize ≡ verdict_on s q
-    verdict-medium h = verdict-lent (rw (ne_eqb (length s.medium) (32768 * s.disc.capacity) h) refl)
+    verdict-medium h = verdict-lent (grind arith)
 
     pub verdict-pending :
         length s.medium ≡ 32768 * s.disc.capacity → (length s.pending ≡ 32768 → ⊥) → refuse_link s.disc MediumSize ≡ verdict_on s q
-    verdict-pending e h =
-        verdict-lent (rw (eq-eqb (length s.medium) (32768 * s.disc.capacity) e, ne_eqb (length s.pending) 32768 h) refl)
+    verdict-pending e h = verdict-lent (grind arith)
 
 -- with right buffers the disc decides alone, L1 included
 pub verdict_judges :
@@ -76,25 +76,22 @@ verdict_judges s q l =
 
 -- what is lent
 pub both_lent : (d : Disc) (m p : ℕ) → m ≡ 32768 * d.capacity → p ≡ 32768 → lent d m p ≡ true
-both_lent d m p e f = rw (eq-eqb m (32768 * d.capacity) e, eq-eqb p 32768 f) refl
+both_lent d m p e f = grind arith
 
 pub lent_medium : (d : Disc) (m p : ℕ) → lent d m p ≡ true → m ≡ 32768 * d.capacity
-lent_medium d m p h = eqb-true _ _ (and_left (eqb m (32768 * d.capacity)) (eqb p 32768) h)
+lent_medium d m p h = grind arith
 
 pub lent_pending : (d : Disc) (m p : ℕ) → lent d m p ≡ true → p ≡ 32768
-lent_pending d m p h = eqb-true _ _ (and_right (eqb m (32768 * d.capacity)) (eqb p 32768) h)
+lent_pending d m p h = grind arith
 
 -- the reply buffer has room for what is sent
 sent_room :
     (t : Transfer) (r : Reply) (medium pending : List ℕ) (m : ℕ) → RunFits m t → r.length ≤ m → length (sent_bytes t r medium pending) ≤ m
 unfolding sent_bytes reply_bytes
-sent_room Nothing r medium pending m g h = simp length-take (omega arith)
-sent_room (Send a n i k) r medium pending m g h =
-    let x = drop (2048 * a.0) medium in
-    let y = drop (2048 * i) pending in
-    omega (arith, g, length-append (take (2048 * n) x) (take (2048 * k) y), length-take (2048 * n) x, length-take (2048 * k) y)
-sent_room (Gather b p k) r medium pending m g h = simp length-take (omega arith)
-sent_room (Fill b k) r medium pending m g h = simp length-take (omega arith)
+sent_room Nothing r medium pending m g h = grind (arith, common_steps)
+sent_room (Send a n i k) r medium pending m g h = grind (arith, common_steps)
+sent_room (Gather b p k) r medium pending m g h = grind (arith, common_steps)
+sent_room (Fill b k) r medium pending m g h = grind (arith, common_steps)
 
 -- what the disc has decided, with all that is known of it
 pub record Judgement (s : Drive) (q : Request) (v : Verdict) : Type 0 where

@@ -1,6 +1,5 @@
-use Rattle.gladhamre.specs.Image.{decode}
+use Rattle.gladhamre.proofs.Laws.Image.{decoded}
 use Rattle.gladhamre.proofs.image.read.Goals as goal
 
 pub returns : goal.returns
-unfolding decode
-returns c = rw c.read_list-fragments.ensures
+returns c = decoded c.args.words.now c.head_of.result.now _ c.head_of.ensures c.read_list-fragments.ensures

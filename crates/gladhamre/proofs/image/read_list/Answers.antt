@@ -1,34 +1,40 @@
-use borrow.Author.Rules.{rules}
-use mathlib.Core.Path.{refl, ap}
+use mathlib.Core.Path.{◌≡◌, refl, ap}
 use native.Mathlib.Omega.{arith}
-use Prim.Native.Nat.{◌-◌}
-use lib.ListN.{drop, replicate, length-take, length-drop, length-set}
+use lib.ListN.{length, take, drop, replicate, length-take, length-set, length-replicate}
+use lib.Seq.{length-take-le}
+use Rattle.fragments.specs.Fragment.{unused_record}
 use Rattle.fragments.specs.List.{limit}
 use Rattle.gladhamre.specs.Image.{list_of}
-use Rattle.gladhamre.proofs.Laws.Image.{lent_record, read_more}
-use Rattle.gladhamre.proofs.Laws.Used.{taken-most, taken-fits, taken-list}
+use Rattle.gladhamre.proofs.Laws.Image.{part_record, read_more}
+use Rattle.gladhamre.proofs.Laws.Used.{taken-most, taken-fits, taken-record, taken-list}
 use Rattle.gladhamre.proofs.image.read_list.Goals as goal
+
+pub slice_bounds-in_use-end : goal.slice_bounds-in_use-end
+slice_bounds-in_use-end c = simp length-take (omega (arith, taken-most c.args.words.now c.args.used c.requires, c.records_of.ensures.1))
 
 pub loop-i-init : goal.loop-i-init
 unfolding list_of
-loop-i-init c =
-    (search rules, taken-most c.args.words.now c.args.used c.requires, ap (replicate limit) c.unused-unused.ensures, refl, refl)
+loop-i-init c = (refl, ap (replicate limit) c.unused-unused.ensures)
 
-pub read_record-requires : goal.read_record-requires
-read_record-requires c =
-    (simp (length-take, length-drop) (omega (arith, c.requires.state.0)), taken-fits c.args.words.now c.args.used c.requires c.loop-i.i (omega arith))
+pub read-requires : goal.read-requires
+read-requires c =
+    let w = c.args.words.now in
+    let h = length-take c.args.used c.records_of.result.now in
+    rw (taken-record w c.args.used c.requires c.loop-i.i c.records_of.result.now c.records_of.ensures.0 (omega arith)) (taken-fits w c.args.used c.requires c.loop-i.i (omega arith))
 
 pub loop-i-preserved : goal.loop-i-preserved
 loop-i-preserved c =
-    let loop = c.loop-i in (
-      omega arith,
-      loop.invariant.1,
-      loop.invariant.2,
-      simp length-set loop.invariant.3,
-      rw (loop.invariant.4, c.read_record.ensures, lent_record c.args.words.now loop.i) (read_more loop.i (drop 7 c.args.words.now) _ (omega arith)),
+    let w = c.args.words.now in
+    let i = c.loop-i.i in
+    let most = taken-most w c.args.used c.requires in
+    let h = length-take c.args.used c.records_of.result.now in
+    let whole = length-replicate limit unused_record in (
+      simp length-set c.loop-i.invariant.0,
+      rw (c.loop-i.invariant.1, c.read.ensures, taken-record w c.args.used c.requires i c.records_of.result.now c.records_of.ensures.0 (omega arith), part_record) (read_more i (drop 7 w) _ (omega arith)),
     )
 
 pub returns : goal.returns
 returns c =
-    let loop = c.loop-i in
-    taken-list c.args.words.now c.args.used c.requires loop.fragments _ loop.i (omega arith) loop.invariant.2 loop.invariant.4
+    let most = taken-most c.args.words.now c.args.used c.requires in
+    let h : length (take c.args.used c.records_of.result.now) ≡ c.args.used = length-take-le c.args.used c.records_of.result.now (omega (arith, c.records_of.ensures.1)) in
+    taken-list c.args.words.now c.args.used c.requires c.loop-i.fragments c.loop-i.i (omega arith) c.loop-i.invariant.1

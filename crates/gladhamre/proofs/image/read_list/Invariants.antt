@@ -1,5 +1,4 @@
 use mathlib.Core.Path.{◌≡◌}
-use Prim.Native.Nat.{◌-◌, ◌≤◌}
 use mathlib.Core.List.{◌++◌}
 use lib.ListN.{length, drop, replicate}
 use Rattle.fragments.specs.Fragment.{unused_record}
@@ -9,7 +8,4 @@ use Rattle.gladhamre.proofs.image.read_list.Given as goal
 
 abbrev pub invariant-loop-i : goal.invariant-loop-i
 invariant-loop-i l =
-    (l.i ≤ l.used) × (l.used ≤ limit) × (l.initial.fragments ≡ replicate limit unused_record) × (length l.fragments ≡ limit) × (l.fragments ≡ list_of l.i (drop 7 l.words) ++ drop l.i l.initial.fragments)
-
-abbrev pub decreases-loop-i : goal.decreases-loop-i
-decreases-loop-i l = l.used - l.i
+    (length l.fragments ≡ limit) × (l.fragments ≡ list_of l.i (drop 7 l.fn.words) ++ drop l.i (replicate limit unused_record))

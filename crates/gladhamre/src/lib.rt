@@ -5,13 +5,16 @@
 mod image;
 mod update;
 
-ghost use Rattle.drive.specs.Step.{request};
+ghost use Rattle.drive.specs.Step.{drive, request, AnsweredByChange};
 ghost use Rattle.gladhamre.specs.Face.{lending, lent_fits, Faced, BlankFaced};
+ghost use Rattle.gladhamre.specs.Image.{decode};
+ghost use Rattle.gladhamre.specs.Used.{Taken};
 ghost use Rattle.gladhamre.specs.Served.{number_of, length_of, recorded_of};
 ghost use Rattle.std.specs.Prelude.{◌≡◌};
 
 use disc::Disc;
 use drive::Outcome;
+use image::Image;
 use protocol::{Answer, BLOCK_LENGTH, CDB_LENGTH, LinkRefusal};
 
 // Whether an image's capacity, where it can be read, goes with the medium, and the pending buffer is one block.
@@ -42,8 +45,27 @@ pub fn gladhamre_blank(capacity: u32, state: &mut [u32]) -> u32
     made.answer.number()
 }
 
-// Serves one command. An error is a refusal on the link, and nothing is written then.
+// Serves one command on the state that an image stands for, which stays.
 fn serve(
+    cdb: &[u8],
+    data: &[u8],
+    words: &Image,
+    used: usize,
+    medium: &mut [u8],
+    pending: &mut [u8],
+    reply: &mut [u8],
+) -> Outcome
+    requires { Taken words.now used }
+    ensures { AnsweredByChange (drive (decode words.now) medium.old pending.old)
+        (request cdb.now «data».now reply.old)
+        result medium.new pending.new reply.new }
+{
+    let disc = image::read(words, used);
+    drive::serve(cdb, data, disc, medium, pending, reply)
+}
+
+// Answers one command. An error is a refusal on the link, and nothing is written then.
+fn answer(
     cdb: &[u8],
     data: &[u8],
     state: &mut [u32],
@@ -66,8 +88,7 @@ fn serve(
         return Err(LinkRefusal::UnsoundState);
     };
     let used = image::used(words).ok_or(LinkRefusal::UnsoundState)?;
-    let disc = image::read(words, used);
-    let outcome = drive::serve(cdb, data, disc, medium, pending, reply);
+    let outcome = serve(cdb, data, words, used, medium, pending, reply);
     if let Answer::Link(refusal) = outcome.answer {
         return Err(refusal);
     }
@@ -94,7 +115,7 @@ pub fn gladhamre_command(
 {
     *count = 0;
     *recorded = 0;
-    match serve(cdb, data, state, medium, pending, reply) {
+    match answer(cdb, data, state, medium, pending, reply) {
         Ok(outcome) => {
             *count = outcome.length as u64;
             *recorded = u64::from(outcome.recorded);

@@ -7,7 +7,7 @@ use Rattle.gladhamre.specs.Face.{lending}
 use Rattle.gladhamre.proofs.Laws.Used.{words-short, taken, taken-state}
 use Rattle.gladhamre.proofs.Laws.Face.{no-link, block-faced, lent-faced, unsound-faced, link-faced, step-faced}
 use mathlib.Core.Path.{◌≡◌, refl, sym, ap, ◌∙◌}
-use Rattle.gladhamre.proofs.serve.Goals as goal
+use Rattle.gladhamre.proofs.answer.Goals as goal
 
 pub returns-then-cdb-ne-CDB_LENGTH : goal.returns-then-cdb-ne-CDB_LENGTH
 returns-then-cdb-ne-CDB_LENGTH c =
@@ -36,8 +36,8 @@ returns-in_err-used c =
     let n : c.used.result ≡ None = search rules in
     rw (e, same) (unsound-faced l q c.if-cdb-ne-CDB_LENGTH.false (sym c.is_lent.ensures ∙ c.if-not-is_lent.false) _ (ap words_of (sym same) ∙ (sym c.used.ensures ∙ n)) refl)
 
-pub read-disc-requires : goal.read-disc-requires
-read-disc-requires c =
+pub serve-outcome-requires : goal.serve-outcome-requires
+serve-outcome-requires c =
     let n : c.used.result ≡ Some c.in_ok-used.used = search rules in
     taken c.in-Some.words.now _ (sym c.used.ensures ∙ n)
 
@@ -47,7 +47,7 @@ returns-in-Link c =
     let q = request c.args.cdb.now c.args.«data».now c.args.reply.now in
     let same = c.in-Some.ensures.cases.same in
     let n : c.used.result ≡ Some c.in_ok-used.used = search rules in
-    let served = rw (c.read-disc.ensures, same) at c.serve-outcome.ensures in
+    let served = rw same at c.serve-outcome.ensures in
     rw same (link-faced l q c.if-cdb-ne-CDB_LENGTH.false (sym c.is_lent.ensures ∙ c.if-not-is_lent.false) (response_of (decode l.state) c.serve-outcome.result) _ _ _ _
     (taken-state l.state _ (ap words_of (sym same) ∙ (sym c.used.ensures ∙ n))) served (search rules))
 
@@ -62,7 +62,7 @@ returns c =
     let q = request c.args.cdb.now c.args.«data».now c.args.reply.now in
     let same = c.in-Some.ensures.cases.same in
     let n : c.used.result ≡ Some c.in_ok-used.used = search rules in
-    let served = rw (c.read-disc.ensures, same) at c.serve-outcome.ensures in
+    let served = rw same at c.serve-outcome.ensures in
     let written = rw same at c.update.ensures in
     step-faced l q c.if-cdb-ne-CDB_LENGTH.false (sym c.is_lent.ensures ∙ c.if-not-is_lent.false) (response_of (decode l.state) c.serve-outcome.result) _ _ _ _ _ _ _
     (taken-state l.state _ (ap words_of (sym same) ∙ (sym c.used.ensures ∙ n))) served refl refl refl (written ∙ rw (no-link c.serve-outcome.result.answer c.in_default-answer.not-Link))

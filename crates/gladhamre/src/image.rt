@@ -1,5 +1,5 @@
 // The state image: a disc state as words of 32 bits, a head and then the records.
-mod head;
+pub(crate) mod head;
 mod record;
 
 ghost use Rattle.std.specs.Prelude.{◌≡◌, ◌+◌, ◌*◌, ◌<◌, length, drop, take};

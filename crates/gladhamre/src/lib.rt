@@ -29,8 +29,7 @@ fn is_lent(state: &[u32], medium: usize, pending: usize) -> bool
         & (pending == BLOCK_LENGTH)
 }
 
-// Makes the blank disc of a capacity, as an image.
-// The capacity, the slice and the number are the C interface's.
+// Makes the blank disc of a capacity, as an image. The slice and the number are the C interface's.
 pub fn gladhamre_blank(capacity: u32, state: &mut [u32]) -> u32
     ensures { BlankFaced capacity state.old result state.new }
 {
@@ -96,8 +95,8 @@ fn answer(
     Ok(outcome)
 }
 
-// Answers one command. The reply's length and the number of blocks recorded come back through the last two.
-// The slices, the references and the number are the C interface's.
+// Answers one command. The reply's length and the number of blocks recorded come back through the last two; these and the number are the C
+// interface's.
 pub fn gladhamre_command(
     cdb: &[u8],
     data: &[u8],

@@ -4,6 +4,7 @@ ghost use Rattle.gladhamre.specs.Image.{decode, encode, StateWords};
 ghost use Rattle.gladhamre.specs.Update.{Turned};
 ghost use Rattle.disc.specs.Apply.{with_entry, with_pending, settled, affected, changed};
 
+use crate::image::head::{ASC, ASCQ, FINALIZED, KEY, OWNER, PENDING};
 use crate::image::{Image, put_record};
 use decisions::{Change, Effect, Entry};
 use disc::Disc;
@@ -23,8 +24,8 @@ fn put(words: &mut Image, entry: Entry)
 fn put_pending(words: &mut Image, pending: u8, owner: u8)
     ensures { Turned words.old words.new (λ d. with_pending d pending owner) }
 {
-    words[5] = u32::from(pending);
-    words[6] = u32::from(owner);
+    words[PENDING] = u32::from(pending);
+    words[OWNER] = u32::from(owner);
 }
 
 // The record that a flush leaves; nothing is pending then.
@@ -43,7 +44,8 @@ fn put_both(words: &mut Image, first: Entry, second: Entry)
     put(words, second);
 }
 
-// What becomes of the list, of the pending sectors and of the flag.
+// What becomes of the list, of the pending sectors and of the flag. The disc by value follows an effect in `disc` by itself: a trait over
+// both would need a type for words that are lent, since neither it nor an array is this crate's, and a relation in place of each equation.
 fn put_effect(words: &mut Image, effect: Effect)
     ensures { Turned words.old words.new (λ d. affected d effect) }
 {
@@ -59,7 +61,7 @@ fn put_effect(words: &mut Image, effect: Effect)
         } => {
             settle(words, flushed);
             put_both(words, closed, tail);
-            words[1] = u32::from(finalized);
+            words[FINALIZED] = u32::from(finalized);
         }
         Effect::Grow {
             flushed,
@@ -80,7 +82,7 @@ pub(crate) fn update(words: &mut Image, change: Change)
 {
     put_effect(words, change.effect);
     let sense = change.sense;
-    words[2] = u32::from(sense.key);
-    words[3] = u32::from(sense.asc);
-    words[4] = u32::from(sense.ascq);
+    words[KEY] = u32::from(sense.key);
+    words[ASC] = u32::from(sense.asc);
+    words[ASCQ] = u32::from(sense.ascq);
 }

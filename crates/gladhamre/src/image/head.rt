@@ -4,14 +4,26 @@ ghost use Rattle.gladhamre.specs.Image.{head_fits, head_words};
 
 use disc::Disc;
 
-// Words of the head.
+// Words of the head, and where those after the capacity lie.
 pub(crate) const HEAD: usize = 7;
+
+pub(crate) const FINALIZED: usize = 1;
+
+pub(crate) const KEY: usize = 2;
+
+pub(crate) const ASC: usize = 3;
+
+pub(crate) const ASCQ: usize = 4;
+
+pub(crate) const PENDING: usize = 5;
+
+pub(crate) const OWNER: usize = 6;
 
 // Whether it has a flag and bytes where it must.
 pub(crate) fn fits(head: &[u32; HEAD]) -> bool
     ensures { result ≡ head_fits head.now }
 {
-    (head[1] < 2) & head[2..].iter().all(|byte| *byte < 256)
+    (head[FINALIZED] < 2) & head[KEY..].iter().all(|byte| *byte < 256)
 }
 
 // The head of a state.

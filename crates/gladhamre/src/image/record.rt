@@ -16,14 +16,14 @@ pub(crate) fn is_used(words: &[u32; RECORD]) -> bool
     (session < 256) & (kind < 2) & (length != 0)
 }
 
-// 0 for a reserved fragment, 1 for an appended one.
+// 0 for a reserved fragment, 1 for an appended one. An impl of `From` would have to stand beside `Kind`, which knows nothing of an image.
 fn kind_of(word: u32) -> Kind
     ensures { result ≡ kind_of word }
 {
-    if word == 1 {
-        return Kind::Appended;
+    match word {
+        1 => Kind::Appended,
+        _ => Kind::Reserved,
     }
-    Kind::Reserved
 }
 
 // The record that the words stand for.

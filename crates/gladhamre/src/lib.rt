@@ -8,13 +8,12 @@ mod update;
 ghost use Rattle.drive.specs.Step.{drive, request, AnsweredByChange};
 ghost use Rattle.gladhamre.specs.Face.{lending, lent_fits, Faced, BlankFaced};
 ghost use Rattle.gladhamre.specs.Image.{decode};
-ghost use Rattle.gladhamre.specs.Used.{Taken};
 ghost use Rattle.gladhamre.specs.Served.{number_of, length_of, recorded_of};
 ghost use Rattle.std.specs.Prelude.{◌≡◌};
 
 use disc::Disc;
 use drive::Outcome;
-use image::Image;
+use image::State;
 use protocol::{Answer, BLOCK_LENGTH, CDB_LENGTH, LinkRefusal};
 
 // Whether an image's capacity, where it can be read, goes with the medium, and the pending buffer is one block.
@@ -44,22 +43,20 @@ pub fn gladhamre_blank(capacity: u32, state: &mut [u32]) -> u32
     made.answer.number()
 }
 
-// Serves one command on the state that an image stands for, which stays.
+// Serves one command on a state, whose words stay.
 fn serve(
     cdb: &[u8],
     data: &[u8],
-    words: &Image,
-    used: usize,
+    state: State,
     medium: &mut [u8],
     pending: &mut [u8],
     reply: &mut [u8],
 ) -> Outcome
-    requires { Taken words.now used }
-    ensures { AnsweredByChange (drive (decode words.now) medium.old pending.old)
+    ensures { AnsweredByChange (drive (decode state.entry.words.now) medium.old pending.old)
         (request cdb.now «data».now reply.old)
         result medium.new pending.new reply.new }
 {
-    let disc = image::read(words, used);
+    let disc = state.disc();
     drive::serve(cdb, data, disc, medium, pending, reply)
 }
 
@@ -86,8 +83,8 @@ fn answer(
     let Some(words) = state.as_mut_array() else {
         return Err(LinkRefusal::UnsoundState);
     };
-    let used = image::used(words).ok_or(LinkRefusal::UnsoundState)?;
-    let outcome = serve(cdb, data, words, used, medium, pending, reply);
+    let before = State::of(words)?;
+    let outcome = serve(cdb, data, before, medium, pending, reply);
     if let Answer::Link(refusal) = outcome.answer {
         return Err(refusal);
     }

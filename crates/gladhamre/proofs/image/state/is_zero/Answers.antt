@@ -2,7 +2,7 @@ use Rattle.std.proofs.Common.{rules, ◌≡◌, bit_or}
 use Rattle.std.proofs.iter.runs.Made.{chains}
 use Rattle.std.specs.List.{fold}
 use Rattle.gladhamre.proofs.Laws.Used.{zero_fold}
-use Rattle.gladhamre.proofs.image.is_zero.Goals as goal
+use Rattle.gladhamre.proofs.image.state.is_zero.Goals as goal
 
 pub returns : goal.returns
 returns c =

@@ -7,7 +7,7 @@ use Prim.Native.Nat.{ℕ}
 use mathlib.Core.List.{List}
 use Rattle.gladhamre.specs.Used.{record_used}
 use Rattle.gladhamre.proofs.Laws.Used.{used_position}
-use Rattle.gladhamre.proofs.image.used_records.Goals as goal
+use Rattle.gladhamre.proofs.image.state.used_records.Goals as goal
 
 pub returns : goal.returns
 returns c =

@@ -6,7 +6,7 @@ use Rattle.gladhamre.specs.Image.{head_fits}
 use Rattle.gladhamre.proofs.Laws.Image.{part_head}
 use mathlib.Core.Path.{sym, ap, ◌∙◌}
 use native.Mathlib.Omega.{arith}
-use Rattle.gladhamre.proofs.image.used.Goals as goal
+use Rattle.gladhamre.proofs.image.state.used.Goals as goal
 
 pub overflow_mul-rest : goal.overflow_mul-rest
 overflow_mul-rest c = omega (arith, c.used_records-used.ensures, used_most limit (drop 7 c.args.words.now))

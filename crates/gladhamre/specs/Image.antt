@@ -1,5 +1,6 @@
 -- The image of a disc state: words of 32 bits. C, finalized, key, ASC, ASCQ, pending count, its fragment, then six words a record.
 use Rattle.std.specs.Prelude.{ℕ, zero, suc, ◌+◌, ◌*◌, ◌<◌, ◌≡◌, Bool, true, cond, ◌&&◌, List, [], ◌∷◌, ◌++◌, length, get_or, drop, eqb, ltb}
+use Rattle.std.specs.Simd.{first_chunks}
 use Rattle.fragments.specs.Address.{block}
 use Rattle.protocol.specs.Answer.{sense}
 use Rattle.fragments.specs.List.{limit}
@@ -51,6 +52,10 @@ record_of w =
       zeroed = word w 4;
       kind = kind_of (word w 5);
     }
+
+-- the words of each record
+unfoldable pub records_of : List ℕ → List (List ℕ)
+records_of w = first_chunks 6 limit (drop 7 w)
 
 -- n records
 unfoldable pub list_of : ℕ → List ℕ → List Fragment

@@ -1,8 +1,7 @@
 -- What the code tests of an image: records as far as they are in use, and the words after them as zeros. Words that it does not take are
 -- refused by L3 all the same: they are no state's, or their list is not sound.
-use Rattle.std.specs.Prelude.{ℕ, zero, suc, ◌+◌, ◌*◌, Bool, true, cond, not, ◌&&◌, ◌≡◌, List, [], ◌∷◌, length, drop, eqb}
+use Rattle.std.specs.Prelude.{ℕ, zero, suc, ◌+◌, ◌*◌, Bool, true, cond, not, ◌&&◌, ◌≡◌, List, [], ◌∷◌, length, drop, eqb, Option, None, Some}
 use Rattle.fragments.specs.List.{limit}
-use Rattle.gladhamre.specs.Types.{Words, State, Unsound}
 use Rattle.gladhamre.specs.Image.{image_length, word, record_fits, head_fits, StateWords}
 
 -- six words are those of a record in use
@@ -23,8 +22,8 @@ all_zero [] = true
 all_zero (x ∷ w) = eqb x 0 && all_zero w
 
 -- what the words are: a state's with so many records in use and zeros alone after them, or not to be taken
-unfoldable pub words_of : List ℕ → Words
-words_of w = cond (eqb (length w) image_length && (head_fits w && all_zero (drop (7 + 6 * used_in w) w))) (State (used_in w)) Unsound
+unfoldable pub words_of : List ℕ → Option ℕ
+words_of w = cond (eqb (length w) image_length && (head_fits w && all_zero (drop (7 + 6 * used_in w) w))) (Some (used_in w)) None
 
 -- words that are taken, as facts, which the code that reads a state asks
 pub record Taken (w : List ℕ) (used : ℕ) : Type 0 where

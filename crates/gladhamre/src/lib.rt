@@ -3,63 +3,97 @@
 #![tactic(auto)]
 
 mod image;
+mod update;
 
+ghost use Rattle.drive.specs.Step.{drive, request, AnsweredByChange};
+ghost use Rattle.gladhamre.specs.Face.{lending, lent_fits, Faced, BlankFaced};
+ghost use Rattle.gladhamre.specs.Image.{decode};
+ghost use Rattle.gladhamre.specs.Served.{number_of, length_of, recorded_of};
 ghost use Rattle.std.specs.Prelude.{◌≡◌};
-ghost use Rattle.protocol.specs.Answer.{number};
-ghost use Rattle.drive.specs.Step.{request};
-ghost use Rattle.gladhamre.specs.Types.{Link};
-ghost use Rattle.gladhamre.specs.Face.{lending, lent_fits, is_link, Faced, BlankFaced};
 
 use disc::Disc;
-use image::Words;
+use drive::Outcome;
+use image::State;
 use protocol::{Answer, BLOCK_LENGTH, CDB_LENGTH, LinkRefusal};
-
-// The number of a link refusal.
-fn refusal_number(refusal: LinkRefusal) -> u32
-    ensures { result ≡ number (Link refusal) }
-{
-    let answer = Answer::Link(refusal);
-    answer.number()
-}
-
-// Whether a number is a link refusal's.
-fn is_link(number: u32) -> bool
-    ensures { result ≡ is_link number }
-{
-    (number != 0) & (number < 5)
-}
 
 // Whether an image's capacity, where it can be read, goes with the medium, and the pending buffer is one block.
 fn is_lent(state: &[u32], medium: usize, pending: usize) -> bool
     ensures { result ≡ lent_fits state.now medium pending }
 {
-    if state.len() == 0 {
+    let Some(capacity) = state.first() else {
         return pending == BLOCK_LENGTH;
-    }
-    let capacity = state[0];
-    Disc::in_range(capacity)
-        & (medium == BLOCK_LENGTH * (capacity as usize))
+    };
+    Disc::in_range(*capacity)
+        & (medium == BLOCK_LENGTH * (*capacity as usize))
         & (pending == BLOCK_LENGTH)
 }
 
-// Makes the blank disc of a capacity, as an image.
+// Makes the blank disc of a capacity, as an image. The slice and the number are the C interface's.
 pub fn gladhamre_blank(capacity: u32, state: &mut [u32]) -> u32
     ensures { BlankFaced capacity state.old result state.new }
 {
     let made = Disc::blank(capacity);
-    let answer = made.answer;
-    let number = answer.number();
-    if state.len() == image::LENGTH {
-        image::write(state, made.disc);
-        return number;
-    }
-    if number != 0 {
-        return number;
-    }
-    refusal_number(LinkRefusal::UnsoundState)
+    let Some(words) = state.as_mut_array() else {
+        return match made.answer {
+            Answer::Accepted => Answer::Link(LinkRefusal::UnsoundState).number(),
+            refused => refused.number(),
+        };
+    };
+    image::write(words, made.disc);
+    made.answer.number()
 }
 
-// Answers one command. The reply's length and the number of blocks recorded come back through the last two.
+// Serves one command on a state, whose words stay.
+fn serve(
+    cdb: &[u8],
+    data: &[u8],
+    state: State,
+    medium: &mut [u8],
+    pending: &mut [u8],
+    reply: &mut [u8],
+) -> Outcome
+    ensures { AnsweredByChange (drive (decode state.entry.words.now) medium.old pending.old)
+        (request cdb.now «data».now reply.old)
+        result medium.new pending.new reply.new }
+{
+    let disc = state.disc();
+    drive::serve(cdb, data, disc, medium, pending, reply)
+}
+
+// Answers one command. An error is a refusal on the link, and nothing is written then.
+fn answer(
+    cdb: &[u8],
+    data: &[u8],
+    state: &mut [u32],
+    medium: &mut [u8],
+    pending: &mut [u8],
+    reply: &mut [u8],
+) -> Result<Outcome, LinkRefusal>
+    ensures { Faced (lending state.old medium.old pending.old)
+        (request cdb.now «data».now reply.old)
+        (number_of result) (length_of result) (recorded_of result)
+        state.new medium.new pending.new reply.new }
+{
+    if cdb.len() != CDB_LENGTH {
+        return Err(LinkRefusal::CommandBlockLength);
+    }
+    if !is_lent(state, medium.len(), pending.len()) {
+        return Err(LinkRefusal::MediumSize);
+    }
+    let Some(words) = state.as_mut_array() else {
+        return Err(LinkRefusal::UnsoundState);
+    };
+    let before = State::of(words)?;
+    let outcome = serve(cdb, data, before, medium, pending, reply);
+    if let Answer::Link(refusal) = outcome.answer {
+        return Err(refusal);
+    }
+    update::update(words, outcome.change);
+    Ok(outcome)
+}
+
+// Answers one command. The reply's length and the number of blocks recorded come back through the last two; these and the number are the C
+// interface's.
 pub fn gladhamre_command(
     cdb: &[u8],
     data: &[u8],
@@ -77,26 +111,12 @@ pub fn gladhamre_command(
 {
     *count = 0;
     *recorded = 0;
-    if cdb.len() != CDB_LENGTH {
-        return refusal_number(LinkRefusal::CommandBlockLength);
+    match answer(cdb, data, state, medium, pending, reply) {
+        Ok(outcome) => {
+            *count = outcome.length as u64;
+            *recorded = u64::from(outcome.recorded);
+            outcome.answer.number()
+        }
+        Err(refusal) => Answer::Link(refusal).number(),
     }
-    if !is_lent(state, medium.len(), pending.len()) {
-        return refusal_number(LinkRefusal::MediumSize);
-    }
-    let words = image::examine(state);
-    let Words::State(used) = words else {
-        return refusal_number(LinkRefusal::UnsoundState);
-    };
-    let disc = image::read(state, used);
-    let outcome = drive::serve(cdb, data, disc, medium, pending, reply);
-    *count = outcome.length as u64;
-    *recorded = outcome.recorded as u64;
-    let answer = outcome.answer;
-    let number = answer.number();
-    if is_link(number) {
-        return number;
-    }
-    let change = outcome.change;
-    image::update(state, change);
-    number
 }

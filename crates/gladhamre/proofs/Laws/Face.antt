@@ -1,9 +1,9 @@
 -- The C face: its tests in order, and the promise from what each part of the code leaves.
 use mathlib.Core.Path.{◌≡◌, refl, sym, ap, ◌∙◌}
-use mathlib.Core.Bool.{true, false, cond, ◌&&◌}
-use Prim.Native.Nat.{ℕ, ◌*◌}
+use mathlib.Core.Bool.{true, false, cond, not, ◌&&◌, and-false as and_no}
+use Prim.Native.Nat.{ℕ, ◌*◌, ◌≤◌}
 use native.Mathlib.Omega.{arith}
-use borrow.Author.Tests.{eq-eqb, ne_eqb}
+use borrow.Author.Tests.{eq-eqb, ne_eqb, le-ltb}
 use mathlib.Core.List.{List}
 use lib.Dec.{eqb}
 use lib.ListN.{length}
@@ -14,12 +14,46 @@ use Rattle.commands.specs.Judge.{judge, judge_command}
 use Rattle.disc.specs.Sound.{allowed_state}
 use Rattle.drive.specs.Step.{drive, Request, lent, declined, response_of, Answered, AnsweredByChange}
 use Rattle.drive.proofs.Laws.Step.{verdict-judge, declined-served}
-use Rattle.gladhamre.specs.Types.{Blank, Response, LinkRefusal, CommandBlockLength, MediumSize, UnsoundState, Link, Unsound}
+use Rattle.drive.proofs.Laws.Alike.{step_link}
+use Rattle.gladhamre.specs.Types.{Blank, Response, LinkRefusal, CommandBlockLength, MediumSize, UnsoundState, TransferLength, Answer, Accepted, Link, Drive, DriveRefusal, InvalidOperationCode, WriteProtected, InvalidFieldInCommand, AddressOutOfRange, BlankCheck, InvalidAddressForWrite, IncompleteTrackInSession, EmptyTrack, NoMoreReservations, EndOfUserArea}
+use Rattle.std.specs.Prelude.{None}
 use Rattle.gladhamre.specs.Image.{image_length, word, encode, decode, is_state}
 use Rattle.gladhamre.specs.Used.{words_of}
 use Rattle.gladhamre.specs.Face.{Lent, lent_fits, is_link, refused_face, stepped_face, face, Faced, blank_state, blank_number, BlankFaced}
 use Rattle.gladhamre.proofs.Laws.Image.{state-words}
 use Rattle.gladhamre.proofs.Laws.Used.{unsound-words}
+
+-- a link refusal is told from its number
+pub link_is : (x : LinkRefusal) → is_link (number (Link x)) ≡ true
+link_is CommandBlockLength = refl
+link_is MediumSize = refl
+link_is UnsoundState = refl
+link_is TransferLength = refl
+
+pub drive_number : (x : DriveRefusal) → 5 ≤ number (Drive x)
+drive_number InvalidOperationCode = omega arith
+drive_number WriteProtected = omega arith
+drive_number InvalidFieldInCommand = omega arith
+drive_number AddressOutOfRange = omega arith
+drive_number BlankCheck = omega arith
+drive_number InvalidAddressForWrite = omega arith
+drive_number IncompleteTrackInSession = omega arith
+drive_number EmptyTrack = omega arith
+drive_number NoMoreReservations = omega arith
+drive_number EndOfUserArea = omega arith
+
+pub no-link : (a : Answer) → ((x : LinkRefusal) → a ≡ Link x → ⊥) → is_link (number a) ≡ false
+no-link Accepted h = refl
+no-link (Link x) h = absurd (h x refl)
+no-link (Drive x) h = rw (le-ltb (number (Drive x)) 5 (drive_number x)) (and_no (not (eqb (number (Drive x)) 0)))
+
+pub refused_number : (a : Answer) → (a ≡ Accepted → ⊥) → number a ≡ 0 → ⊥
+refused_number Accepted h e = h refl
+refused_number (Link CommandBlockLength) h e = omega arith
+refused_number (Link MediumSize) h e = omega arith
+refused_number (Link UnsoundState) h e = omega arith
+refused_number (Link TransferLength) h e = omega arith
+refused_number (Drive x) h e = omega (arith, drive_number x)
 
 -- making a blank disc
 module _ (c : ℕ) (w : List ℕ) (b : Blank) (n : ℕ) (made : Blanked c b) (told : n ≡ number b.answer) where
@@ -111,6 +145,17 @@ module _ (l : Lent) (q : Request) where
             filled_buffer = rw (t, lent, h) a.filled_buffer;
           }
 
+      -- a link refusal of the entry
+      pub link-faced :
+          (r : Response) (x : LinkRefusal) (medium pending buffer : List ℕ) → is_state l.state ≡ true
+          → Answered (drive (decode l.state) l.medium l.pending) q r medium pending buffer → r.answer ≡ Link x
+          → Faced l q (number (Link x)) 0 0 l.state medium pending buffer
+      link-faced r x medium pending buffer h a e =
+          let s = drive (decode l.state) l.medium l.pending in
+          let same = step_link s q x (sym a.answer ∙ e) in
+          step-faced r (number (Link x)) 0 0 l.state medium pending buffer h a (ap number (sym e))
+          (sym (a.length ∙ ap (λ z. length z.reply) same)) (sym (a.recorded ∙ ap (λ z. z.recorded) same)) (rw (link_is x))
+
       state-faced :
           (n : ℕ) → is_state l.state ≡ false → n ≡ number (Link UnsoundState)
           → Faced l q n 0 0 l.state l.medium l.pending q.buffer
@@ -130,7 +175,7 @@ module _ (l : Lent) (q : Request) where
           (sym (rw (eq-eqb (length q.cdb) 12 block, fits.range, a)) ∙ verdict-judge s q block fits.buffers) refl
 
       pub unsound-faced :
-          (n : ℕ) → words_of l.state ≡ Unsound → n ≡ number (Link UnsoundState)
+          (n : ℕ) → words_of l.state ≡ None → n ≡ number (Link UnsoundState)
           → Faced l q n 0 0 l.state l.medium l.pending q.buffer
       unsound-faced n e told =
           by_cases (is_state l.state)

@@ -10,13 +10,16 @@ use lib.ListN.{length, get_or, set, take, drop, length-append, length-drop, drop
 use lib.Seq.{drop-cons, drop-drop, get_or-take, take_all, length-take-le, sets, sets-eq}
 use borrow.Author.Tests.{eq-eqb, eqb-true, eqb-false, ltb-true, lt-ltb}
 use lib.Dec.{eqb, ltb}
+use Rattle.std.specs.List.{list_all}
+use Rattle.std.specs.Simd.{first_chunks}
 use Rattle.fragments.specs.Fragment.{unused_record}
 use Rattle.fragments.specs.List.{limit}
+use Rattle.protocol.specs.Answer.{sense}
 use Rattle.fragments.proofs.Laws.Bool.{and_left, and_right, and_both, by_cases}
 use Rattle.drive.specs.Bytes.{splice}
 use Rattle.drive.proofs.Laws.Bytes.{splice-splice, splice-end}
 use Rattle.gladhamre.specs.Types.{Kind, Reserved, Appended, Fragment, Disc}
-use Rattle.gladhamre.specs.Image.{image_length, flag_word, kind_word, kind_of, decode, word, record_of, record_fits, record_words, list_of, list_fits, list_words, head_words, head_fits, encode, is_state, StateWords}
+use Rattle.gladhamre.specs.Image.{image_length, flag_word, kind_word, kind_of, decode, word, record_of, record_fits, record_words, list_of, list_fits, list_words, head_words, head_fits, encode, is_state, StateWords, records_of}
 
 -- as many words stored as there are: only they are left
 pub fill_all : (xs w : List ℕ) → length w ≡ length xs → sets w 0 xs ≡ xs
@@ -50,6 +53,57 @@ six_words (x₀ ∷ x₁ ∷ x₂ ∷ []) h = absurd (omega arith)
 six_words (x₀ ∷ x₁ ∷ x₂ ∷ x₃ ∷ []) h = absurd (omega arith)
 six_words (x₀ ∷ x₁ ∷ x₂ ∷ x₃ ∷ x₄ ∷ []) h = absurd (omega arith)
 six_words (x₀ ∷ x₁ ∷ x₂ ∷ x₃ ∷ x₄ ∷ x₅ ∷ v) h = refl
+
+-- the records as they lie in the words
+pub length-chunks : (n : ℕ) (v : List ℕ) → length (first_chunks 6 n v) ≡ n
+length-chunks zero v = refl
+length-chunks (suc n) v = ap suc (length-chunks n (drop 6 v))
+
+pub records-lent : (w v : List ℕ) (n : ℕ) → n ≡ limit → v ≡ drop 7 w → first_chunks 6 n v ≡ records_of w
+unfolding records_of
+records-lent w v n h e = ap (first_chunks 6 n) e ∙ ap (λ (m : ℕ). first_chunks 6 m (drop 7 w)) h
+
+chunk-at : (n i : ℕ) (v d : List ℕ) → i < n → get_or (first_chunks 6 n v) i d ≡ take 6 (drop (6 * i) v)
+chunk-at zero i v d h = absurd (omega arith)
+chunk-at (suc n) zero v d h = refl
+chunk-at (suc n) (suc i) v d h = chunk-at n i (drop 6 v) d (omega arith) ∙ ap (take 6) (sym (record_after v i))
+
+pub record-at :
+    (w : List ℕ) (n i : ℕ) (d : List ℕ) → i < n → n ≤ limit → get_or (take n (records_of w)) i d ≡ take 6 (drop (6 * i) (drop 7 w))
+unfolding records_of
+record-at w n i d h m = get_or-take n (records_of w) i d h ∙ chunk-at limit i (drop 7 w) d (omega arith)
+
+-- the head as its words, and its tests in one
+pub part_head : (w : List ℕ) → head_fits (take 7 w) ≡ head_fits w
+part_head w =
+    rw (get_or-take 7 w 1 0 (omega arith), get_or-take 7 w 2 0 (omega arith), get_or-take 7 w 3 0 (omega arith), get_or-take 7 w 4 0 (omega arith), get_or-take 7 w 5 0 (omega arith), get_or-take 7 w 6 0 (omega arith))
+
+six_tests : (a b c d e f : Bool) → (a && (b && (c && (d && (e && (f && true)))))) ≡ (a && b && c && d && e && f)
+six_tests false b c d e f = refl
+six_tests true false c d e f = refl
+six_tests true true false d e f = refl
+six_tests true true true false e f = refl
+six_tests true true true true false f = refl
+six_tests true true true true true false = refl
+six_tests true true true true true true = refl
+
+pub head_tests : (w : List ℕ) → length w ≡ 7 → (ltb (word w 1) 2 && list_all (λ x. ltb x 256) (take 5 (drop 2 w))) ≡ head_fits w
+head_tests [] h = absurd (omega arith)
+head_tests (x₀ ∷ []) h = absurd (omega arith)
+head_tests (x₀ ∷ x₁ ∷ []) h = absurd (omega arith)
+head_tests (x₀ ∷ x₁ ∷ x₂ ∷ []) h = absurd (omega arith)
+head_tests (x₀ ∷ x₁ ∷ x₂ ∷ x₃ ∷ []) h = absurd (omega arith)
+head_tests (x₀ ∷ x₁ ∷ x₂ ∷ x₃ ∷ x₄ ∷ []) h = absurd (omega arith)
+head_tests (x₀ ∷ x₁ ∷ x₂ ∷ x₃ ∷ x₄ ∷ x₅ ∷ []) h = absurd (omega arith)
+head_tests (x₀ ∷ x₁ ∷ x₂ ∷ x₃ ∷ x₄ ∷ x₅ ∷ x₆ ∷ v) h = six_tests (ltb x₁ 2) (ltb x₂ 256) (ltb x₃ 256) (ltb x₄ 256) (ltb x₅ 256) (ltb x₆ 256)
+
+-- the head of the state that an image stands for
+pub decoded :
+    (w head : List ℕ) (fs : List Fragment) → head ≡ take 7 w → fs ≡ list_of limit (drop 7 w)
+    → record { capacity = word head 0; finalized = eqb (word head 1) 1; sense = sense (word head 2) (word head 3) (word head 4); pending = word head 5; owner = word head 6; fragments = fs } ≡ decode w
+unfolding decode
+decoded w head fs e f =
+    rw (e, f, get_or-take 7 w 0 0 (omega arith), get_or-take 7 w 1 0 (omega arith), get_or-take 7 w 2 0 (omega arith), get_or-take 7 w 3 0 (omega arith), get_or-take 7 w 4 0 (omega arith), get_or-take 7 w 5 0 (omega arith), get_or-take 7 w 6 0 (omega arith))
 
 -- one turn of the reading
 read_suc :
@@ -112,13 +166,13 @@ write-all w words fs i h l m e = e ∙ ap (λ (x : List Fragment). splice w 7 (l
 
 -- head and records are the image
 pub write_both :
-    (w : List ℕ) (d : Disc) (words words₁ : List ℕ) → length w ≡ image_length → length d.fragments ≡ limit → words ≡ splice w 0 (head_words d)
-    → words₁ ≡ splice words 7 (list_words d.fragments) → words₁ ≡ encode d
-unfolding encode
-write_both w d words words₁ hw hf e f =
+    (w : List ℕ) (d : Disc) (head words : List ℕ) → length w ≡ image_length → length d.fragments ≡ limit → head ≡ head_words d
+    → words ≡ splice (head ++ drop 7 w) 7 (list_words d.fragments) → words ≡ encode d
+unfolding encode splice
+write_both w d head words hw hf e f =
     let l = length-list d.fragments in
     f
-    ∙ (ap (λ (m : List ℕ). splice m 7 (list_words d.fragments)) e
+    ∙ (ap (λ (h : List ℕ). splice (h ++ drop 7 w) 7 (list_words d.fragments)) e
     ∙ (splice-splice w 0 7 (head_words d) (list_words d.fragments) (omega arith) refl
     ∙ splice-end w 0 (head_words d ++ list_words d.fragments) (omega (arith, l, length-append (head_words d) (list_words d.fragments)))))
 

@@ -1,6 +1,7 @@
 -- What a change writes into an image: the words of one record in their place, and words of the head.
 use mathlib.Core.Path.{◌≡◌, refl, sym, ap, ◌∙◌}
-use mathlib.Core.Bool.{Bool}
+use mir.Val.{bool_byte}
+use mathlib.Core.Bool.{Bool, true, false}
 use mathlib.Core.List.{List, [], ◌∷◌, ◌++◌, append_assoc}
 use Prim.Native.Nat.{ℕ, zero, suc, ◌+◌, ◌-◌, ◌*◌, ◌≤◌, ◌<◌}
 use native.Mathlib.Omega.{arith}
@@ -73,6 +74,10 @@ module _ (w : List ℕ) (e : Entry) (d : Disc) (i : ImageOf w d) where
       }
 
 -- words of the head
+pub byte_flag : (b : Bool) → bool_byte b ≡ flag_word b
+byte_flag true = refl
+byte_flag false = refl
+
 pub sense-put : (w : List ℕ) (s : Sense) (d : Disc) → ImageOf w d → ImageOf (set (set (set w 2 s.key) 3 s.asc) 4 s.ascq) (with_sense d s)
 unfolding encode
 sense-put w s d i = record { words = rw i.words; array = i.array }

@@ -1,14 +1,19 @@
-use Rattle.gladhamre.proofs.Laws.Face.{blank-whole, blank-bad, blank-short}
+use mathlib.Core.Path.{refl, sym, ap, ◌∙◌}
+use Rattle.protocol.specs.Answer.{number}
+use Rattle.gladhamre.proofs.Laws.Face.{refused_number, blank-whole, blank-bad, blank-short}
 use Rattle.gladhamre.proofs.gladhamre_blank.Goals as goal
 
-pub returns-then-state-eq-LENGTH : goal.returns-then-state-eq-LENGTH
-returns-then-state-eq-LENGTH c =
-    blank-whole c.args.capacity c.args.state.now c.blank-made.result c.number-number.result c.blank-made.ensures c.number-number.ensures c.write.new.words c.if-state-eq-LENGTH.true c.write.ensures
+pub returns-in-Accepted : goal.returns-in-Accepted
+returns-in-Accepted c =
+    let made = c.blank-made.result in
+    blank-short c.args.capacity c.args.state.now made (number made.answer) c.blank-made.ensures refl c.in_default.ensures.cases c.number.result (ap number c.in-Accepted.is) c.number.ensures
 
-pub returns-then-number-ne0 : goal.returns-then-number-ne0
-returns-then-number-ne0 c =
-    blank-bad c.args.capacity c.args.state.now c.blank-made.result c.number-number.result c.blank-made.ensures c.number-number.ensures c.if-state-eq-LENGTH.false c.if-number-ne0.true
+pub returns-in_default-answer : goal.returns-in_default-answer
+returns-in_default-answer c =
+    let made = c.blank-made.result in
+    blank-bad c.args.capacity c.args.state.now made c.number-in_default-answer.result c.blank-made.ensures c.number-in_default-answer.ensures c.in_default.ensures.cases
+    (λ z. refused_number made.answer c.in_default-answer.not-Accepted (sym c.number-in_default-answer.ensures ∙ z))
 
 pub returns : goal.returns
 returns c =
-    blank-short c.args.capacity c.args.state.now c.blank-made.result c.number-number.result c.blank-made.ensures c.number-number.ensures c.if-state-eq-LENGTH.false c.refusal_number.result c.if-number-ne0.false c.refusal_number.ensures
+    blank-whole c.args.capacity c.args.state.now c.blank-made.result c.number-2.result c.blank-made.ensures c.number-2.ensures c.write.new.words c.in-Some.ensures.cases.long c.write.ensures

@@ -1,6 +1,6 @@
-use Rattle.gladhamre.proofs.Laws.Update.{finalized-put}
+use Rattle.gladhamre.proofs.Laws.Update.{byte_flag, finalized-put}
 use Rattle.disc.specs.Apply.{affected}
-use Rattle.gladhamre.proofs.image.put_effect.Goals as goal
+use Rattle.gladhamre.proofs.update.put_effect.Goals as goal
 
 pub returns-in-Keep : goal.returns-in-Keep
 unfolding affected
@@ -16,7 +16,7 @@ returns-in-Reserve c = rw c.in-Reserve.is c.put_both.ensures
 
 pub returns-in-Close : goal.returns-in-Close
 unfolding affected
-returns-in-Close c = rw (c.in-Close.is, c.flag_word.ensures) (λ d i. finalized-put _ _ _ (c.put_both-in-Close.ensures _ (c.settle-in-Close.ensures d i)))
+returns-in-Close c = rw (c.in-Close.is, c.from.ensures, byte_flag) (λ d i. finalized-put _ _ _ (c.put_both-in-Close.ensures _ (c.settle-in-Close.ensures d i)))
 
 pub returns-in-Grow : goal.returns-in-Grow
 unfolding affected

@@ -1,12 +1,12 @@
 -- For the reader: when a WRITE and when a READ is accepted. When CLOSE 001 opens a new tail is said by `new-tail` of Keep; what 010 and 110 keep and
 -- drop by `kept-blank`, `kept-tail` and `kept_same` of Session of `commands`, and what they make of it by `session-done` and `finalize-done`.
 use Prim.Native.Nat.{ℕ, ◌+◌, ◌-◌, ◌≤◌, ◌<◌, ◌/◌}
-use mathlib.Core.Path.{◌≡◌, refl, sym, ◌∙◌, ap}
+use mathlib.Core.Path.{◌≡◌, refl, ap}
 use mathlib.Core.Bool.{true}
 use native.Mathlib.Omega.{arith}
-use borrow.Author.Tests.{ne_eqb, le-ltb, ltb-false}
+use borrow.Author.Tests.{le-ltb, ltb-false}
 use lib.Dec.{eqb, ltb}
-use Rattle.outcomes.specs.Types.{Lba, Disc, Option, Some, None, Verdict, Accepted, Drive, WriteProtected, EndOfUserArea, AddressOutOfRange, BlankCheck}
+use Rattle.outcomes.specs.Types.{Lba, Disc, Option, Some, None, Verdict, Accepted, Drive, EndOfUserArea}
 use Rattle.fragments.specs.Address.{first_sector, lba, sectors_in}
 use Rattle.fragments.specs.Fragment.{end}
 use Rattle.disc.specs.Records.{pending_in, numbered, writable_at, is_readable}
@@ -14,12 +14,11 @@ use Rattle.disc.specs.Ready.{Ready}
 use Rattle.decisions.specs.Plan.{plan}
 use Rattle.disc.specs.Verdict.{accepted, accept, refuse}
 use Rattle.protocol.specs.Reply.{no_reply}
-use Rattle.commands.specs.Read.{all_readable, sending, read}
+use Rattle.commands.specs.Read.{sending, read}
 use Rattle.commands.specs.Write.{flush_others_count, Writable, write_to, write_found, write}
-use Rattle.fragments.proofs.Laws.Bool.{by_cases, cond_yes, cond_no, cond_cases, contradiction}
+use Rattle.fragments.proofs.Laws.Bool.{by_cases, cond_cases, contradiction}
 use Rattle.disc.proofs.Laws.Rules.{sound-rules}
 use Rattle.commands.proofs.Laws.Write.{writable_found, takes-found, place, write_count, flush_count_most}
-use Rattle.commands.proofs.Laws.Flush.{rise_same}
 use Rattle.commands.proofs.Laws.Read.{all_readable-at, at-all_readable, read-sent}
 
 -- a WRITE of n at an address: the address is the next writable one of an incomplete fragment, and n sectors fit there
@@ -54,16 +53,7 @@ found-takes d a n None e h = absurd (let z : ◌≡◌ {A = ℕ} 0 1 = cc in ome
 
 pub write-takes : (d : Disc) (a : Lba) (n : ℕ) → (n ≡ 0 → ⊥) → (write d a n).answer ≡ Accepted → Takes d a n
 unfolding write refuse
-write-takes d a n z e =
-    by_cases d.finalized
-    (λ f.
-    absurd
-    (let k : Drive WriteProtected ≡ Accepted = sym (ap (λ (v : Verdict). v.answer) (cond_no (eqb n 0) _ _ (ne_eqb _ _ z) ∙ cond_yes d.finalized _ _ f)) ∙ e in
-    let q : ◌≡◌ {A = ℕ} 0 1 = cc in
-    omega arith))
-    (λ f.
-    found-takes d a n (writable_at d a) refl
-    (sym (ap (λ (v : Verdict). v.answer) (cond_no (eqb n 0) _ _ (ne_eqb _ _ z) ∙ cond_no d.finalized _ _ f)) ∙ e))
+write-takes d a n z e = grind (arith, found-takes)
 
 -- a READ of 1 up within the disc is accepted exactly when every sector touched is readable
 pub read_done :
@@ -81,23 +71,7 @@ pub accepted-read :
     (d : Disc) (a : Lba) (n : ℕ) → (n ≡ 0 → ⊥) → (read d a n).answer ≡ Accepted
     → (a.0 + n ≤ sectors_in d.capacity) × ((k : ℕ) → k < n → is_readable d (lba (a.0 + k)) ≡ true)
 unfolding read refuse
-accepted-read d a n z e =
-    by_cases (ltb (sectors_in d.capacity) (a.0 + n))
-    (λ h.
-    absurd
-    (let k : Drive AddressOutOfRange ≡ Accepted =
-    sym (ap (λ (v : Verdict). v.answer) (cond_no (eqb n 0) _ _ (ne_eqb _ _ z) ∙ cond_yes (ltb (sectors_in d.capacity) (a.0 + n)) _ _ h)) ∙ e in
-    let q : ◌≡◌ {A = ℕ} 0 1 = cc in
-    omega arith))
-    (λ h.
-    by_cases (all_readable d a n)
-    (λ t. (ltb-false _ _ h, all_readable-at d a n t))
-    (λ t.
-    absurd
-    (let k : Drive BlankCheck ≡ Accepted =
-    sym (ap (λ (v : Verdict). v.answer) (cond_no (eqb n 0) _ _ (ne_eqb _ _ z) ∙ (cond_no (ltb (sectors_in d.capacity) (a.0 + n)) _ _ h ∙ cond_no (all_readable d a n) _ _ t))) ∙ e in
-    let q : ◌≡◌ {A = ℕ} 0 1 = cc in
-    omega arith)))
+accepted-read d a n z e = grind (arith, all_readable-at)
 
 -- a WRITE of n records at most 1 + n/16 blocks
 gathered_most :
@@ -120,15 +94,9 @@ found_most d a n r None e = omega arith
 
 pub write_most : (d : Disc) (a : Lba) (n : ℕ) → Ready d → (write d a n).recorded ≤ 1 + n / 16
 unfolding write accept accepted refuse
-write_most d a n r =
-    cond_cases (λ (v : Verdict). v.recorded ≤ 1 + n / 16) (eqb n 0) _ _ (λ e. omega (arith, rise_same d))
-    (λ e.
-    cond_cases (λ (v : Verdict). v.recorded ≤ 1 + n / 16) d.finalized _ _ (λ f. omega arith)
-    (λ f. found_most d a n r (writable_at d a) refl))
+write_most d a n r = grind (arith, found_most)
 
 -- an accepted READ of 1 up sends its sectors
 pub read_sends : (d : Disc) (a : Lba) (n : ℕ) → (read d a n).answer ≡ Accepted → (n ≡ 0 → ⊥) → (read d a n).plan.transfer ≡ sending d a n
 unfolding accept accepted
-read_sends d a n e z =
-    let h = accepted-read d a n z e in
-    ap (λ (v : Verdict). v.plan.transfer) (read_done d a n z h.0 h.1)
+read_sends d a n e z = grind (arith, accepted-read, read_done)

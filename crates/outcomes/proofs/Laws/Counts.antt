@@ -1,10 +1,11 @@
 -- Changes of the list that record nothing: each fragment keeps its counts, and its start where it has a block recorded.
+use Rattle.std.proofs.lemmas.Bool.Decides.{nat_tests}
 use Prim.Native.Nat.{ℕ, suc, zero, ◌+◌, ◌-◌, ◌≤◌, ◌<◌}
 use mathlib.Core.Path.{◌≡◌, refl, sym, ap, ◌∙◌}
 use mathlib.Core.Bool.{true, ◌&&◌}
 use mathlib.Core.List.{List, [], ◌∷◌}
 use native.Mathlib.Omega.{arith}
-use borrow.Author.Tests.{ltb-true, ltb-false, eqb-true, eq-eqb}
+use borrow.Author.Tests.{ltb-true, eqb-true, eq-eqb}
 use lib.Dec.{eqb, ltb}
 use lib.ListN.{length, get_or, set, length-set}
 use lib.Seq.{get_or-set_same, get_or-set_other}
@@ -15,7 +16,7 @@ use Rattle.disc.specs.Ready.{Ready}
 use Rattle.disc.specs.Rules.{at, Sound}
 use Rattle.commands.specs.Reserve.{split_tail}
 use Rattle.commands.specs.Close.{append_tail, close_tail, open_session}
-use Rattle.fragments.proofs.Laws.Bool.{and_left, and_right, by_cases, cond_yes, cond_no}
+use Rattle.fragments.proofs.Laws.Bool.{and_left, and_right, by_cases}
 use Rattle.fragments.proofs.Laws.Numbers.{equal_cases}
 use Rattle.fragments.proofs.Laws.List.{listed_le, listed_at}
 use Rattle.disc.proofs.Laws.Rules.{sound-rules}
@@ -31,15 +32,10 @@ pub record SameCounts (d e : Disc) : Type 0 where
   pub start : (i : ℕ) → ((at d i).recorded ≡ 0 → ⊥) → (at e i).start.0 ≡ (at d i).start.0
 
 pub same_counts : (d : Disc) → SameCounts d d
-same_counts d = record { recorded = λ i. refl; zeroed = λ i. refl; start = λ i z. refl }
+same_counts d = grind arith
 
 pub counts-on : (d e f : Disc) → SameCounts d e → SameCounts e f → SameCounts d f
-counts-on d e f a b =
-    record {
-      recorded = λ i. b.recorded i ∙ a.recorded i;
-      zeroed = λ i. b.zeroed i ∙ a.zeroed i;
-      start = λ i z. b.start i (λ q. z (sym (a.recorded i) ∙ q)) ∙ a.start i z;
-    }
+counts-on d e f a b = grind arith
 
 -- one record in the place of another with the same counts
 pub put-counts :
@@ -90,26 +86,14 @@ module _ (d : Disc) (s : Sound d) where
 
   -- the place after the last record is free, also with another record in the last one's place
   free-after : (g : Fragment) → numbered (with_record d (used d) g) (used d + 1) ≡ unused_record
-  free-after g =
-      get_or-set_other d.fragments (used d - 1) (used d + 1 - 1) g unused_record (λ q. omega (arith, q, s.some))
-      ∙ s.unused (used d + 1 - 1) (omega arith)
+  free-after g = grind (arith, get_or-set_other)
 
   slot-after : (g : Fragment) → used d < limit → used d + 1 - 1 < length (with_record d (used d) g).fragments
-  slot-after g few = omega (arith, few, s.array, length-set d.fragments (used d - 1) g)
+  slot-after g few = grind (arith, length-set)
 
   -- a fragment with a sector is a record in use
   index_listed : (n : ℕ) → ((numbered d n).recorded + pending_in d n ≡ 0 → ⊥) → n - 1 < used d
-  index_listed n some =
-      by_cases (ltb (n - 1) (used d)) (λ t. ltb-true _ _ t)
-      (λ t.
-      let free = s.unused (n - 1) (ltb-false _ _ t) in
-      let none : (numbered d n).recorded ≡ 0 = ap (λ g. g.recorded) free in
-      by_cases (eqb d.owner n)
-      (λ e.
-      equal_cases d.pending 0
-      (λ z. absurd (some (omega (arith, none, cond_yes (eqb d.owner n) d.pending 0 e, z))))
-      (λ z. let o = s.owned z in omega (arith, o.number, o.listed, eqb-true d.owner n e)))
-      (λ e. absurd (some (omega (arith, none, cond_no (eqb d.owner n) d.pending 0 e)))))
+  index_listed n some = grind (arith, nat_tests)
 
   -- RESERVE
   pub split-counts : (b : ℕ) → has_blank_tail d ≡ true → used d < limit → SameCounts d (split_tail d b)

@@ -8,7 +8,7 @@ use lib.Dec.{eqb, ltb}
 use lib.ListN.{length, set}
 use lib.Seq.{get_or-set_same, set-set}
 use Rattle.outcomes.specs.Types.{Lba, Fragment, Disc, Verdict, Accepted, Gather, Write, Block, Flush, Option, None, Plan}
-use Rattle.fragments.specs.Fragment.{unused_record, end, first_unrecorded}
+use Rattle.fragments.specs.Fragment.{end, first_unrecorded}
 use Rattle.disc.specs.Records.{pending_in, next_writable, used, numbered, with_sense}
 use Rattle.fragments.specs.Address.{lba, first_sector, block}
 use Rattle.protocol.specs.Answer.{no_sense}
@@ -34,22 +34,15 @@ use Rattle.outcomes.proofs.Laws.Accepts.{Takes, takes-accepted}
 module _ (d : Disc) (number n : ℕ) (from : 1 ≤ number) (slot : number ≤ length d.fragments) where
   pub gathered-record : numbered (gather d number n) number ≡ grown_record ((pending_in d number + n) / 16) (numbered d number)
   unfolding gather
-  gathered-record =
-      get_or-set_same d.fragments (number - 1) (grown_record ((pending_in d number + n) / 16) (numbered d number)) unused_record (omega arith)
+  gathered-record = grind (arith, get_or-set_same)
 
   pub gathered-pending : pending_in (gather d number n) number ≡ (pending_in d number + n) % 16
   unfolding gather
-  gathered-pending =
-      let held = (pending_in d number + n) % 16 in
-      by_cases (eqb held 0)
-      (λ z.
-      let none : ◌≡◌ {A = ℕ} held 0 = eqb-true held 0 z in
-      rw z (cond_no (eqb 0 number) held 0 (ne_eqb 0 number (λ q. omega arith)) ∙ sym none))
-      (λ z. rw z (cond_yes (eqb number number) held 0 (eq-eqb number number refl)))
+  gathered-pending = grind arith
 
 -- two records that differ in what is recorded
 grown_path : (f : Fragment) {a b : ℕ} → a ≡ b → ◌≡◌ {A = Fragment} (record { session = f.session; start = f.start; length = f.length; recorded = a; zeroed = f.zeroed; kind = f.kind }) (record { session = f.session; start = f.start; length = f.length; recorded = b; zeroed = f.zeroed; kind = f.kind })
-grown_path f e = λ i. record { session = f.session; start = f.start; length = f.length; recorded = e i; zeroed = f.zeroed; kind = f.kind }
+grown_path f e = grind arith
 
 -- sixteen by sixteen, in two steps or in one
 mod_cut : (x m : ℕ) → (x % 16 + m) % 16 ≡ (x + m) % 16
@@ -134,27 +127,11 @@ module _ (d : Disc) (number n : ℕ) (from : 1 ≤ number) where
 
   gathered-plan : flush_others_plan (with_sense (gather d number n) no_sense) number ≡ None
   unfolding flush_others_plan flush_plan gather
-  gathered-plan =
-      let held = (pending_in d number + n) % 16 in
-      by_cases (eqb held 0)
-      (λ z.
-      let other : eqb (cond (eqb held 0) 0 number) number ≡ false = rw z (ne_eqb 0 number (λ q. omega arith)) in
-      cond_no (eqb (cond (eqb held 0) 0 number) number) _ _ other ∙ cond_yes (eqb held 0) _ _ z)
-      (λ z.
-      let own : eqb (cond (eqb held 0) 0 number) number ≡ true = rw z (eq-eqb number number refl) in
-      cond_yes (eqb (cond (eqb held 0) 0 number) number) _ _ own)
+  gathered-plan = grind arith
 
   gathered-count : flush_others_count (with_sense (gather d number n) no_sense) number ≡ 0
   unfolding flush_others_count flush_count gather
-  gathered-count =
-      let held = (pending_in d number + n) % 16 in
-      by_cases (eqb held 0)
-      (λ z.
-      let other : eqb (cond (eqb held 0) 0 number) number ≡ false = rw z (ne_eqb 0 number (λ q. omega arith)) in
-      cond_no (eqb (cond (eqb held 0) 0 number) number) _ _ other ∙ cond_yes (eqb held 0) _ _ z)
-      (λ z.
-      let own : eqb (cond (eqb held 0) 0 number) number ≡ true = rw z (eq-eqb number number refl) in
-      cond_yes (eqb (cond (eqb held 0) 0 number) number) _ _ own)
+  gathered-count = grind arith
 
 -- the plans of two parts of a WRITE and of the whole
 pub record CutPlans (one two all : Plan) (n m : ℕ) : Type 0 where
@@ -168,7 +145,7 @@ pub record CutPlans (one two all : Plan) (n m : ℕ) : Type 0 where
 -- the second part of a WRITE that was cut in two takes what is left
 module _ (d : Disc) (a : Lba) (n m : ℕ) (r : Ready d) (z : n ≡ 0 → ⊥) (y : m ≡ 0 → ⊥) (t : Takes d a (n + m)) where
   pub first-takes : Takes d a n
-  first-takes = record { number = t.number; here = t.here; fits = omega (arith, t.fits) }
+  first-takes = grind arith
 
   -- the disc between the parts
   pub between : Disc

@@ -1,19 +1,19 @@
 -- What the decision about a command does to the disc.
-use Prim.Native.Nat.{ℕ, ◌+◌, ◌-◌, ◌/◌, ◌≤◌, min, ◌*◌}
+use Rattle.std.proofs.lemmas.Bool.Decides.{nat_tests}
+use Prim.Native.Nat.{ℕ, ◌+◌, ◌/◌, ◌≤◌, min, ◌*◌}
 use mathlib.Core.Path.{◌≡◌, refl, sym}
-use mathlib.Core.Bool.{true, not, ◌||◌}
+use mathlib.Core.Bool.{true, ◌||◌}
 use mathlib.Core.List.{List}
 use native.Mathlib.Omega.{arith}
-use borrow.Author.Tests.{not-false, eq-eqb, le-leb, ne_eqb}
+use borrow.Author.Tests.{eq-eqb, ne_eqb}
 use native.Mathlib.Nat.{le_refl}
-use lib.ListN.{length, replicate, length-append}
+use lib.ListN.{length, length-append}
 use lib.Dec.{eqb}
-use Rattle.outcomes.specs.Types.{Lba, Disc, Verdict, Option, Some, None, Command, TestUnitReady, RequestSense, Inquiry, ReadCapacity, Read, Write, SynchronizeCache, ReserveTrack, CloseTrackSession, GetConfiguration, ReadDiscInformation, ReadTrackInformation, Unlisted, InvalidOperationCode, InvalidFieldInCommand, AddressOutOfRange, BlankCheck, DriveRefusal, LinkRefusal, Accepted, Link, Drive, CommandBlockLength, MediumSize, UnsoundState, TransferLength, WriteProtected, InvalidAddressForWrite, IncompleteTrackInSession, EmptyTrack, NoMoreReservations, EndOfUserArea, Send}
-use Rattle.fragments.specs.Address.{lba}
+use Rattle.outcomes.specs.Types.{Lba, Disc, Verdict, Option, Some, None, Command, TestUnitReady, RequestSense, Inquiry, ReadCapacity, Read, Write, SynchronizeCache, ReserveTrack, CloseTrackSession, GetConfiguration, ReadDiscInformation, ReadTrackInformation, Unlisted, InvalidOperationCode, InvalidFieldInCommand, AddressOutOfRange, BlankCheck, DriveRefusal, LinkRefusal, Accepted, Link, Drive, CommandBlockLength, TransferLength, WriteProtected, InvalidAddressForWrite, IncompleteTrackInSession, EmptyTrack, NoMoreReservations, EndOfUserArea, Send}
 use Rattle.protocol.specs.Answer.{allowed_sense, no_sense, refusal_sense, is_refusal_sense}
 use Rattle.protocol.specs.Command.{decode}
 use Rattle.fragments.specs.List.{sum_recorded}
-use Rattle.disc.specs.Records.{used, is_listed, has_tail, at_address, is_recorded, last_readable}
+use Rattle.disc.specs.Records.{is_recorded, last_readable}
 use Rattle.disc.specs.Sound.{allowed_state}
 use Rattle.disc.specs.Blank.{in_range}
 use Rattle.disc.specs.Ready.{Ready}
@@ -21,18 +21,18 @@ use Rattle.protocol.specs.Lengths.{lengths_fit, reply_room, inquiry_room, config
 use Rattle.decisions.specs.Plan.{no_plan}
 use Rattle.disc.specs.Verdict.{refuse_link, refuse, accepted, accept, rise}
 use Rattle.protocol.specs.Inquiry.{inquiry_bytes}
-use Rattle.protocol.specs.Reply.{report, configuration_reply, said}
+use Rattle.protocol.specs.Reply.{report, said}
 use Rattle.commands.specs.Read.{read}
 use Rattle.reporting.specs.Identity.{inquiry, get_configuration}
 use Rattle.reporting.specs.Reports.{request_sense, read_capacity, disc_report, read_disc_information, track_report, track_verdict, track_found, track_numbered, read_track_information}
 use Rattle.protocol.specs.Reports.{sense_bytes, capacity_bytes, disc_bytes, track_bytes}
 use Rattle.commands.specs.Judge.{judge_as_asked, test_unit_ready, perform, judge_command, judge}
-use mathlib.Core.Logic.{⊎_elim, ◌⊎◌, inl, inr}
+use mathlib.Core.Logic.{◌⊎◌, inl, inr}
 use Rattle.outcomes.specs.Recorded.{records_block, flushes, transfers}
 use Rattle.commands.specs.Write.{write}
 use Rattle.commands.proofs.Laws.Judge.{allowed_ready}
 use Rattle.outcomes.proofs.Laws.Pending.{Pending, pending_same}
-use Rattle.fragments.proofs.Laws.Bool.{cond_cases, and_both, same_test, or_left, or_right, or_cases, contradiction, by_cases}
+use Rattle.fragments.proofs.Laws.Bool.{cond_cases, and_both, contradiction, by_cases}
 use Rattle.disc.proofs.Laws.Rules.{sound-rules}
 use Rattle.disc.proofs.Laws.Onward.{Onward, same_onward, onward-sum}
 use Rattle.outcomes.proofs.Laws.Recorded.{Records, nothing_records}
@@ -51,9 +51,7 @@ report-outcome :
     (d : Disc) (c : Command) (bytes : List ℕ) (n : ℕ) → min (length bytes) n ≤ reply_room c → Ready d
     → Outcome d c (accept d d (report bytes n) no_plan)
 unfolding said
-report-outcome d c bytes n m r =
-    same_outcome d c (report bytes n)
-    (record { fits = m; whole = omega (arith, length-append bytes (replicate (36 - length bytes) 0)) }) r
+report-outcome d c bytes n m r = grind (arith, same_outcome, length-append)
 
 sense-outcome : (d : Disc) (n : ℕ) → Ready d → Outcome d (RequestSense n) (request_sense d n)
 unfolding request_sense sense_bytes reply_room
@@ -71,10 +69,7 @@ inquiry-outcome d p n r =
 
 configuration_outcome : (d : Disc) (t s n : ℕ) → Ready d → Outcome d (GetConfiguration t s n) (get_configuration d t s n)
 unfolding get_configuration reply_room configuration_room said
-configuration_outcome d t s n r =
-    let c = GetConfiguration t s n in
-    cond_cases (Outcome d c) (eqb t 3) _ _ (λ e. refused InvalidFieldInCommand)
-    (λ e. same_outcome d c (configuration_reply t s n) (record { fits = rw e (le_refl _); whole = omega arith }) r)
+configuration_outcome d t s n r = grind (arith, refused, same_outcome)
 
 disc-outcome : (d : Disc) (t n : ℕ) → Ready d → Outcome d (ReadDiscInformation t n) (read_disc_information d t n)
 unfolding read_disc_information disc_bytes reply_room
@@ -94,16 +89,7 @@ module _ (d : Disc) (t n m : ℕ) (r : Ready d) where
 
   track-outcome : Outcome d (ReadTrackInformation t n m) (read_track_information d t n m)
   unfolding read_track_information track_numbered
-  track-outcome =
-      let c = ReadTrackInformation t n m in
-      cond_cases (Outcome d c) (eqb t 0) _ _ (λ e. found-report (at_address d (lba n)))
-      (λ e.
-      cond_cases (Outcome d c) (eqb t 1) _ _
-      (λ h.
-      cond_cases (Outcome d c) (eqb n 0xFF) _ _
-      (λ f. cond_cases (Outcome d c) (has_tail d) _ _ (λ a. track-report (used d)) (λ a. refused InvalidFieldInCommand))
-      (λ f. cond_cases (Outcome d c) (is_listed d n) _ _ (λ a. track-report n) (λ a. refused InvalidFieldInCommand)))
-      (λ h. refused InvalidFieldInCommand))
+  track-outcome = grind (arith, nat_tests, found-report, track-report, refused)
 
 ready_outcome : (d : Disc) → Ready d → Outcome d TestUnitReady (test_unit_ready d)
 unfolding test_unit_ready
@@ -133,16 +119,7 @@ pub data Decided (d : Disc) (c : Command) (n m : ℕ) : Verdict → Type 0 where
 
 pub judge-decided : (d : Disc) (b : List ℕ) (n m : ℕ) → Decided d (decode b) n m (judge d b n m)
 unfolding judge judge_command
-judge-decided d b n m =
-    let c = decode b in
-    cond_cases (Decided d c n m) (not (eqb (length b) 12)) _ _ (λ e. on_link CommandBlockLength)
-    (λ e.
-    cond_cases (Decided d c n m) (not (in_range d.capacity)) _ _ (λ h. on_link MediumSize)
-    (λ h.
-    cond_cases (Decided d c n m) (not (allowed_state d)) _ _ (λ a. on_link UnsoundState)
-    (λ a.
-    cond_cases (Decided d c n m) (not (lengths_fit c n m)) _ _ (λ l. on_link TransferLength)
-    (λ l. by_drive (not-false _ h) (not-false _ a) (not-false _ l)))))
+judge-decided d b n m = grind (arith, nat_tests, on_link, by_drive)
 
 -- the sense that an outcome leaves is allowed
 refusal_allowed : (q : DriveRefusal) → allowed_sense (refusal_sense q) ≡ true
@@ -247,16 +224,7 @@ module _ {c : Command} {n m : ℕ} (d : Disc) where
   -- exactly the blocks that were recorded and those of its plan are recorded then
   pub decided-recorded :
       (v : Verdict) (a : Lba) → Decided d c n m v → is_recorded v.disc a ≡ (is_recorded d a || records_block v.plan (a.0 / 16))
-  decided-recorded v a w =
-      let o = decided-onward v w in
-      let k = a.0 / 16 in
-      same_test
-      (λ t.
-      ⊎_elim (λ h. or_left (records_block v.plan k) (held_recorded d a h)) (λ h. or_right (is_recorded d a) h)
-      (o.was k (recorded_held v.disc a t)))
-      (λ t.
-      or_cases (is_recorded d a) (records_block v.plan k) (λ h. recorded_onward d v.disc _ a o h)
-      (λ h. held_recorded v.disc a (o.adds k h)) t)
+  decided-recorded v a w = grind (arith, nat_tests, held_recorded, recorded_held, decided-onward, recorded_onward)
 
   -- and those of its plan were not recorded before
   pub decided-fresh : (v : Verdict) (a : Lba) → Decided d c n m v → records_block v.plan (a.0 / 16) ≡ true → is_recorded d a ≡ true → ⊥
@@ -289,24 +257,23 @@ judge_performs d b n m c l e r a f = rw (eq-eqb (length b) 12 l, e, r, a, f)
 -- with the lengths that it asks for L4 cannot come up
 pub asked_fit : (c : Command) → lengths_fit c (data_length c) (reply_room c) ≡ true
 unfolding lengths_fit
-asked_fit c = and_both (eq-eqb (data_length c) (data_length c) refl) (le-leb (reply_room c) (reply_room c) (omega arith))
+asked_fit c = grind arith
 
 pub as_asked_performs :
     (d : Disc) (b : List ℕ) → length b ≡ 12 → in_range d.capacity ≡ true → allowed_state d ≡ true → judge_as_asked d b ≡ perform d (decode b)
-as_asked_performs d b l r a = judge_performs d b (data_length (decode b)) (reply_room (decode b)) (decode b) l refl r a (asked_fit (decode b))
+as_asked_performs d b l r a = grind (arith, judge_performs, asked_fit)
 
 pub judge-writes :
     (d : Disc) (b : List ℕ) (n m : ℕ) (a : Lba) (k : ℕ) → length b ≡ 12 → decode b ≡ Write a k → in_range d.capacity ≡ true
     → allowed_state d ≡ true → n ≡ 2048 * k → judge d b n m ≡ write d a k
 unfolding perform lengths_fit data_length reply_room
-judge-writes d b n m a k l e r s f =
-    judge_performs d b n m (Write a k) l e r s (and_both (eq-eqb n (2048 * k) f) (le-leb 0 m (omega arith)))
+judge-writes d b n m a k l e r s f = grind (arith, judge_performs)
 
 pub judge_reads :
     (d : Disc) (b : List ℕ) (m : ℕ) (a : Lba) (k : ℕ) → length b ≡ 12 → decode b ≡ Read a k → in_range d.capacity ≡ true
     → allowed_state d ≡ true → 2048 * k ≤ m → judge d b 0 m ≡ read d a k
 unfolding perform lengths_fit data_length reply_room
-judge_reads d b m a k l e r s f = judge_performs d b 0 m (Read a k) l e r s (and_both refl (le-leb (2048 * k) m f))
+judge_reads d b m a k l e r s f = grind (arith, judge_performs)
 
 pub perform-read : (d : Disc) (a : Lba) (k : ℕ) → perform d (Read a k) ≡ read d a k
 unfolding perform

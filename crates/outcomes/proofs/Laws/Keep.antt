@@ -1,4 +1,5 @@
 -- Every change that a command makes to the list keeps it sound.
+use Rattle.std.proofs.lemmas.Bool.Decides.{nat_tests}
 use Prim.Native.Nat.{ℕ, suc, ◌+◌, ◌-◌, ◌*◌, ◌/◌, ◌%◌, ◌≤◌, ◌<◌}
 use mathlib.Core.Path.{◌≡◌, refl, sym, ◌∙◌, ap}
 use mathlib.Core.Bool.{Bool, true, false, not, ◌&&◌, and-false as and_zero}
@@ -30,7 +31,7 @@ use Rattle.commands.proofs.Laws.Flush.{owner, flush-used, flush_none, flush-reco
 use Rattle.commands.proofs.Laws.Write.{others-numbered, others-pending, others_used, others_alone, place}
 use Rattle.commands.proofs.Laws.Session.{kept-blank, kept-tail, kept_same, tail_written}
 use Rattle.disc.proofs.Laws.Onward.{Onward, same_onward, onward-before, replace_onward, drop-onward, extend_onward, NoBlock}
-use Rattle.disc.proofs.Laws.Order.{Ordered, sound_ordered, open_sound, Replaces, replace-last, drop-last, Extends, extend-sound, extended-last, last-used, drop-used}
+use Rattle.disc.proofs.Laws.Order.{Ordered, open_sound, Replaces, replace-last, drop-last, Extends, extend-sound, extended-last, last-used, drop-used}
 
 -- a tail from a block below the capacity is one, and reaches it
 module _ (c s : ℕ) (b : Block) (h : b.0 < c) where
@@ -42,20 +43,13 @@ module _ (c s : ℕ) (b : Block) (h : b.0 < c) where
 
 -- a blank fragment has no pending sectors
 pub blank_unowned : (d : Disc) (n : ℕ) (f : Fragment) → is_blank d n f ≡ true → (d.pending ≡ 0 → ⊥) → d.owner ≡ n → ⊥
-blank_unowned d n f b z e =
-    z
-    (sym (cond_yes (eqb d.owner n) d.pending 0 (eq-eqb _ _ e))
-    ∙ eqb-true (pending_in d n) 0 (and_right (eqb f.recorded 0) (eqb (pending_in d n) 0) b))
+blank_unowned d n f b z e = grind arith
 
 -- the last record is the one that was put there
 replaced_is :
     (d : Disc) (s : Sound d) (g : Fragment) → (g.length ≡ 0 → ⊥)
     → (used (with_record d (used d) g) ≡ used d) × (last_record (with_record d (used d) g) ≡ g)
-replaced_is d s g l =
-    let n = used d in
-    let u = last-used d s g l in
-    let slot : n - 1 < length d.fragments = omega (arith, s.some, listed_le d.fragments) in
-    (u, ap (λ j. get_or (set d.fragments (n - 1) g) (j - 1) unused_record) u ∙ get_or-set_same d.fragments (n - 1) g unused_record slot)
+replaced_is d s g l = grind (arith, nat_tests, last-used, listed_le, get_or-set_same)
 
 -- RESERVE
 module _
@@ -75,17 +69,7 @@ module _
   reserved-size z = omega arith
 
   reserved-replaces : Replaces d reserved
-  reserved-replaces =
-      record {
-        session = refl;
-        start = refl;
-        size = reserved-size;
-        ends = omega arith;
-        recorded = omega arith;
-        zeroed = omega arith;
-        tailless = refl;
-        unowned = blank_unowned d (used d) (last_record d) (and_right (has_tail d) (is_blank d (used d) (last_record d)) t);
-      }
+  reserved-replaces = grind arith
 
   reserved-used : used reservedDisc ≡ used d
   reserved-used = (replaced_is d s reserved reserved-size).0
@@ -142,19 +126,7 @@ complete_tailless f c = rw c (and_zero (not (is_reserved f.kind)))
 
 -- a written tail that ends with its recorded blocks
 shorten_replaces : (d : Disc) → Sound d → d.pending ≡ 0 → ((last_record d).recorded ≡ 0 → ⊥) → Replaces d (shortened_record (last_record d))
-shorten_replaces d s p w =
-    let l = used d - 1 in
-    let fits = s.recorded l (omega (arith, s.some)) in
-    record {
-      session = refl;
-      start = refl;
-      size = w;
-      ends = omega (arith, s.ends l (omega (arith, s.some)));
-      recorded = omega arith;
-      zeroed = s.zeroed l (omega (arith, s.some));
-      tailless = complete_tailless (shortened_record (last_record d)) (eq-eqb (last_record d).recorded (last_record d).recorded refl);
-      unowned = λ z. absurd (z p);
-    }
+shorten_replaces d s p w = grind (arith, nat_tests)
 
 -- CLOSE 001 of the tail
 module _ (d : Disc) (s : Sound d) (p : d.pending ≡ 0) (w : (last_record d).recorded ≡ 0 → ⊥) where
@@ -222,7 +194,7 @@ module _ (d : Disc) (s : Sound d) (p : d.pending ≡ 0) (w : (last_record d).rec
       omega (arith, ap (λ h. (end h).0) (ap (λ j. numbered shortened j) shortened-used))))))))
 
   shortened-onward : Onward d shortened NoBlock
-  shortened-onward = replace_onward d (shortened_record (last_record d)) s w refl refl
+  shortened-onward = grind (arith, replace_onward)
 
   pub shorten-onward : Onward d (append_tail shortened (used d)) NoBlock
   unfolding append_tail
@@ -248,23 +220,17 @@ module _ (d : Disc) (s : Sound d) (p : d.pending ≡ 0) (w : (last_record d).rec
 
 -- no reserved fragment is incomplete
 some_at : (p : Fragment → Bool) (fs : List Fragment) (i : ℕ) → some p fs ≡ false → i < length fs → p (get_or fs i unused_record) ≡ false
-some_at p fs i e h =
-    by_cases (p (get_or fs i unused_record)) (λ t. absurd (contradiction (at_some p fs i unused_record h t) e)) (λ t. t)
+some_at p fs i e h = grind (arith, at_some)
 
 reserved-complete : (d : Disc) (i : ℕ) → has_incomplete_reserved d ≡ false → i < used d → is_incomplete_reserved (at d i) ≡ false
-reserved-complete d i e h = rw (listed_at d.fragments i unused_record h) at (some_at is_incomplete_reserved (records d) i e h)
+reserved-complete d i e h = grind (arith, listed_at, some_at)
 
 -- then an incomplete fragment is the tail
 incomplete_tail : (f : Fragment) → is_incomplete_reserved f ≡ false → complete f ≡ false → is_tail f ≡ true
-incomplete_tail f r c =
-    by_cases (is_reserved f.kind)
-    (λ k. absurd (contradiction (and_both k (ap not c)) r))
-    (λ k. and_both {a = not (is_reserved f.kind)} (ap not k) (ap not c))
+incomplete_tail f r c = grind arith
 
 pub complete_but_tail : (d : Disc) (i : ℕ) → Sound d → has_incomplete_reserved d ≡ false → suc i < used d → complete (at d i) ≡ true
-complete_but_tail d i s e h =
-    by_cases (complete (at d i)) (λ c. c)
-    (λ c. absurd (omega (arith, (s.tail i (omega arith) (incomplete_tail (at d i) (reserved-complete d i e (omega arith)) c)).0)))
+complete_but_tail d i s e h = grind (arith, incomplete_tail, reserved-complete)
 
 -- the list with its tail closed: in order, complete throughout, without a tail
 pub record Closed (k : Disc) : Type 0 where
@@ -274,12 +240,7 @@ pub record Closed (k : Disc) : Type 0 where
 
 module _ (d : Disc) (s : Sound d) (p : d.pending ≡ 0) (e : has_incomplete_reserved d ≡ false) where
   last-of-ordered : (k : Disc) → Ordered k → ((i : ℕ) → i < used k → complete (at k i) ≡ true) → Closed k
-  last-of-ordered k o c =
-      record {
-        ordered = o;
-        complete = c;
-        tailless = complete_tailless (last_record k) (c (used k - 1) (omega (arith, o.some)));
-      }
+  last-of-ordered k o c = grind arith
 
   closed-dropped : 2 ≤ used d → Closed (with_record d (used d) unused_record)
   closed-dropped two =
@@ -308,14 +269,7 @@ module _ (d : Disc) (s : Sound d) (p : d.pending ≡ 0) (e : has_incomplete_rese
       before_last h q = omega arith
 
   closed_same : has_tail d ≡ false → Closed d
-  closed_same t =
-      last-of-ordered d (sound_ordered d s)
-      (λ i h.
-      by_cases (complete (at d i)) (λ c. c)
-      (λ c.
-      let a = incomplete_tail (at d i) (reserved-complete d i e h) c in
-      let index : i ≡ used d - 1 = omega (arith, (s.tail i h a).0) in
-      absurd (contradiction (rw index at a) t)))
+  closed_same t = grind (arith, nat_tests, incomplete_tail, reserved-complete)
 
   pub close-tail-closed : (has_blank_tail d ≡ true → 2 ≤ used d) → Closed (close_tail d)
   close-tail-closed two =
@@ -341,17 +295,7 @@ module _ (k : Disc) (c : Closed k) (free : used k < limit) (start : (next_sessio
   sessionTail = tail_from k.capacity ((last_record k).session + 1) (next_session_start (end (last_record k)))
 
   session-extends : Extends k sessionTail
-  session-extends =
-      record {
-        free = free;
-        follows = inr (refl, refl);
-        ends = tail-from-end k.capacity ((last_record k).session + 1) (next_session_start (end (last_record k))) start;
-        recorded = refl;
-        zeroed = refl;
-        tail = tail-from-tail k.capacity ((last_record k).session + 1) (next_session_start (end (last_record k))) start;
-        tailless = c.tailless;
-        closed = λ q. c.complete;
-      }
+  session-extends = grind arith
 
   pub open-session-sound : k.finalized ≡ false → Sound (open_session k)
   unfolding open_session
@@ -363,27 +307,7 @@ module _ (k : Disc) (c : Closed k) (free : used k < limit) (start : (next_sessio
 
 -- CLOSE 110
 pub finalize-sound : (k : Disc) → Closed k → k.pending ≡ 0 → Sound (finalized k)
-finalize-sound k c p =
-    let o = c.ordered in
-    record {
-      array = o.array;
-      some = o.some;
-      unused = o.unused;
-      first_session = o.first_session;
-      first_start = o.first_start;
-      next = o.next;
-      ends = o.ends;
-      recorded = o.recorded;
-      zeroed = o.zeroed;
-      incomplete = o.incomplete;
-      tail = o.tail;
-      full = λ e. absurd (contradiction refl e);
-      few = o.few;
-      none = o.none;
-      owned = λ z. absurd (z p);
-      closed = λ e. c.complete;
-      settled = λ e. p;
-    }
+finalize-sound k c p = grind arith
 
 -- the first record of its own session
 first_here : (rs : List Fragment) (n : ℕ) → 1 ≤ length rs → (get_or rs 0 unused_record).session ≡ n → first_of_session n 1 rs ≡ 1

@@ -5,7 +5,7 @@ use mathlib.Core.Bool.{true}
 use mathlib.Core.List.{List}
 use native.Mathlib.Omega.{arith}
 use borrow.Author.Tests.{eq-eqb, eqb-true, leb-true}
-use lib.Dec.{eqb, leb}
+use lib.Dec.{eqb}
 use lib.ListN.{length}
 use Rattle.outcomes.specs.Types.{Lba, Disc, Flush, Option, Transfer, Send, Verdict, Command}
 use Rattle.protocol.specs.Command.{decode}
@@ -41,7 +41,7 @@ reply_fits c n m l = leb-true _ _ (and_right (eqb n (data_length c)) _ l)
 
 -- a block's number fits 32 bits
 block-fits : (d : Disc) (b : ℕ) → in_range d.capacity ≡ true → b ≤ d.capacity → b < 2 ^ 32
-block-fits d b r h = omega (arith, h, leb-true d.capacity 143444 (and_right (leb 256 d.capacity) (leb d.capacity 143444) r))
+block-fits d b r h = grind arith
 
 transfer_fits :
     (d : Disc) (c : Command) (t : Transfer) (k n m : ℕ) → Ready d → k ≡ 32768 * d.capacity → lengths_fit c n m ≡ true → Moved d c t

@@ -1,4 +1,5 @@
 -- What a command does to the list: accepted, it leaves a sound list and the capacity; refused, the disc but for the sense.
+use Rattle.std.proofs.lemmas.Bool.Decides.{nat_tests}
 use Prim.Native.Nat.{ℕ, ◌+◌, ◌-◌, ◌≤◌, ◌<◌, ◌/◌}
 use mathlib.Core.Path.{◌≡◌, refl, sym, ◌∙◌, ap}
 use mathlib.Core.Bool.{true, false, not, ◌&&◌, ◌||◌}
@@ -6,10 +7,10 @@ use native.Mathlib.Omega.{arith}
 use borrow.Author.Tests.{eq-eqb, eqb-false, ltb-false, not-false}
 use lib.Dec.{eqb, ltb}
 use lib.ListN.{length, set}
-use Rattle.outcomes.specs.Types.{Sense, Accepted, Drive, Lba, Kind, Reserved, Appended, Disc, Option, Some, None, Reply, Plan, Verdict, DriveRefusal, LinkRefusal, Link, Nothing, Command, Write, WriteProtected, InvalidFieldInCommand, InvalidAddressForWrite, IncompleteTrackInSession, EmptyTrack, NoMoreReservations, EndOfUserArea, Read, Gather, Fill}
+use Rattle.outcomes.specs.Types.{Sense, Accepted, Drive, Lba, Kind, Reserved, Appended, Disc, Option, Some, None, Reply, Plan, Verdict, DriveRefusal, LinkRefusal, Link, Nothing, Command, Write, InvalidFieldInCommand, InvalidAddressForWrite, IncompleteTrackInSession, EmptyTrack, NoMoreReservations, EndOfUserArea, Read, Gather, Fill}
 use Rattle.fragments.specs.Address.{first_sector, sectors_in}
 use Rattle.protocol.specs.Answer.{no_sense, refusal_sense}
-use Rattle.fragments.specs.Fragment.{end, complete, next_fragment_start, next_session_start, first_unrecorded, shortened_record}
+use Rattle.fragments.specs.Fragment.{end, complete, next_session_start, first_unrecorded, shortened_record}
 use Rattle.disc.specs.Records.{is_blank, pending_in, used, is_listed, numbered, last_record, with_record, has_blank_tail, writable_at, blank_tail_only, with_sense}
 use Rattle.fragments.specs.List.{limit}
 use Rattle.disc.specs.Rules.{Sound}
@@ -26,7 +27,7 @@ use Rattle.commands.specs.Read.{all_readable, sending}
 use Rattle.outcomes.specs.Recorded.{transfers}
 use Rattle.outcomes.proofs.Laws.Pending.{Pending, pending_same, pending_sent, pending_none, pending_filled, pending-gathered, pending_split}
 use Rattle.outcomes.proofs.Laws.Recorded.{Records, set-onward, flush-onward, others_onward, flush-records, both_record, nothing_records, sent-records}
-use Rattle.fragments.proofs.Laws.Bool.{and_both, by_cases, cond_cases, or_right, or_false_left, contradiction}
+use Rattle.fragments.proofs.Laws.Bool.{and_both, cond_cases, or_right, or_false_left, contradiction}
 use Rattle.fragments.proofs.Laws.Numbers.{equal_cases}
 use Rattle.disc.proofs.Laws.Records.{listed-number}
 use Rattle.disc.proofs.Laws.Rules.{sound-rules, rules-sound}
@@ -58,8 +59,7 @@ no_room c = record { fits = omega arith; whole = omega arith }
 -- an accepted command that leaves the list alone
 pub same_outcome :
     (d : Disc) (c : Command) (r : Reply) → Room c r → Ready d → Outcome d c (accept d d r no_plan)
-same_outcome d c r m k =
-    done d r no_plan (sound-rules d k.sound) refl (nothing_records d d (same_onward d)) (placed_none d c) (pending_same d d refl (λ z. refl)) m
+same_outcome d c r m k = grind (arith, nat_tests, done, sound-rules, nothing_records, same_onward, placed_none, pending_same)
 
 -- a READ that is accepted
 pub sent-outcome :
@@ -86,7 +86,7 @@ synchronize_outcome d c r = flush_done d c r
 -- WRITE
 gather_capacity : (d : Disc) (number n : ℕ) → (gather (flush_others d number) number n).capacity ≡ d.capacity
 unfolding gather flush_others
-gather_capacity d number n = cond_cases (λ e. e.capacity ≡ d.capacity) (eqb d.owner number) d (flush d) (λ e. refl) (λ e. flush_capacity d)
+gather_capacity d number n = grind (arith, flush_capacity)
 
 pub gathered_list :
     (d : Disc) (number n : ℕ)
@@ -128,9 +128,7 @@ found-outcome d a n r None e = refused InvalidAddressForWrite
 
 pub write-outcome : (d : Disc) (a : Lba) (n : ℕ) → Ready d → Outcome d (Write a n) (write d a n)
 unfolding write
-write-outcome d a n r =
-    cond_cases (Outcome d (Write a n)) (eqb n 0) _ _ (λ e. unchanged-outcome d (Write a n) r)
-    (λ e. cond_cases (Outcome d (Write a n)) d.finalized _ _ (λ f. refused WriteProtected) (λ f. found-outcome d a n r (writable_at d a) refl))
+write-outcome d a n r = grind (arith, nat_tests, unchanged-outcome, refused, found-outcome)
 
 -- RESERVE
 split_capacity : (d : Disc) (b : ℕ) → (split_tail d b).capacity ≡ d.capacity
@@ -149,15 +147,11 @@ reserve-outcome d c size r =
 -- CLOSE 001
 append_capacity : (d : Disc) (n : ℕ) → (append_tail d n).capacity ≡ d.capacity
 unfolding append_tail
-append_capacity d n =
-    cond_cases (λ (e : Disc). e.capacity ≡ d.capacity) (ltb (next_fragment_start (end (numbered d n))).0 d.capacity && ltb n limit) _ _
-    (λ t. refl) (λ t. refl)
+append_capacity d n = grind arith
 
 pub append_pending : (d : Disc) (n : ℕ) → (append_tail d n).pending ≡ d.pending
 unfolding append_tail
-append_pending d n =
-    cond_cases (λ (e : Disc). e.pending ≡ d.pending) (ltb (next_fragment_start (end (numbered d n))).0 d.capacity && ltb n limit) _ _
-    (λ t. refl) (λ t. refl)
+append_pending d n = grind arith
 
 fill_records :
     (d : Disc) (n : ℕ) → Ready d → 1 ≤ n → n ≤ used (flush d)
@@ -176,8 +170,7 @@ fill_records d n r from to =
 
 -- a disc with an incomplete fragment is not finalized
 incomplete_open : (d : Disc) (n : ℕ) → Sound d → 1 ≤ n → n ≤ used d → complete (numbered d n) ≡ false → d.finalized ≡ false
-incomplete_open d n s from to c =
-    by_cases d.finalized (λ f. absurd (contradiction (s.closed f (n - 1) (omega arith)) c)) (λ f. f)
+incomplete_open d n s from to c = grind arith
 
 incomplete_outcome :
     (d : Disc) (c : Command) (n : ℕ) → Ready d → 1 ≤ n → n ≤ used (flush d) → is_blank d n (numbered d n) ≡ false → complete (numbered (flush d) n) ≡ false
@@ -277,35 +270,11 @@ finalize-outcome d c r =
 
 pub close-outcome : (d : Disc) (c : Command) (function n : ℕ) → Ready d → Outcome d c (close d function n)
 unfolding close
-close-outcome d c function n r =
-    cond_cases (Outcome d c) (eqb function 0b001) _ _ (λ e. close_fragment-outcome d c n r)
-    (λ e.
-    cond_cases (Outcome d c) (eqb function 0b010) _ _ (λ g. close_session-outcome d c r)
-    (λ g.
-    cond_cases (Outcome d c) (eqb function 0b110) _ _ (λ h. finalize-outcome d c r) (λ h. refused InvalidFieldInCommand)))
+close-outcome d c function n r = grind (arith, close_fragment-outcome, close_session-outcome, finalize-outcome, refused)
 
 -- a sound list stays sound with another sense
 pub sense-sound : (d : Disc) (q : Sense) → Sound d → Sound (with_sense d q)
-sense-sound d q s =
-    record {
-      array = s.array;
-      some = s.some;
-      unused = s.unused;
-      first_session = s.first_session;
-      first_start = s.first_start;
-      next = s.next;
-      ends = s.ends;
-      recorded = s.recorded;
-      zeroed = s.zeroed;
-      incomplete = s.incomplete;
-      tail = s.tail;
-      full = s.full;
-      few = s.few;
-      none = s.none;
-      owned = λ z. let o = s.owned z in record { number = o.number; listed = o.listed; incomplete = o.incomplete };
-      closed = s.closed;
-      settled = s.settled;
-    }
+sense-sound d q s = grind arith
 
 -- so every command keeps the list sound and the capacity
 pub outcome_ready : (d : Disc) (c : Command) (v : Verdict) → Ready d → Outcome d c v → Ready v.disc

@@ -3,11 +3,11 @@ use Prim.Native.Nat.{ℕ, ◌+◌, ◌-◌, ◌/◌, ◌%◌, ◌≤◌, ◌<◌
 use mathlib.Core.Path.{◌≡◌, refl, sym, ◌∙◌, ap}
 use mathlib.Core.Bool.{true, cond}
 use native.Mathlib.Omega.{arith}
-use borrow.Author.Tests.{eqb-true, ne_eqb}
+use borrow.Author.Tests.{ne_eqb}
 use lib.Dec.{eqb}
 use lib.ListN.{length, get_or, set}
 use lib.Seq.{get_or-set_same, get_or-set_other}
-use Rattle.outcomes.specs.Types.{Flush, Block, Lba, Disc, None, Some, Transfer, Nothing, Send, Gather, Fill, Plan}
+use Rattle.outcomes.specs.Types.{Block, Lba, Disc, None, Some, Transfer, Nothing, Send, Gather, Fill, Plan}
 use Rattle.fragments.specs.Fragment.{unused_record, first_unrecorded, reserved_at}
 use Rattle.disc.specs.Records.{pending_in, is_blank, used, numbered, last_record, has_tail, has_blank_tail}
 use Rattle.fragments.specs.List.{limit}
@@ -17,7 +17,7 @@ use Rattle.outcomes.specs.Recorded.{flushed_count, transferred_count, pending_bl
 use Rattle.commands.specs.Flush.{flush_plan}
 use Rattle.commands.specs.Write.{flush_others, flush_others_plan, grown_record, gather}
 use Rattle.commands.specs.Reserve.{split_tail}
-use Rattle.fragments.proofs.Laws.Bool.{by_cases, cond_no, and_right}
+use Rattle.fragments.proofs.Laws.Bool.{cond_no, and_right}
 use Rattle.disc.proofs.Laws.Rules.{sound-rules}
 use Rattle.commands.proofs.Laws.Write.{others-pending, others-numbered, others_length}
 use Rattle.outcomes.proofs.Laws.Keep.{blank_unowned}
@@ -38,38 +38,20 @@ pub record Pending (d : Disc) (p : Plan) (after : Disc) : Type 0 where
 -- a plan that does nothing to them
 pub pending_same : (d after : Disc) → after.pending ≡ d.pending → ((after.pending ≡ 0 → ⊥) → pending_block after ≡ pending_block d) → Pending d no_plan after
 unfolding flushed_count transferred_count transferred_block
-pending_same d after e f =
-    record {
-      flushed = λ b n q. absurd (let z : ◌≡◌ {A = ℕ} 0 1 = cc in omega arith);
-      gathered = λ b h n q. absurd (let z : ◌≡◌ {A = ℕ} 0 1 = cc in omega arith);
-      count = e;
-      place = f;
-    }
+pending_same d after e f = grind arith
 
 pub pending_sent : (d : Disc) (a : Lba) (n i k : ℕ) → Pending d (plan None (Send a n i k)) d
 unfolding flushed_count transferred_count transferred_block
-pending_sent d a n i k =
-    record {
-      flushed = λ b m q. absurd (let z : ◌≡◌ {A = ℕ} 0 1 = cc in omega arith);
-      gathered = λ b h m q. absurd (let z : ◌≡◌ {A = ℕ} 0 1 = cc in omega arith);
-      count = refl;
-      place = λ z. refl;
-    }
+pending_sent d a n i k = grind arith
 
 -- the plan of a flush
 pub plan-flushed : (d : Disc) (b : Block) (n : ℕ) → flush_plan d ≡ Some (recording b n) → (n ≡ d.pending) × (b.0 ≡ pending_block d)
 unfolding flush_plan
-plan-flushed d b n e =
-    by_cases (eqb d.pending 0)
-    (λ z. absurd (let q : None ≡ Some (recording b n) = rw z at e in let w : ◌≡◌ {A = ℕ} 0 1 = cc in omega arith))
-    (λ z.
-    let q : Some (recording (first_unrecorded (numbered d d.owner)) d.pending) ≡ Some (recording b n) = rw z at e in
-    let same : recording (first_unrecorded (numbered d d.owner)) d.pending ≡ recording b n = cc in
-    (sym (ap (λ (f : Flush). f.sectors) same), sym (ap (λ (f : Flush). f.block.0) same)))
+plan-flushed d b n e = grind arith
 
 pub plan_count : (d : Disc) → flushed_count (flush_plan d) d.pending ≡ 0
 unfolding flush_plan flushed_count
-plan_count d = by_cases (eqb d.pending 0) (λ z. rw z (eqb-true d.pending 0 z)) (λ z. rw z)
+plan_count d = grind arith
 
 -- a flush and a transfer that gathers nothing, after which nothing is pending
 pub pending_settled :
@@ -95,20 +77,14 @@ pending_filled d after c k e = pending_settled d after (Fill c k) (λ b h n q. l
 module _ (d : Disc) (number : ℕ) where
   others-flushed : (b : Block) (n : ℕ) → flush_others_plan d number ≡ Some (recording b n) → (n ≡ d.pending) × (b.0 ≡ pending_block d)
   unfolding flush_others_plan
-  others-flushed b n e =
-      by_cases (eqb d.owner number)
-      (λ o. absurd (let q : None ≡ Some (recording b n) = rw o at e in let w : ◌≡◌ {A = ℕ} 0 1 = cc in omega arith))
-      (λ o. plan-flushed d b n (rw o at e))
+  others-flushed b n e = grind (arith, plan-flushed)
 
   others-left : pending_in d number ≡ flushed_count (flush_others_plan d number) d.pending
   unfolding flush_others_plan flushed_count
-  others-left = by_cases (eqb d.owner number) (λ o. rw o) (λ o. rw o (sym (plan_count d)))
+  others-left = grind (arith, plan_count)
 
   held_place : (pending_in d number ≡ 0 → ⊥) → (first_unrecorded (numbered d number)).0 ≡ pending_block d
-  held_place z =
-      by_cases (eqb d.owner number)
-      (λ o. ap (λ k. (first_unrecorded (numbered d k)).0) (sym (eqb-true d.owner number o)))
-      (λ o. absurd (z (cond_no (eqb d.owner number) d.pending 0 o)))
+  held_place z = grind arith
 
 module _ (d : Disc) (number n : ℕ) (r : Ready d) (from : 1 ≤ number) (slot : number ≤ limit) where
   gathered-count : (gather (flush_others d number) number n).pending ≡ (pending_in d number + n) % 16

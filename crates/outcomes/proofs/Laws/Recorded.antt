@@ -2,10 +2,10 @@
 use Prim.Native.Nat.{ℕ, ◌+◌, ◌-◌, ◌≤◌, ◌<◌}
 use mathlib.Core.Path.{◌≡◌, refl, ◌∙◌, ap}
 use mathlib.Core.Bool.{Bool, true, false}
-use mathlib.Core.Logic.{◌⊎◌, inl, inr, ⊎_elim}
+use mathlib.Core.Logic.{◌⊎◌}
 use mathlib.Core.List.{List}
 use native.Mathlib.Omega.{arith}
-use borrow.Author.Tests.{eq-eqb, eqb-true, eqb-false, leb-true, le-leb, ltb-true, lt-ltb}
+use borrow.Author.Tests.{eqb-false, leb-true, le-leb, ltb-true, lt-ltb}
 use lib.Dec.{eqb, leb, ltb}
 use lib.ListN.{length, get_or, set}
 use lib.Seq.{get_or-set_same, get_or-set_other}
@@ -18,7 +18,7 @@ use Rattle.decisions.specs.Plan.{plan, no_plan}
 use Rattle.outcomes.specs.Recorded.{among, flushes, transfers, records_block}
 use Rattle.commands.specs.Flush.{flushed_record, flush, flush_plan}
 use Rattle.commands.specs.Write.{flush_others, flush_others_plan}
-use Rattle.fragments.proofs.Laws.Bool.{and_left, and_right, and_both, or_left, or_right, or_cases, by_cases, contradiction}
+use Rattle.fragments.proofs.Laws.Bool.{and_left, and_right, and_both, by_cases}
 use Rattle.fragments.proofs.Laws.Numbers.{equal_cases}
 use Rattle.fragments.proofs.Laws.List.{listed_le}
 use Rattle.disc.proofs.Laws.Rules.{sound-rules}
@@ -70,13 +70,13 @@ set-onward d e k n g s l grown same start count =
 
 -- one block
 among_one : (b x : ℕ) → among b 1 x ≡ true → eqb x b ≡ true
-among_one b x t = eq-eqb x b (omega (arith, among-from b 1 x t, among_below b 1 x t))
+among_one b x t = grind arith
 
 one_among : (b x : ℕ) → eqb x b ≡ true → among b 1 x ≡ true
-one_among b x t = let e = eqb-true x b t in among_between b 1 x (omega arith) (omega arith)
+one_among b x t = grind arith
 
 no_block : (d e : Disc) (P : ℕ → Bool) → ((x : ℕ) → P x ≡ false) → Onward d e NoBlock → Onward d e (λ x. P x ≡ true)
-no_block d e P f o = onward_as d e NoBlock (λ x. P x ≡ true) (λ x b. absurd b) (λ x t. contradiction t (f x)) o
+no_block d e P f o = grind arith
 
 -- a flush records the pending block
 pub flush-onward : (d : Disc) → Ready d → Onward d (flush d) (λ x. flushes (flush_plan d) x ≡ true)
@@ -104,17 +104,12 @@ others_onward d number r =
 -- what a plan's two parts record together is what the plan records
 pub flush-records : (d e : Disc) (f : Option Flush) → Onward d e (λ x. flushes f x ≡ true) → Onward d e (Records (plan f Nothing))
 unfolding records_block transfers
-flush-records d e f o =
-    onward_as d e (λ x. flushes f x ≡ true) (Records (plan f Nothing)) (λ x t. or_left false t)
-    (λ x t. or_cases (flushes f x) false (λ h. h) (λ h. absurd (contradiction h refl)) t) o
+flush-records d e f o = grind arith
 
 pub both_record :
     (d e : Disc) (f : Option Flush) (t : Transfer) → Onward d e (λ x. (flushes f x ≡ true) ⊎ (transfers t x ≡ true)) → Onward d e (Records (plan f t))
 unfolding records_block
-both_record d e f t o =
-    onward_as d e (λ x. (flushes f x ≡ true) ⊎ (transfers t x ≡ true)) (Records (plan f t))
-    (λ x b. ⊎_elim (λ h. or_left (transfers t x) h) (λ h. or_right (flushes f x) h) b)
-    (λ x b. or_cases (flushes f x) (transfers t x) (λ h. inl h) (λ h. inr h) b) o
+both_record d e f t o = grind arith
 
 pub nothing_records : (d e : Disc) → Onward d e NoBlock → Onward d e (Records no_plan)
 unfolding records_block flushes transfers
@@ -122,4 +117,4 @@ nothing_records d e o = no_block d e (records_block no_plan) (λ x. refl) o
 
 pub sent-records : (d : Disc) (a : Lba) (n i k : ℕ) → Onward d d (Records (plan None (Send a n i k)))
 unfolding records_block flushes transfers
-sent-records d a n i k = no_block d d (records_block (plan None (Send a n i k))) (λ x. refl) (same_onward d)
+sent-records d a n i k = grind arith

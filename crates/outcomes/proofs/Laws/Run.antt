@@ -1,10 +1,10 @@
 -- What a READ hands out of the medium: a stretch within it, each of whose sectors is recorded.
 use Prim.Native.Nat.{ℕ, ◌+◌, ◌*◌, ◌<◌, min}
 use mathlib.Core.Path.{◌≡◌, refl}
-use mathlib.Core.Bool.{true, ◌&&◌}
+use mathlib.Core.Bool.{true}
 use mathlib.Core.List.{List, []}
 use native.Mathlib.Omega.{arith}
-use borrow.Author.Tests.{eqb-true, eq-eqb, le-ltb}
+use borrow.Author.Tests.{eq-eqb, le-ltb}
 use lib.Dec.{eqb, ltb}
 use lib.ListN.{length, drop, length-take}
 use Rattle.outcomes.specs.Types.{Lba, Disc, Transfer, Command}
@@ -21,7 +21,7 @@ use Rattle.outcomes.proofs.Laws.Outcome.{outcome_placed}
 use Rattle.outcomes.proofs.Laws.Judge.{perform-outcome, asked_fit}
 use Rattle.decisions.specs.Run.{stretch, sent, sent_within}
 use Rattle.outcomes.specs.Run.{served, recorded_run, RunOf}
-use Rattle.fragments.proofs.Laws.Bool.{and_left, and_right, by_cases, cond_no}
+use Rattle.fragments.proofs.Laws.Bool.{by_cases, cond_no}
 use Rattle.commands.proofs.Laws.Read.{share_recorded, read_cases}
 use Rattle.outcomes.proofs.Laws.Plan.{Moved, nothing, sends, gathers, fills}
 
@@ -38,10 +38,7 @@ moved_within d c t medium l (fills b n u) = refl
 
 -- what is served has a medium of that length
 served_medium : (d : Disc) (b m : ℕ) → served d b m ≡ true → m ≡ 32768 * d.capacity
-served_medium d b m e =
-    let whole = eqb m (32768 * d.capacity) in
-    eqb-true m (32768 * d.capacity)
-    (and_right (eqb b 12 && in_range d.capacity) whole (and_left (eqb b 12 && in_range d.capacity && whole) (allowed_state d) e))
+served_medium d b m e = grind arith
 
 -- every sector of what it sends is recorded
 pub sent_recorded :
@@ -74,10 +71,7 @@ run_of d b medium r e =
 -- a medium of another length is served nothing
 pub other_medium : (d : Disc) (b medium : List ℕ) → (length medium ≡ 32768 * d.capacity → ⊥) → [] ≡ recorded_run d b medium
 unfolding recorded_run
-other_medium d b medium h =
-    by_cases (served d (length b) (length medium))
-    (λ e. absurd (h (served_medium d (length b) (length medium) e)))
-    (λ e. rw e)
+other_medium d b medium h = grind arith
 
 -- what is decided with the lengths that the block asks for sends the recorded run of the medium: a link refusal sends nothing
 pub asked-run :

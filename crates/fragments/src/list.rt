@@ -24,7 +24,7 @@ pub struct Last {
 }
 
 // Where a fragment's recorded sectors end, and where its readable ones do.
-#[derive(Clone, Copy)]
+#[derive(Clone, Copy, PartialEq, Eq, Default, Debug)]
 pub struct Reach {
     // The address after the last recorded sector.
     pub recorded: Lba,

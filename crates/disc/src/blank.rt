@@ -7,7 +7,7 @@ use fragments::{Fragment, Kind};
 use protocol::{Answer, LinkRefusal, Sense};
 
 // A new disc with the answer beside it. Not a Result: with the refusal L2 comes the all-zero state, whose image C is given.
-#[derive(Clone, Copy)]
+#[derive(Clone, Copy, PartialEq, Eq, Debug)]
 pub struct Blank {
     pub answer: Answer,
     pub disc: Disc,

@@ -11,7 +11,7 @@ impl Disc {
     pub(crate) fn used(self) -> usize
         ensures { result ≡ used self }
     {
-        fragments::used(self.fragments)
+        fragments::in_use(&self.fragments).len()
     }
 
     // The last record with its number.

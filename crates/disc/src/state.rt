@@ -5,7 +5,7 @@ ghost use Rattle.disc.specs.Records.{with_sense};
 use fragments::Fragment;
 use protocol::Sense;
 
-#[derive(Clone, Copy)]
+#[derive(Clone, Copy, PartialEq, Eq, Debug)]
 pub struct Disc {
     // The records in use first; the others are all zero.
     pub fragments: [Fragment; Disc::LIMIT],

@@ -6,7 +6,7 @@ ghost use Rattle.reporting.specs.Reports.{next_writable_or_zero, free_sectors, t
 
 use decisions::Decision;
 use disc::Disc;
-use fragments::{Fragment, Lba};
+use fragments::{Entry, Lba};
 use protocol::{DriveRefusal, Reply, TrackReport};
 
 // The number that stands for the tail.
@@ -16,67 +16,71 @@ const TAIL: usize = 0xFF;
 #[derive(Drop)]
 struct Track<'a> {
     disc: &'a Disc,
-    number: usize,
-    fragment: Fragment,
-    ghost looked_up: { fragment ≡ numbered disc.now number },
+    entry: Entry,
+    ghost listed: { entry.fragment ≡ numbered disc.now entry.number },
 }
 
 impl Track<'_> {
     // Its next writable address, or 0 if it is complete.
     #[tactic(auto, unfolding(crate::specs::Reports::next_writable_or_zero))]
     fn next_writable_or_zero(&self) -> Lba
-        ensures { result ≡ next_writable_or_zero self.now.disc.now self.now.number }
+        ensures { result ≡ next_writable_or_zero self.now.disc.now self.now.entry.number }
     {
-        if self.fragment.is_complete() {
+        let Entry { number, fragment } = self.entry;
+        if fragment.is_complete() {
             return Lba(0);
         }
-        self.disc.next_writable(self.number, self.fragment)
+        self.disc.next_writable(number, fragment)
     }
 
     // The sectors from there to its end, or 0 if it is complete.
     #[tactic(auto, unfolding(crate::specs::Reports::free_sectors))]
     fn free_sectors(&self) -> u64
-        ensures { result ≡ free_sectors self.now.disc.now self.now.number }
+        ensures { result ≡ free_sectors self.now.disc.now self.now.entry.number }
     {
-        if self.fragment.is_complete() {
+        let Entry { number, fragment } = self.entry;
+        if fragment.is_complete() {
             return 0;
         }
-        let next = self.disc.next_writable(self.number, self.fragment);
-        self.fragment.end_address().0.saturating_sub(next.0)
+        let next = self.disc.next_writable(number, fragment);
+        fragment.end_address().0.saturating_sub(next.0)
     }
 
     // What READ TRACK INFORMATION says of it.
     fn report(&self) -> TrackReport
-        ensures { result ≡ track_report self.now.disc.now self.now.number }
+        ensures { result ≡ track_report self.now.disc.now self.now.entry.number }
     {
-        let f = self.fragment;
+        let Entry { number, fragment } = self.entry;
         TrackReport {
-            number: self.number,
-            session: usize::from(f.session),
-            reserved: f.kind.is_reserved(),
-            blank: self.disc.is_blank(self.number, f),
-            written: f.recorded != 0,
-            incomplete: !f.is_complete(),
-            start: f.start.first_sector(),
+            number,
+            session: usize::from(fragment.session),
+            reserved: fragment.kind.is_reserved(),
+            blank: self.disc.is_blank(number, fragment),
+            written: fragment.recorded != 0,
+            incomplete: !fragment.is_complete(),
+            start: fragment.start.first_sector(),
             next: self.next_writable_or_zero(),
             free: self.free_sectors(),
-            size: fragments::sectors_in(f.length),
-            last: f.last_recorded(),
+            size: fragments::sectors_in(fragment.length),
+            last: fragment.last_recorded(),
         }
+    }
+
+    // Its report.
+    #[tactic(auto, using(disc::proofs::Laws::Apply::verdicts), unfolding(crate::specs::Reports::track_verdict))]
+    fn decision(&self, allocation: u16) -> Decision
+        ensures { decided self.now.disc.now result ≡ track_verdict self.now.disc.now allocation self.now.entry.number }
+    {
+        Decision::unchanged(Reply::of_track(self.report(), usize::from(allocation)))
     }
 }
 
 // The report of the fragment with a number.
-#[tactic(auto, using(disc::proofs::Laws::Apply::verdicts), unfolding(crate::specs::Reports::track_verdict))]
-fn track_decision(disc: Disc, number: usize, allocation: u16) -> Decision
-    ensures { decided disc result ≡ track_verdict disc allocation number }
+fn track_decision(disc: &Disc, number: usize, allocation: u16) -> Decision
+    ensures { decided disc.now result ≡ track_verdict disc.now allocation number }
 {
-    let track = Track {
-        disc: &disc,
-        number,
-        fragment: disc.numbered(number),
-    };
-    Decision::unchanged(Reply::of_track(track.report(), usize::from(allocation)))
+    let entry = Entry::new(number, disc.numbered(number));
+    Track { disc, entry }.decision(allocation)
 }
 
 // The report of the fragment that a search has found.
@@ -85,7 +89,7 @@ pub fn track_found(disc: Disc, found: Option<usize>, allocation: u16) -> Decisio
     ensures { decided disc result ≡ track_found disc allocation found }
 {
     match found {
-        Some(number) => track_decision(disc, number, allocation),
+        Some(number) => track_decision(&disc, number, allocation),
         None => Decision::refused(DriveRefusal::AddressOutOfRange),
     }
 }
@@ -98,12 +102,16 @@ pub fn track_numbered(disc: Disc, number: usize, allocation: u16) -> Decision
     if number == TAIL {
         let last = disc.last();
         if last.fragment.is_tail() {
-            return track_decision(disc, last.number, allocation);
+            let tail = Track {
+                disc: &disc,
+                entry: last,
+            };
+            return tail.decision(allocation);
         }
         return Decision::refused(DriveRefusal::InvalidFieldInCommand);
     }
     if disc.is_listed(number) {
-        return track_decision(disc, number, allocation);
+        return track_decision(&disc, number, allocation);
     }
     Decision::refused(DriveRefusal::InvalidFieldInCommand)
 }

@@ -9,7 +9,7 @@ ghost use Rattle.commands.specs.Judge.{judge_command};
 use disc::Disc;
 use protocol::LinkRefusal;
 
-// Its capacity is in range, and it is in a state that a command can leave: made by the tests of the link alone, and asked by every command.
+// Its capacity is in range and its list is sound. The tests of the link alone make one, and every command is a method of it.
 #[derive(Clone, Copy)]
 pub(crate) struct ReadyDisc {
     pub(crate) disc: Disc,

@@ -24,7 +24,7 @@ fn admitted(
     if cdb.len() != protocol::CDB_LENGTH {
         return Err(LinkRefusal::CommandBlockLength);
     }
-    let ready = ReadyDisc::of(disc)?;
+    let ready = ReadyDisc::try_from(disc)?;
     let command = Command::decode(cdb);
     if !command.lengths_fit(data_length, reply_length) {
         return Err(LinkRefusal::TransferLength);

@@ -258,7 +258,9 @@ module _ (w : List ℕ) where
     taken-record i rs e h = ap (λ (l : List (List ℕ)). get_or (take n l) i []) e ∙ record-at w n i [] h taken-most
 
     -- all are read: those not in use are there already
-    pub taken-list : (fs : List Fragment) (i : ℕ) → i ≡ n → fs ≡ list_of i (drop 7 w) ++ drop i (replicate limit unused_record) → fs ≡ list_of limit (drop 7 w)
-    taken-list fs i h e =
+    pub taken-list :
+        (fs z : List Fragment) (i : ℕ) → i ≡ n → z ≡ replicate limit unused_record → fs ≡ list_of i (drop 7 w) ++ drop i z
+        → fs ≡ list_of limit (drop 7 w)
+    taken-list fs z i h u e =
         let same : i ≡ used_in w = h ∙ k.counted in
-        e ∙ rw same (sym (used-list limit (drop 7 w) (sym rest-zero ∙ k.zeros)))
+        e ∙ rw (same, u) (sym (used-list limit (drop 7 w) (sym rest-zero ∙ k.zeros)))

@@ -4,18 +4,19 @@ use Prim.Native.Nat.{ℕ, zero, suc, ◌+◌, ◌*◌, ◌≤◌, ◌<◌}
 use native.Mathlib.Numerals.{add-one}
 use native.Mathlib.Nat.{not-suc-le-zero, le_of_suc-le-suc}
 use native.Mathlib.Omega.{arith}
+use Rattle.std.proofs.lemmas.Bool.Decides.{nat_tests}
 use mathlib.Core.Bool.{Bool, true, false, ◌&&◌}
 use mathlib.Core.List.{List, [], ◌∷◌, ◌++◌}
 use lib.ListN.{length, get_or, set, take, drop, length-append, length-drop}
 use lib.Seq.{drop-cons, drop-drop, get_or-take, take_all, length-take-le}
-use borrow.Author.Tests.{eq-eqb, eqb-true, eqb-false, ltb-true, lt-ltb}
+use borrow.Author.Tests.{eq-eqb, ltb-true, lt-ltb}
 use lib.Dec.{eqb, ltb}
 use Rattle.std.specs.List.{list_all}
 use Rattle.std.specs.Simd.{first_chunks}
 use Rattle.fragments.specs.Fragment.{unused_record}
 use Rattle.fragments.specs.List.{limit}
 use Rattle.protocol.specs.Answer.{sense}
-use Rattle.fragments.proofs.Laws.Bool.{and_left, and_right, and_both, by_cases}
+use Rattle.fragments.proofs.Laws.Bool.{and_left, and_right, and_both}
 use Rattle.drive.specs.Bytes.{splice}
 use Rattle.drive.proofs.Laws.Bytes.{splice-splice, splice-end}
 use Rattle.gladhamre.specs.Types.{Kind, Reserved, Appended, Fragment, Disc}
@@ -164,26 +165,7 @@ write_both w d head words hw hf e f =
 pub state-words : (w : List ℕ) → is_state w ≡ true → StateWords w
 unfolding is_state
 state-words w t =
-    let l : eqb (length w) image_length ≡ true = and_left _ (head_fits w) (and_left _ (list_fits limit (drop 7 w)) t) in
-    let h : head_fits w ≡ true = and_right (eqb (length w) image_length) _ (and_left _ (list_fits limit (drop 7 w)) t) in
-    let t₁ = ltb (word w 1) 2 in
-    let t₂ = t₁ && ltb (word w 2) 256 in
-    let t₃ = t₂ && ltb (word w 3) 256 in
-    let t₄ = t₃ && ltb (word w 4) 256 in
-    let t₅ = t₄ && ltb (word w 5) 256 in
-    let h₅ = and_left t₅ (ltb (word w 6) 256) h in
-    let h₄ = and_left t₄ (ltb (word w 5) 256) h₅ in
-    let h₃ = and_left t₃ (ltb (word w 4) 256) h₄ in
-    let h₂ = and_left t₂ (ltb (word w 3) 256) h₃ in (
-      eqb-true _ _ l,
-      ltb-true _ _ (and_left t₁ (ltb (word w 2) 256) h₂),
-      ltb-true _ _ (and_right t₁ (ltb (word w 2) 256) h₂),
-      ltb-true _ _ (and_right t₂ (ltb (word w 3) 256) h₃),
-      ltb-true _ _ (and_right t₃ (ltb (word w 4) 256) h₄),
-      ltb-true _ _ (and_right t₄ (ltb (word w 5) 256) h₅),
-      ltb-true _ _ (and_right t₅ (ltb (word w 6) 256) h),
-      and_right (eqb (length w) image_length && head_fits w) _ t,
-    )
+    (grind (arith, nat_tests), grind (arith, nat_tests), grind (arith, nat_tests), grind (arith, nat_tests), grind (arith, nat_tests), grind (arith, nat_tests), grind (arith, nat_tests), grind (arith, nat_tests))
 
 -- an encoded state is read back
 kind_back : (k : Kind) → kind_of (kind_word k) ≡ k
@@ -252,16 +234,10 @@ encode-state d h b =
 
 -- a state's words are the image of what they stand for
 flag_same : (n : ℕ) → n < 2 → flag_word (eqb n 1) ≡ n
-flag_same n h =
-    by_cases (eqb n 1)
-    (λ t. let e = eqb-true n 1 t in rw t (sym e))
-    (λ t. let e = eqb-false n 1 t in rw t (omega arith))
+flag_same n h = grind (arith, nat_tests)
 
 kind_same : (n : ℕ) → n < 2 → kind_word (kind_of n) ≡ n
-kind_same n h =
-    by_cases (eqb n 1)
-    (λ t. let e = eqb-true n 1 t in rw t (sym e))
-    (λ t. let e = eqb-false n 1 t in rw t (omega arith))
+kind_same n h = grind (arith, nat_tests)
 
 list_same : (n : ℕ) (v : List ℕ) → length v ≡ 6 * n → list_fits n v ≡ true → list_words (list_of n v) ≡ v
 unfolding list_fits list_of list_words

@@ -4,7 +4,8 @@ use mathlib.Core.Bool.{Bool, true, false, cond, not, ◌&&◌}
 use mathlib.Core.List.{List, [], ◌∷◌, ◌++◌}
 use Prim.Native.Nat.{ℕ, zero, suc, ◌+◌, ◌-◌, ◌*◌, ◌≤◌, ◌<◌}
 use native.Mathlib.Omega.{arith}
-use borrow.Author.Tests.{eq-eqb, ne_eqb, eqb-true, eqb-false, ltb-true, ltb-false}
+use Rattle.std.proofs.lemmas.Bool.Decides.{nat_tests}
+use borrow.Author.Tests.{eq-eqb, ne_eqb, eqb-true, ltb-true, ltb-false}
 use lib.Bits.{bit_or}
 use Rattle.std.specs.List.{fold, position, position_or_len}
 use Rattle.std.specs.Option.{unwrap_or}
@@ -14,7 +15,7 @@ use lib.ListN.{length, get_or, take, drop, replicate, length-drop}
 use lib.Seq.{get_or-take, take_all}
 use Rattle.fragments.specs.Fragment.{unused_record, is_reserved, is_zero}
 use Rattle.fragments.specs.List.{limit, every}
-use Rattle.fragments.proofs.Laws.Bool.{and_left, and_right, and_both, and-false, and_true, and_assoc, by_cases, cond_yes, cond_no, cond_cases, contradiction}
+use Rattle.fragments.proofs.Laws.Bool.{and_left, and_right, and_both, and-false, and_true, and_assoc, by_cases, cond_yes, cond_no, cond_cases}
 use Rattle.fragments.proofs.Laws.Numbers.{or_zero}
 use Rattle.disc.specs.Sound.{used_first, sound, allowed_state}
 use Rattle.disc.proofs.Laws.Rules.{sound-tests}
@@ -79,8 +80,8 @@ used-at (suc n) (suc i) v h =
 zero_word : (w : List ℕ) (i : ℕ) → all_zero w ≡ true → word w i ≡ 0
 unfolding all_zero
 zero_word [] i t = refl
-zero_word (x ∷ w) zero t = eqb-true x 0 (and_left (eqb x 0) (all_zero w) t)
-zero_word (x ∷ w) (suc i) t = zero_word w i (and_right (eqb x 0) (all_zero w) t)
+zero_word (x ∷ w) zero t = grind (arith, nat_tests)
+zero_word (x ∷ w) (suc i) t = zero_word w i (grind (arith, nat_tests))
 
 zero_drop : (n : ℕ) (w : List ℕ) → all_zero w ≡ true → all_zero (drop n w) ≡ true
 unfolding all_zero
@@ -128,10 +129,7 @@ used-list (suc n) v z =
 
 -- a list whose records in use come first, and are zero after those, has such words
 kind_zero : (k : ℕ) → k < 2 → is_reserved (kind_of k) ≡ true → k ≡ 0
-kind_zero k h r =
-    by_cases (eqb k 1)
-    (λ t. let e : false ≡ true = rw t at r in absurd (contradiction e refl))
-    (λ t. let q = eqb-false k 1 t in omega arith)
+kind_zero k h r = grind (arith, nat_tests)
 
 record_zero : (v : List ℕ) → 6 ≤ length v → record_fits v ≡ true → is_zero (record_of v) ≡ true → all_zero (drop 6 v) ≡ true → all_zero v ≡ true
 unfolding all_zero

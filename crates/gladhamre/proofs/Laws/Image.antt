@@ -9,14 +9,14 @@ use mathlib.Core.Bool.{Bool, true, false, ◌&&◌}
 use mathlib.Core.List.{List, [], ◌∷◌, ◌++◌}
 use lib.ListN.{length, get_or, set, take, drop, length-append, length-drop}
 use lib.Seq.{drop-cons, drop-drop, get_or-take, take_all, length-take-le}
-use borrow.Author.Tests.{eq-eqb, ltb-true, lt-ltb}
+use borrow.Author.Tests.{ltb-true}
 use lib.Dec.{eqb, ltb}
 use Rattle.std.specs.List.{list_all}
 use Rattle.std.specs.Simd.{first_chunks}
 use Rattle.fragments.specs.Fragment.{unused_record}
 use Rattle.fragments.specs.List.{limit}
 use Rattle.protocol.specs.Answer.{sense}
-use Rattle.fragments.proofs.Laws.Bool.{and_left, and_right, and_both}
+use Rattle.fragments.proofs.Laws.Bool.{and_left, and_right}
 use Rattle.drive.specs.Bytes.{splice}
 use Rattle.drive.proofs.Laws.Bytes.{splice-splice, splice-end}
 use Rattle.gladhamre.specs.Types.{Kind, Reserved, Appended, Fragment, Disc}
@@ -215,22 +215,16 @@ unfolding list_fits list_words
 list_fits_lem zero fs h s = refl
 list_fits_lem (suc n) [] h s = absurd (omega arith)
 list_fits_lem (suc n) (f ∷ fs) h s =
-    and_both (and_both (lt-ltb _ _ (s 0 (omega arith))) (lt-ltb _ _ (kind_below f.kind))) (list_fits_lem n fs (omega arith) (λ i k. s (suc i) (omega arith)))
+    let first = s 0 (omega arith) in
+    let kind = kind_below f.kind in
+    let rest = list_fits_lem n fs (omega arith) (λ i k. s (suc i) (omega arith)) in grind (arith, nat_tests)
 
 pub encode-state : (d : Disc) → length d.fragments ≡ limit → Bytes d → is_state (encode d) ≡ true
 unfolding is_state encode
 encode-state d h b =
     let l : length (head_words d ++ list_words d.fragments) ≡ image_length = omega (arith, length-list d.fragments, length-append (head_words d) (list_words d.fragments)) in
-    and_both
-    (and_both (eq-eqb _ _ l)
-    (and_both
-    (and_both
-    (and_both
-    (and_both (and_both (lt-ltb _ _ (flag_below d.finalized)) (lt-ltb _ _ b.key)) (lt-ltb _ _ b.asc))
-    (lt-ltb _ _ b.ascq))
-    (lt-ltb _ _ b.pending))
-    (lt-ltb _ _ b.owner)))
-    (list_fits_lem limit d.fragments h b.sessions)
+    let flag = flag_below d.finalized in
+    let fits = list_fits_lem limit d.fragments h b.sessions in grind (arith, nat_tests)
 
 -- a state's words are the image of what they stand for
 flag_same : (n : ℕ) → n < 2 → flag_word (eqb n 1) ≡ n

@@ -3,7 +3,7 @@ ghost use Rattle.std.specs.Prelude.{◌≡◌, true, false, IfOk, IfErr};
 ghost use Rattle.commands.specs.Types.{IncompleteTrackInSession};
 ghost use Rattle.fragments.specs.Fragment.{is_incomplete_reserved};
 ghost use Rattle.fragments.specs.List.{last_of, listed, some};
-ghost use Rattle.decisions.specs.Change.{put};
+ghost use Rattle.fragments.specs.Entry.{put};
 ghost use Rattle.commands.specs.Conclusion.{concluded};
 ghost use Rattle.commands.specs.Flush.{flush, flush_entry, flushing};
 ghost use Rattle.commands.specs.Close.{has_incomplete_reserved, close_tail, close_session, finalize};

@@ -2,7 +2,7 @@ use Prim.Native.Nat.{ℕ, ◌≤◌}
 use Rattle.commands.specs.Types.{Fragment, Disc, Flushing, Reserved, Appended}
 use Rattle.disc.specs.Records.{numbered}
 use Rattle.disc.specs.Ready.{Ready}
-use Rattle.decisions.specs.Change.{over}
+use Rattle.fragments.specs.Entry.{over}
 use Rattle.commands.specs.Flush.{flush, flush_entry, flushing}
 use Rattle.disc.proofs.Laws.Records.{listed-number}
 use Rattle.commands.proofs.Laws.Flush.{flush-used, flush-sound}

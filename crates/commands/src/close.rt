@@ -75,7 +75,8 @@ impl ReadyDisc {
         }
     }
 
-    // CLOSE TRACK/SESSION by its function.
+    // CLOSE TRACK/SESSION by its function: the command block's number, which the definition `close` compares as it is. An enum would only
+    // have the same row a second time.
     #[tactic(auto, unfolding(crate::specs::Close::close))]
     pub(crate) fn close_track_session(
         &self,

@@ -24,7 +24,7 @@ fn admitted(
     if cdb.len() != protocol::CDB_LENGTH {
         return Err(LinkRefusal::CommandBlockLength);
     }
-    let ready = ReadyDisc::of(disc)?;
+    let ready = ReadyDisc::try_from(disc)?;
     let command = Command::decode(cdb);
     if !command.lengths_fit(data_length, reply_length) {
         return Err(LinkRefusal::TransferLength);
@@ -33,7 +33,7 @@ fn admitted(
 }
 
 // The decision about a command block, with data and a reply buffer of these lengths: the link refusals that need no buffer, in order,
-// then the drive.
+// then the drive. Here alone a refusal becomes a decision.
 pub fn decide(disc: Disc, cdb: &[u8], data_length: usize, reply_length: usize) -> Decision
     ensures { Judged disc cdb.now data_length reply_length (decided disc result) }
 {

@@ -9,17 +9,19 @@ ghost use Rattle.commands.specs.Judge.{judge_command};
 use disc::Disc;
 use protocol::LinkRefusal;
 
-// Its capacity is in range, and it is in a state that a command can leave: made by the tests of the link alone, and asked by every command.
+// Its capacity is in range and its list is sound. The tests of the link alone make one, and every command is a method of it.
 #[derive(Clone, Copy)]
 pub(crate) struct ReadyDisc {
     pub(crate) disc: Disc,
     ghost ready: { Ready disc },
 }
 
-impl ReadyDisc {
+impl TryFrom<Disc> for ReadyDisc {
+    type Error = LinkRefusal;
+
     // The tests in order: L2 of the capacity, then L3.
     #[tactic(auto, using(crate::proofs::Laws::Judge::allowed_ready), unfolding(crate::specs::Judge::judge_command))]
-    pub(crate) fn of(disc: Disc) -> Result<ReadyDisc, LinkRefusal>
+    fn try_from(disc: Disc) -> Result<ReadyDisc, LinkRefusal>
         ensures same_disc { IfOk result (λ ready. ready.disc ≡ disc) }
         ensures allowed { OnOk result (allowed_state disc ≡ true) }
         ensures err { IfErr result (λ refusal. (c : Command) (n m : ℕ) → judge_command disc c n m ≡ refuse_link disc refusal) }

@@ -1,7 +1,9 @@
 // CLOSE TRACK/SESSION (5Bh) of the session (010) and of the disc (110).
 ghost use Rattle.std.specs.Prelude.{◌≡◌, true, false, IfOk, IfErr};
 ghost use Rattle.commands.specs.Types.{IncompleteTrackInSession};
-ghost use Rattle.fragments.specs.List.{last_of};
+ghost use Rattle.fragments.specs.Fragment.{is_incomplete_reserved};
+ghost use Rattle.fragments.specs.List.{last_of, listed, some};
+ghost use Rattle.fragments.specs.Entry.{put};
 ghost use Rattle.commands.specs.Conclusion.{concluded};
 ghost use Rattle.commands.specs.Flush.{flush, flush_entry, flushing};
 ghost use Rattle.commands.specs.Close.{has_incomplete_reserved, close_tail, close_session, finalize};
@@ -13,13 +15,21 @@ use fragments::Entry;
 use protocol::{DriveRefusal, Reply};
 
 impl ReadyDisc {
+    // Some reserved fragment is incomplete once a flush has left this record. A function of its own: the copies that it makes of the records
+    // are then gone where the flush is decided.
+    fn stays_incomplete(&self, flushed: Entry) -> bool
+        ensures { result ≡ some is_incomplete_reserved (listed (put flushed self.now.disc.fragments)) }
+    {
+        fragments::has_incomplete_reserved(flushed.put(self.disc.fragments))
+    }
+
     // The flush that comes first; refused where it leaves some reserved fragment incomplete.
     fn closing_flush(&self) -> Result<Flushing, DriveRefusal>
         ensures ok { IfOk result (λ first. (first ≡ flushing self.now.disc) × (has_incomplete_reserved (flush self.now.disc) ≡ false)) }
         ensures err { IfErr result (λ refusal. (refusal ≡ IncompleteTrackInSession) × (has_incomplete_reserved (flush self.now.disc) ≡ true)) }
     {
         let first = self.flushing();
-        if fragments::has_incomplete_reserved(first.entry.put(self.disc.fragments)) {
+        if self.stays_incomplete(first.entry) {
             return Err(DriveRefusal::IncompleteTrackInSession);
         }
         Ok(first)

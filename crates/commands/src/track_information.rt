@@ -9,7 +9,8 @@ use fragments::Lba;
 use protocol::DriveRefusal;
 
 impl ReadyDisc {
-    // By its address type: 0 for an address, 1 for a number.
+    // By its address type, the command block's number: 0 for an address, 1 for a number. The definition compares it as it is; an enum would
+    // only have the same row a second time.
     #[tactic(auto, unfolding(reporting::specs::Reports::read_track_information))]
     pub(crate) fn read_track_information(
         &self,

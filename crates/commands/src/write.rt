@@ -12,7 +12,7 @@ use decisions::{Decision, Effect, Plan, Transfer};
 use fragments::{Entry, Fragment, Lba};
 use protocol::{DriveRefusal, Reply};
 
-// The number beside a pending count: the fragment's, or 0 with none pending.
+// The number beside a pending count: the fragment's, or 0 with none pending, as the state that C keeps has it.
 fn owner_of(pending: usize, number: usize) -> u8
     requires { number ≤ limit }
     ensures { result ≡ cond (eqb pending 0) 0 number }

@@ -5,7 +5,7 @@ use Rattle.features.specs.Bytes.{bytes16}
 use Rattle.fragments.specs.Address.{first_sector}
 use Rattle.fragments.specs.Fragment.{end}
 use Rattle.fragments.specs.List.{some}
-use Rattle.contents.specs.Sessions.{is_closed, last_fragment, closed_fragments, closed_sessions}
+use Rattle.contents.specs.Sessions.{last_fragment, closed_fragments, closed_sessions}
 use Rattle.contents.specs.Entry.{entry}
 
 -- the number of the lead-out's entry, which no session has
@@ -21,14 +21,6 @@ unfoldable pub session_entries : ℕ → ℕ → List Fragment → List ℕ
 session_entries time start [] = []
 session_entries time start (f ∷ fs) =
     cond (leb start f.session) (session_entry time f ++ session_entries time start fs) (session_entries time start fs)
-
--- whether a fragment is the first one of a closed session, from a starting number on, and the bytes of its entry then; the fragment before it is of
--- the session `before`, and `last` is the number of the last session
-abbrev pub is_shown : Bool → ℕ → ℕ → ℕ → Fragment → Bool
-is_shown finalized last before start f = not (eqb f.session before) && is_closed finalized last f && leb start f.session
-
-abbrev pub shown_entry : Bool → ℕ → ℕ → ℕ → ℕ → Fragment → List ℕ
-shown_entry finalized last before time start f = cond (is_shown finalized last before start f) (session_entry time f) []
 
 -- form 0: the closed sessions from a starting number on, then the lead-out, which begins where the last closed session ends
 abbrev pub sessions_form : Bool → List Fragment → ℕ → ℕ → List ℕ

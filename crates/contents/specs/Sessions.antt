@@ -1,16 +1,12 @@
 -- The closed sessions of a fragment list.
-use Rattle.std.specs.Prelude.{ℕ, Bool, cond, not, ◌&&◌, ◌||◌, List, [], ◌∷◌, eqb, ltb}
-use Rattle.contents.specs.Types.{Fragment}
+use Rattle.std.specs.Prelude.{ℕ, Bool, cond, ◌||◌, List, [], ◌∷◌, eqb, ltb}
+use Rattle.contents.specs.Types.{Fragment, Sessions}
 use Rattle.fragments.specs.Fragment.{unused_record}
 use Rattle.fragments.specs.List.{listed, last_of}
 
 -- a session is closed if it comes before the last one, and on a finalized disc in any case
 abbrev pub is_closed : Bool → ℕ → Fragment → Bool
 is_closed finalized last f = finalized || ltb f.session last
-
--- a fragment is the first one of a closed session; the one before it is of the session `before`
-abbrev pub begins_closed : Bool → ℕ → ℕ → Fragment → Bool
-begins_closed finalized last before f = not (eqb f.session before) && is_closed finalized last f
 
 -- those of some fragments whose session is closed; `last` is the number of the last session
 unfoldable pub closed_of : Bool → ℕ → List Fragment → List Fragment
@@ -40,3 +36,7 @@ closed_fragments finalized fs = closed_of finalized (last_session fs) (listed fs
 
 abbrev pub closed_sessions : Bool → List Fragment → List Fragment
 closed_sessions finalized fs = closed_of finalized (last_session fs) (firsts 0 (listed fs))
+
+-- the closed sessions that an iterator of them has left
+abbrev pub sessions_left : Sessions → List Fragment
+sessions_left s = closed_of s.closing.finalized s.closing.last (firsts s.before s.records.now)

@@ -2,10 +2,10 @@
 ghost use Rattle.std.specs.Prelude.{◌≡◌, [], ◌∷◌, ◌++◌, ◌+◌, ◌-◌, ◌*◌, ◌≤◌, ◌^◌, length};
 ghost use Rattle.features.specs.Bytes.{bytes16, stored};
 ghost use Rattle.fragments.specs.List.{limit};
-ghost use Rattle.contents.specs.Sessions.{closed_of, firsts};
+ghost use Rattle.contents.specs.Sessions.{sessions_left};
 ghost use Rattle.contents.specs.Contents.{session_entries, toc_bytes};
 
-use crate::closed::Closing;
+use crate::closed::{Closing, Sessions};
 use crate::entry::{self, entry};
 use fragments::{Fragment, LIMIT};
 
@@ -30,22 +30,18 @@ fn put(target: &mut [u8], at: usize, source: &[u8]) -> usize
     at + source.len()
 }
 
-// Puts an entry for each closed session from a starting number on, after the header; the place after them.
-fn put_sessions(closing: Closing, time: u8, start: u8, reply: &mut [u8]) -> usize
-    requires { length closing.records.now ≤ limit }
-    ensures place { result
-        ≡ 4 + length (session_entries time start (closed_of closing.entry.finalized closing.entry.last (firsts 0 closing.entry.records.now))) }
-    ensures bytes { reply.new
-        ≡ stored reply.old 4 (session_entries time start (closed_of closing.entry.finalized closing.entry.last (firsts 0 closing.entry.records.now))) }
+// Puts an entry for each of some sessions from a starting number on, after the header; the place after them.
+fn put_sessions(sessions: Sessions, time: u8, start: u8, reply: &mut [u8]) -> usize
+    requires { length (sessions_left sessions) ≤ limit }
+    ensures place { result ≡ 4 + length (session_entries time start (sessions_left sessions.entry)) }
+    ensures bytes { reply.new ≡ stored reply.old 4 (session_entries time start (sessions_left sessions.entry)) }
     ensures most { result ≤ 4 + 8 * limit }
 {
     let mut at = HEADER;
-    let mut before = 0;
-    for f in closing.records {
-        if closing.begins(before, *f) & (start <= f.session) {
+    for f in sessions {
+        if start <= f.session {
             at = put(reply, at, &entry(time, f.session, f.start.first_sector()));
         }
-        before = f.session;
     }
     at
 }
@@ -70,23 +66,21 @@ pub fn write(
 )
     ensures { reply.new ≡ stored reply.old 0 (toc_bytes finalized fragments form time start) }
 {
+    let records = fragments::in_use(&fragments);
     let newest = fragments::last_record(fragments);
     let closing = Closing {
-        records: fragments::in_use(&fragments),
         finalized,
         last: newest.fragment.session,
     };
-    let last = closing.last_fragment();
+    let last = closing.last_fragment(records);
+    let sessions = closing.sessions(records);
     let end = if form == 0 {
-        let at = put_sessions(closing, time, start, reply);
+        let at = put_sessions(sessions, time, start, reply);
         put(reply, at, &entry(time, LEAD_OUT, last.end_address()))
     } else {
-        let first = closing.last_session();
-        put(
-            reply,
-            HEADER,
-            &entry(time, first.session, first.start.first_sector()),
-        )
+        let first = sessions.last().unwrap_or_default();
+        let address = first.start.first_sector();
+        put(reply, HEADER, &entry(time, first.session, address))
     };
     put(reply, 0, &header(last.session, end - HEADER));
 }

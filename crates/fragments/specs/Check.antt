@@ -1,5 +1,5 @@
--- The check of the list as the code makes it, in one walk along the records. A law of the disc has that it is the rules of a sound
--- list, joined (`check_sound`): a reader who believes those need not believe this file.
+-- The check of the list as one walk along the records, and at the end in two parts, as the code makes it. A law of the disc has that it is
+-- the rules of a sound list, joined (`check_sound`): a reader who believes those need not believe this file.
 use Rattle.std.specs.Prelude.{ℕ, ◌+◌, Bool, true, false, not, cond, ◌&&◌, ◌||◌, List, [], ◌∷◌, eqb, leb}
 use Rattle.fragments.specs.Types.{Fragment}
 use Rattle.fragments.specs.Address.{sectors_in}

@@ -11,7 +11,7 @@ use crate::numbered::Entry;
 pub const LIMIT: usize = 160;
 
 // Where a fragment's recorded sectors end, and where its readable ones do.
-#[derive(Clone, Copy)]
+#[derive(Clone, Copy, PartialEq, Eq, Default, Debug)]
 pub struct Reach {
     // The address after the last recorded sector.
     pub recorded: Lba,

@@ -1,5 +1,5 @@
 // The C face's exports: functions that firmware in C or Rust links, each with the promise of the function of crate gladhamre that it calls.
-// include/gladhamre.h declares them. Every one is total.
+// include/gladhamre.h declares them. Every one is total. A static library, and so no crate that others stand on.
 #![tactic(auto)]
 
 ghost use Rattle.drive.specs.Step.{request};

@@ -3,6 +3,5 @@ pub mod Types
 pub mod Text
 pub mod Line
 pub mod Replay
-pub mod Input
 pub mod Transcript
 pub mod Output

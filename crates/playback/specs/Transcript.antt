@@ -1,5 +1,5 @@
 -- All that a replay prints, and document 01's printed example.
-use Rattle.std.specs.Prelude.{◌≡◌, ℕ, List, [], ◌∷◌, ◌++◌, refl}
+use Rattle.std.specs.Prelude.{◌≡◌, ℕ, Some, List, [], ◌∷◌, ◌++◌, refl}
 use Rattle.protocol.specs.Answer.{is_refusal_sense, allowed_sense}
 use Rattle.protocol.specs.Command.{decode}
 use Rattle.fragments.specs.List.{listed, some, every, find, sum_recorded}
@@ -10,7 +10,7 @@ use Rattle.disc.specs.Verdict.{accepted, accept, refuse, refuse_link}
 use Rattle.commands.specs.Flush.{flush, flush_plan, synchronize_cache}
 use Rattle.commands.specs.Write.{flush_others, flush_others_plan, gather, write_to, write_found, write}
 use Rattle.commands.specs.Judge.{perform, judge_command, judge}
-use Rattle.trace.specs.Record.{bad_mark, reading_of, step_of, step_at}
+use Rattle.trace.specs.Record.{bad_mark, reading_of, reason_of, step_of, step_at}
 use Rattle.trace.specs.Whole.{cdbs, position_after, trace_of, whole_cdbs, whole_end}
 use Rattle.playback.specs.Types.{BadMark, CutShort, End, Replay}
 use Rattle.playback.specs.Text.{digits, next_text, words}
@@ -31,7 +31,7 @@ lines r (b ∷ bs) = line_text r b ++ lines (onward r b) bs
 unfoldable pub transcript : List ℕ → List ℕ
 transcript trace =
     heading
-    ++ (lines start (whole_cdbs trace) ++ last_text (replayed start (whole_cdbs trace)) (step_at trace (whole_end trace)).reading)
+    ++ (lines start (whole_cdbs trace) ++ last_text (replayed start (whole_cdbs trace)) (reason_of (step_at trace (whole_end trace))))
 
 -- WRITE 0 of 20, WRITE 16 of 1, SYNCHRONIZE CACHE
 abbrev pub three : List (List ℕ)
@@ -60,7 +60,7 @@ example = refl
 
 -- the last line before any record: 1 bad, 1 cut, or nothing at the end of an empty trace
 pub last_lines :
-    (last_text start BadMark ≡ (0x31 ∷ 0x20 ∷ 0x62 ∷ 0x61 ∷ 0x64 ∷ 0x0A ∷ []))
-    × (last_text start CutShort ≡ (0x31 ∷ 0x20 ∷ 0x63 ∷ 0x75 ∷ 0x74 ∷ 0x0A ∷ [])) × (last_text start End ≡ [])
+    (last_text start (Some BadMark) ≡ (0x31 ∷ 0x20 ∷ 0x62 ∷ 0x61 ∷ 0x64 ∷ 0x0A ∷ []))
+    × (last_text start (Some CutShort) ≡ (0x31 ∷ 0x20 ∷ 0x63 ∷ 0x75 ∷ 0x74 ∷ 0x0A ∷ [])) × (last_text start (Some End) ≡ [])
 unfolding last_text digits words
 last_lines = (refl, refl, refl)

@@ -1,11 +1,12 @@
 // A replay: the disc from command to command, and what is printed for what stands in the trace.
 ghost use Rattle.std.specs.Prelude.{◌≡◌};
-ghost use Rattle.playback.specs.Line.{Printed};
+ghost use Rattle.trace.specs.Record.{reason_of};
+ghost use Rattle.playback.specs.Line.{shown};
 ghost use Rattle.playback.specs.Replay.{start, last_text, Plays};
 
-use crate::line::Line;
+use crate::line::{LastLine, Line};
 use disc::Disc;
-use trace::Reading;
+use trace::{Reason, Step};
 
 // The disc, and the number of the record to come, from 1.
 #[derive(Clone, Copy)]
@@ -26,34 +27,41 @@ impl Replay {
     const CAPACITY: u32 = 300;
 
     // The blank disc, before the first record.
+    #[tactic(auto, unfolding(disc::specs::Blank::made))]
     pub fn start() -> Replay
         ensures { result ≡ start }
     {
-        let made = Disc::blank(Replay::CAPACITY);
-        let disc = made.disc;
+        let disc = Disc::blank(Replay::CAPACITY).disc;
         Replay { disc, number: 1 }
     }
 
     // The command of a record, with data and a reply buffer of the lengths that it asks for.
+    #[tactic(auto, unfolding(crate::specs::Replay::played))]
     pub fn play(self, cdb: [u8; trace::CDB_LENGTH]) -> Played
         ensures { Plays self cdb result }
     {
-        let verdict = commands::judge_as_asked(self.disc, &cdb);
-        let disc = verdict.disc;
-        let line = Line::of_record(self.number, cdb[0], disc.sense, disc.tail_next());
-        let number = std::num::wrapping_add_u64(self.number, 1);
+        let disc = commands::judge_as_asked(self.disc, &cdb).disc;
+        let line = Line {
+            number: self.number,
+            opcode: cdb[0],
+            sense: disc.sense,
+            next: disc.tail_next(),
+        };
+        let number = self.number.wrapping_add(1);
         let replay = Replay { disc, number };
         Played { line, replay }
     }
 
-    // The last line, by what stands in the trace where there is no record: none at its end.
-    pub fn last_line(self, reading: Reading) -> Line
-        ensures { Printed (last_text self reading) result }
+    // The last line, by what stands in the trace where the records end: none at its end.
+    #[tactic(auto, unfolding(crate::specs::Replay::last_text))]
+    pub fn last_line(self, step: Step) -> Option<LastLine>
+        ensures { shown result ≡ last_text self (reason_of step) }
     {
-        match reading {
-            Reading::BadMark => Line::bad(self.number),
-            Reading::CutShort => Line::cut(self.number),
-            _ => Line::new(),
+        let number = self.number;
+        match step.err()?.reason {
+            Reason::BadMark => Some(LastLine::Bad(number)),
+            Reason::CutShort => Some(LastLine::Cut(number)),
+            Reason::End => None,
         }
     }
 }

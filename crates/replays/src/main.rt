@@ -3,7 +3,7 @@
 
 use std::env::{Env, FillError};
 use std::fs::File;
-use std::io::Write;
+use std::io::{BufReader, LineWriter, Write};
 use std::{io, str};
 
 // Bytes that hold any path.
@@ -11,40 +11,43 @@ const PATH_LENGTH: usize = 4096;
 
 // The file that a name stands for. Paths are text here: no other name can be opened.
 fn open(rt: &HostRuntime, name: &[u8]) -> io::Result<File> {
-    match str::from_utf8(name) {
-        Ok(path) => File::open(rt, path),
-        Err(_) => Err(io::Error::from(io::ErrorKind::InvalidFilename)),
-    }
+    let path = str::from_utf8(name).map_err(|_| io::Error::from(io::ErrorKind::InvalidFilename))?;
+    File::open(rt, path)
 }
 
 // The system's words for an error, without the number that an error prints after them.
 fn words(text: &str) -> &str {
-    match text.split_once(" (os error ") {
-        Some((words, _)) => words,
-        None => text,
-    }
+    text.split_once(" (os error ").map_or(text, |parts| parts.0)
 }
 
 // Tells why a file cannot be opened.
-fn tell(rt: &HostRuntime, name: &[u8], error: io::Error) -> io::Result<()> {
+fn tell<E: Write>(
+    rt: &HostRuntime,
+    name: &[u8],
+    error: io::Error,
+    errors: &mut E,
+) -> io::Result<()> {
     let text = format!(in rt.alloc(); "{error}")?;
     let reason = words(text.as_str());
-    let mut errors = rt.stderr();
     errors.write_all(name)?;
     writeln!(errors, ": {reason}")
 }
 
 // The trace that an argument names, or why it cannot be opened.
-fn replay_argument(rt: &HostRuntime, name: &[u8]) -> io::Result<()> {
-    let mut file = match open(rt, name) {
+fn replay_argument<W: Write, E: Write>(
+    rt: &HostRuntime,
+    name: &[u8],
+    report: &mut W,
+    errors: &mut E,
+) -> io::Result<()> {
+    let file = match open(rt, name) {
         Ok(file) => file,
-        Err(error) => return tell(rt, name, error),
+        Err(error) => return tell(rt, name, error, errors),
     };
-    let mut report = rt.stdout();
-    let mut errors = rt.stderr();
     report.write_all(name)?;
     report.write_all(b":\n")?;
-    let ending = playback::replay_from(&mut file, &mut report, &mut errors)?;
+    let mut input = BufReader::new(rt.alloc(), file)?;
+    let ending = playback::replay_from(&mut input, report, errors)?;
     if !ending.whole {
         errors.write_all(b"in ")?;
         errors.write_all(name)?;
@@ -54,6 +57,9 @@ fn replay_argument(rt: &HostRuntime, name: &[u8]) -> io::Result<()> {
 }
 
 fn main(rt: HostRuntime) -> io::Result<()> {
+    let mut report = LineWriter::new(rt.alloc(), rt.stdout())?;
+    let mut errors = LineWriter::new(rt.alloc(), rt.stderr())?;
+    // By its number into a buffer, and not by `env::args`, which gives no argument at all where one is not UTF-8: what is printed then may not change.
     for index in 1..usize::MAX {
         let mut name = [0u8; PATH_LENGTH];
         let length = match rt.arg(index, &mut name) {
@@ -61,7 +67,7 @@ fn main(rt: HostRuntime) -> io::Result<()> {
             Err(FillError::TooLong) => 0,
             Err(FillError::NotPresent) => break,
         };
-        replay_argument(&rt, &name[..length])?;
+        replay_argument(&rt, &name[..length], &mut report, &mut errors)?;
     }
     Ok(())
 }

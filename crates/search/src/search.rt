@@ -40,6 +40,7 @@ fn step(address: Lba, f: Fragment) -> Side
 }
 
 // The search: the records from the index `low` to before `high` are in question, and each step is given the one in their middle.
+// By hand, as `EightLooks` (commands/specs/Holder.antt) and the type `Search` count the looks, which std's binary search does not.
 pub fn halving(fragments: [Fragment; LIMIT], address: Lba) -> Sought
     ensures { result ≡ sought fragments (halving address) }
 {

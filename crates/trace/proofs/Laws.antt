@@ -2,4 +2,3 @@
 pub mod Record
 pub mod Whole
 pub mod Parts
-pub mod Reader

@@ -1,24 +1,22 @@
 -- A whole trace, read record by record.
-use Rattle.std.specs.Prelude.{ℕ, zero, suc, Bool, true, false, cond, ◌&&◌, List, [], ◌∷◌, ◌++◌, length, eqb}
-use Rattle.trace.specs.Types.{Reading, Record, BadMark, CutShort, End}
+use Rattle.std.specs.Prelude.{ℕ, zero, suc, Bool, true, ◌&&◌, Result, Ok, Err, List, [], ◌∷◌, ◌++◌, length, eqb}
+use Rattle.trace.specs.Types.{Record, Stop}
 use Rattle.trace.specs.Record.{step_at}
 
-abbrev pub is_record : Reading → Bool
-is_record Record = true
-is_record BadMark = false
-is_record CutShort = false
-is_record End = false
+-- what a record at a position gives, or else what is given without one
+abbrev pub on_record : {A : Type 0} → Result Record Stop → (Record → A) → A → A
+on_record (Ok r) f none = f r
+on_record (Err s) f none = none
 
 -- the command blocks of the first n records from a position on, or of as many as there are before the reader stops
 unfoldable pub cdbs : ℕ → List ℕ → ℕ → List (List ℕ)
 cdbs zero trace at = []
-cdbs (suc n) trace at =
-    cond (is_record (step_at trace at).reading) ((step_at trace at).cdb ∷ cdbs n trace (step_at trace at).next) []
+cdbs (suc n) trace at = on_record (step_at trace at) (λ r. r.cdb ∷ cdbs n trace r.next) []
 
 -- the position after them
 unfoldable pub position_after : ℕ → List ℕ → ℕ → ℕ
 position_after zero trace at = at
-position_after (suc n) trace at = cond (is_record (step_at trace at).reading) (position_after n trace (step_at trace at).next) at
+position_after (suc n) trace at = on_record (step_at trace at) (λ r. position_after n trace r.next) at
 
 -- every record from a position on up to the stop, and where that is; there are no more records than bytes
 abbrev pub all_from : List ℕ → ℕ → List (List ℕ)

@@ -6,4 +6,4 @@ mod reader;
 mod record;
 
 pub use reader::{RecordReader, read_at};
-pub use record::{CDB_LENGTH, Reading, Step};
+pub use record::{CDB_LENGTH, RECORD_LENGTH, Reason, Record, Step, Stop};

@@ -6,6 +6,7 @@ ghost use Rattle.trace.specs.Record.{step_at};
 use crate::record;
 use crate::record::Step;
 
+// It is no iterator: that would end without saying why and where.
 #[derive(Clone, Copy)]
 pub struct RecordReader<'a> {
     pub trace: &'a [u8],

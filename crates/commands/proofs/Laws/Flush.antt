@@ -145,6 +145,10 @@ pub flush_ready : (d : Disc) → Ready d → Ready (flush d)
 flush_ready d r =
     record { sound = rules-sound (flush d) (flush-sound d r); range = rw (flush_capacity d) r.range }
 
+-- the numbers of a record in use after the flush
+pub flushed-numbers : (d : Disc) (n : ℕ) → Ready d → (1 ≤ n) × (n ≤ used (flush d)) → Numbers (flush d) n
+flushed-numbers d n r l = numbers (flush d) n (flush_ready d r) l.0 l.1
+
 -- nothing pending, nothing flushed
 pub flush_none : (d : Disc) → d.pending ≡ 0 → flush d ≡ d
 unfolding flush

@@ -1,15 +1,15 @@
 -- The C face: its tests in order, and the promise from what each part of the code leaves.
 use mathlib.Core.Path.{◌≡◌, refl, sym, ap, ◌∙◌}
-use mathlib.Core.Bool.{true, false, cond, not, ◌&&◌, and-false as and_no}
-use Prim.Native.Nat.{ℕ, ◌*◌, ◌≤◌}
+use mathlib.Core.Bool.{true, false, cond}
+use Prim.Native.Nat.{ℕ, ◌≤◌}
 use native.Mathlib.Omega.{arith}
-use borrow.Author.Tests.{eq-eqb, ne_eqb, le-ltb}
+use Rattle.std.proofs.lemmas.Bool.Decides.{nat_tests}
+use borrow.Author.Tests.{eq-eqb, ne_eqb}
 use mathlib.Core.List.{List}
-use lib.Dec.{eqb}
 use lib.ListN.{length}
 use Rattle.protocol.specs.Answer.{number}
 use Rattle.disc.specs.Blank.{in_range, Blanked}
-use Rattle.fragments.proofs.Laws.Bool.{and_left, and_right, and_both, by_cases}
+use Rattle.fragments.proofs.Laws.Bool.{by_cases}
 use Rattle.commands.specs.Judge.{judge, judge_command}
 use Rattle.disc.specs.Sound.{allowed_state}
 use Rattle.drive.specs.Step.{drive, Request, lent, declined, response_of, Answered, AnsweredByChange}
@@ -45,7 +45,7 @@ drive_number EndOfUserArea = omega arith
 pub no-link : (a : Answer) → ((x : LinkRefusal) → a ≡ Link x → ⊥) → is_link (number a) ≡ false
 no-link Accepted h = refl
 no-link (Link x) h = absurd (h x refl)
-no-link (Drive x) h = rw (le-ltb (number (Drive x)) 5 (drive_number x)) (and_no (not (eqb (number (Drive x)) 0)))
+no-link (Drive x) h = let most = drive_number x in grind (arith, nat_tests)
 
 pub refused_number : (a : Answer) → (a ≡ Accepted → ⊥) → number a ≡ 0 → ⊥
 refused_number Accepted h e = h refl
@@ -91,13 +91,7 @@ record Fitting (w : List ℕ) (m p : ℕ) : Type 0 where
 lent_fits_lem : (w : List ℕ) (m p : ℕ) → length w ≡ image_length → lent_fits w m p ≡ true → Fitting w m p
 unfolding decode
 lent_fits_lem w m p whole t =
-    let e = in_range (word w 0) && eqb m (32768 * word w 0) in
-    let k : (e && eqb p 32768) ≡ true = rw (ne_eqb (length w) 0 (omega arith)) at t in
-    let h = and_left e (eqb p 32768) k in
-    record {
-      range = and_left (in_range (word w 0)) (eqb m (32768 * word w 0)) h;
-      buffers = and_both (and_right (in_range (word w 0)) (eqb m (32768 * word w 0)) h) (and_right e (eqb p 32768) k);
-    }
+    record { range = grind (arith, nat_tests); buffers = grind (arith, nat_tests) }
 
 -- the tests of a command, in order
 module _ (l : Lent) (q : Request) where

@@ -1,29 +1,26 @@
 -- Words written and read one by one, records one by one, and that an encoded state is read back.
 use mathlib.Core.Path.{◌≡◌, refl, sym, ap, ◌∙◌}
-use Prim.Native.Nat.{ℕ, zero, suc, ◌+◌, ◌-◌, ◌*◌, ◌≤◌, ◌<◌}
+use Prim.Native.Nat.{ℕ, zero, suc, ◌+◌, ◌*◌, ◌≤◌, ◌<◌}
 use native.Mathlib.Numerals.{add-one}
 use native.Mathlib.Nat.{not-suc-le-zero, le_of_suc-le-suc}
 use native.Mathlib.Omega.{arith}
+use Rattle.std.proofs.lemmas.Bool.Decides.{nat_tests}
 use mathlib.Core.Bool.{Bool, true, false, ◌&&◌}
-use mathlib.Core.List.{List, [], ◌∷◌, ◌++◌, append-nil}
-use lib.ListN.{length, get_or, set, take, drop, length-append, length-drop, drop_of_length-le}
-use lib.Seq.{drop-cons, drop-drop, get_or-take, take_all, length-take-le, sets, sets-eq}
-use borrow.Author.Tests.{eq-eqb, eqb-true, eqb-false, ltb-true, lt-ltb}
+use mathlib.Core.List.{List, [], ◌∷◌, ◌++◌}
+use lib.ListN.{length, get_or, set, take, drop, length-append, length-drop}
+use lib.Seq.{drop-cons, drop-drop, get_or-take, take_all, length-take-le}
+use borrow.Author.Tests.{ltb-true}
 use lib.Dec.{eqb, ltb}
 use Rattle.std.specs.List.{list_all}
 use Rattle.std.specs.Simd.{first_chunks}
 use Rattle.fragments.specs.Fragment.{unused_record}
 use Rattle.fragments.specs.List.{limit}
 use Rattle.protocol.specs.Answer.{sense}
-use Rattle.fragments.proofs.Laws.Bool.{and_left, and_right, and_both, by_cases}
+use Rattle.fragments.proofs.Laws.Bool.{and_left, and_right}
 use Rattle.drive.specs.Bytes.{splice}
 use Rattle.drive.proofs.Laws.Bytes.{splice-splice, splice-end}
 use Rattle.gladhamre.specs.Types.{Kind, Reserved, Appended, Fragment, Disc}
 use Rattle.gladhamre.specs.Image.{image_length, flag_word, kind_word, kind_of, decode, word, record_of, record_fits, record_words, list_of, list_fits, list_words, head_words, head_fits, encode, is_state, StateWords, records_of}
-
--- as many words stored as there are: only they are left
-pub fill_all : (xs w : List ℕ) → length w ≡ length xs → sets w 0 xs ≡ xs
-fill_all xs w h = sets-eq xs w 0 (omega arith) ∙ rw (drop_of_length-le w {i = 0 + length xs} (omega arith)) (append-nil xs)
 
 -- the six words of a record, as the part of the image that is lent
 pub part_record : (v : List ℕ) → record_of (take 6 v) ≡ record_of v
@@ -36,9 +33,6 @@ drop-sum v a b c h = drop-drop a b v ∙ ap (λ (n : ℕ). drop n v) h
 -- the record at an index begins after the head and the records before it
 pub record_at : (w : List ℕ) (i : ℕ) → drop (7 + 6 * i) w ≡ drop (6 * i) (drop 7 w)
 record_at w i = sym (drop-sum w (6 * i) 7 (7 + 6 * i) refl)
-
-pub next_record : (v : List ℕ) (i : ℕ) → drop 6 (drop (6 * i) v) ≡ drop (6 * (i + 1)) v
-next_record v i = drop-sum v 6 (6 * i) (6 * (i + 1)) (omega arith)
 
 pub record_after : (v : List ℕ) (i : ℕ) → drop (6 * suc i) v ≡ drop (6 * i) (drop 6 v)
 record_after v i = sym (drop-sum v (6 * i) 6 (6 * suc i) (omega arith))
@@ -137,15 +131,6 @@ pub words_more :
     (i : ℕ) (fs : List Fragment) (d : Fragment) → i < length fs → list_words (take i fs) ++ record_words (get_or fs i d) ≡ list_words (take (i + 1) fs)
 words_more i fs d h = rw add-one (words_suc i fs d h)
 
--- the same for the part that is lent
-pub lent_part : (w : List ℕ) (i : ℕ) → take (7 + 6 * i + 6 - (7 + 6 * i)) (drop (7 + 6 * i) w) ≡ take 6 (drop (6 * i) (drop 7 w))
-lent_part w i =
-    let k : 7 + 6 * i + 6 - (7 + 6 * i) ≡ 6 = omega arith in
-    rw (k, record_at w i)
-
-pub lent_record : (w : List ℕ) (i : ℕ) → record_of (take (7 + 6 * i + 6 - (7 + 6 * i)) (drop (7 + 6 * i) w)) ≡ record_of (drop (6 * i) (drop 7 w))
-lent_record w i = ap record_of (lent_part w i) ∙ part_record (drop (6 * i) (drop 7 w))
-
 -- one turn of the writing
 pub write_more :
     (w words words₁ : List ℕ) (fs : List Fragment) (i : ℕ) (d : Fragment) → length w ≡ image_length → i < length fs
@@ -180,26 +165,7 @@ write_both w d head words hw hf e f =
 pub state-words : (w : List ℕ) → is_state w ≡ true → StateWords w
 unfolding is_state
 state-words w t =
-    let l : eqb (length w) image_length ≡ true = and_left _ (head_fits w) (and_left _ (list_fits limit (drop 7 w)) t) in
-    let h : head_fits w ≡ true = and_right (eqb (length w) image_length) _ (and_left _ (list_fits limit (drop 7 w)) t) in
-    let t₁ = ltb (word w 1) 2 in
-    let t₂ = t₁ && ltb (word w 2) 256 in
-    let t₃ = t₂ && ltb (word w 3) 256 in
-    let t₄ = t₃ && ltb (word w 4) 256 in
-    let t₅ = t₄ && ltb (word w 5) 256 in
-    let h₅ = and_left t₅ (ltb (word w 6) 256) h in
-    let h₄ = and_left t₄ (ltb (word w 5) 256) h₅ in
-    let h₃ = and_left t₃ (ltb (word w 4) 256) h₄ in
-    let h₂ = and_left t₂ (ltb (word w 3) 256) h₃ in (
-      eqb-true _ _ l,
-      ltb-true _ _ (and_left t₁ (ltb (word w 2) 256) h₂),
-      ltb-true _ _ (and_right t₁ (ltb (word w 2) 256) h₂),
-      ltb-true _ _ (and_right t₂ (ltb (word w 3) 256) h₃),
-      ltb-true _ _ (and_right t₃ (ltb (word w 4) 256) h₄),
-      ltb-true _ _ (and_right t₄ (ltb (word w 5) 256) h₅),
-      ltb-true _ _ (and_right t₅ (ltb (word w 6) 256) h),
-      and_right (eqb (length w) image_length && head_fits w) _ t,
-    )
+    (grind (arith, nat_tests), grind (arith, nat_tests), grind (arith, nat_tests), grind (arith, nat_tests), grind (arith, nat_tests), grind (arith, nat_tests), grind (arith, nat_tests), grind (arith, nat_tests))
 
 -- an encoded state is read back
 kind_back : (k : Kind) → kind_of (kind_word k) ≡ k
@@ -249,35 +215,23 @@ unfolding list_fits list_words
 list_fits_lem zero fs h s = refl
 list_fits_lem (suc n) [] h s = absurd (omega arith)
 list_fits_lem (suc n) (f ∷ fs) h s =
-    and_both (and_both (lt-ltb _ _ (s 0 (omega arith))) (lt-ltb _ _ (kind_below f.kind))) (list_fits_lem n fs (omega arith) (λ i k. s (suc i) (omega arith)))
+    let first = s 0 (omega arith) in
+    let kind = kind_below f.kind in
+    let rest = list_fits_lem n fs (omega arith) (λ i k. s (suc i) (omega arith)) in grind (arith, nat_tests)
 
 pub encode-state : (d : Disc) → length d.fragments ≡ limit → Bytes d → is_state (encode d) ≡ true
 unfolding is_state encode
 encode-state d h b =
     let l : length (head_words d ++ list_words d.fragments) ≡ image_length = omega (arith, length-list d.fragments, length-append (head_words d) (list_words d.fragments)) in
-    and_both
-    (and_both (eq-eqb _ _ l)
-    (and_both
-    (and_both
-    (and_both
-    (and_both (and_both (lt-ltb _ _ (flag_below d.finalized)) (lt-ltb _ _ b.key)) (lt-ltb _ _ b.asc))
-    (lt-ltb _ _ b.ascq))
-    (lt-ltb _ _ b.pending))
-    (lt-ltb _ _ b.owner)))
-    (list_fits_lem limit d.fragments h b.sessions)
+    let flag = flag_below d.finalized in
+    let fits = list_fits_lem limit d.fragments h b.sessions in grind (arith, nat_tests)
 
 -- a state's words are the image of what they stand for
 flag_same : (n : ℕ) → n < 2 → flag_word (eqb n 1) ≡ n
-flag_same n h =
-    by_cases (eqb n 1)
-    (λ t. let e = eqb-true n 1 t in rw t (sym e))
-    (λ t. let e = eqb-false n 1 t in rw t (omega arith))
+flag_same n h = grind (arith, nat_tests)
 
 kind_same : (n : ℕ) → n < 2 → kind_word (kind_of n) ≡ n
-kind_same n h =
-    by_cases (eqb n 1)
-    (λ t. let e = eqb-true n 1 t in rw t (sym e))
-    (λ t. let e = eqb-false n 1 t in rw t (omega arith))
+kind_same n h = grind (arith, nat_tests)
 
 list_same : (n : ℕ) (v : List ℕ) → length v ≡ 6 * n → list_fits n v ≡ true → list_words (list_of n v) ≡ v
 unfolding list_fits list_of list_words

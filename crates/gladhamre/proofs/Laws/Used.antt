@@ -4,7 +4,8 @@ use mathlib.Core.Bool.{Bool, true, false, cond, not, ◌&&◌}
 use mathlib.Core.List.{List, [], ◌∷◌, ◌++◌}
 use Prim.Native.Nat.{ℕ, zero, suc, ◌+◌, ◌-◌, ◌*◌, ◌≤◌, ◌<◌}
 use native.Mathlib.Omega.{arith}
-use borrow.Author.Tests.{eq-eqb, ne_eqb, eqb-true, eqb-false, ltb-true, ltb-false}
+use Rattle.std.proofs.lemmas.Bool.Decides.{nat_tests}
+use borrow.Author.Tests.{eq-eqb, ne_eqb, eqb-true, ltb-false}
 use lib.Bits.{bit_or}
 use Rattle.std.specs.List.{fold, position, position_or_len}
 use Rattle.std.specs.Option.{unwrap_or}
@@ -14,7 +15,7 @@ use lib.ListN.{length, get_or, take, drop, replicate, length-drop}
 use lib.Seq.{get_or-take, take_all}
 use Rattle.fragments.specs.Fragment.{unused_record, is_reserved, is_zero}
 use Rattle.fragments.specs.List.{limit, every}
-use Rattle.fragments.proofs.Laws.Bool.{and_left, and_right, and_both, and-false, and_true, and_assoc, by_cases, cond_yes, cond_no, cond_cases, contradiction}
+use Rattle.fragments.proofs.Laws.Bool.{and_left, and_right, and_both, and-false, and_true, and_assoc, by_cases, cond_yes, cond_no}
 use Rattle.fragments.proofs.Laws.Numbers.{or_zero}
 use Rattle.disc.specs.Sound.{used_first, sound, allowed_state}
 use Rattle.disc.proofs.Laws.Rules.{sound-tests}
@@ -48,7 +49,7 @@ first_unused (suc n) v =
 pub used_most : (n : ℕ) (v : List ℕ) → used_of n v ≤ n
 unfolding used_of
 used_most zero v = omega arith
-used_most (suc n) v = cond_cases (λ k. k ≤ suc n) (record_used v) _ _ (λ t. omega (arith, used_most n (drop 6 v))) (λ t. omega arith)
+used_most (suc n) v = let h = used_most n (drop 6 v) in grind (arith, nat_tests)
 
 position_used :
     (n : ℕ) (v : List ℕ) (rs : List (List ℕ)) → rs ≡ first_chunks 6 n v
@@ -68,19 +69,15 @@ used_position w = position_used limit (drop 7 w) (records_of w) refl
 pub used-at : (n i : ℕ) (v : List ℕ) → i < used_of n v → record_used (drop (6 * i) v) ≡ true
 unfolding used_of
 used-at zero i v h = absurd (omega arith)
-used-at (suc n) zero v h =
-    by_cases (record_used v) (λ t. t) (λ t. let k : 0 < 0 = rw t at h in absurd (omega arith))
-used-at (suc n) (suc i) v h =
-    by_cases (record_used v)
-    (λ t. let k : suc i < suc (used_of n (drop 6 v)) = rw t at h in rw (record_after v i) (used-at n i (drop 6 v) (omega arith)))
-    (λ t. let k : suc i < 0 = rw t at h in absurd (omega arith))
+used-at (suc n) zero v h = grind (arith, nat_tests)
+used-at (suc n) (suc i) v h = rw (record_after v i) (used-at n i (drop 6 v) (grind (arith, nat_tests)))
 
 -- words that are all zero
 zero_word : (w : List ℕ) (i : ℕ) → all_zero w ≡ true → word w i ≡ 0
 unfolding all_zero
 zero_word [] i t = refl
-zero_word (x ∷ w) zero t = eqb-true x 0 (and_left (eqb x 0) (all_zero w) t)
-zero_word (x ∷ w) (suc i) t = zero_word w i (and_right (eqb x 0) (all_zero w) t)
+zero_word (x ∷ w) zero t = grind (arith, nat_tests)
+zero_word (x ∷ w) (suc i) t = zero_word w i (grind (arith, nat_tests))
 
 zero_drop : (n : ℕ) (w : List ℕ) → all_zero w ≡ true → all_zero (drop n w) ≡ true
 unfolding all_zero
@@ -128,42 +125,20 @@ used-list (suc n) v z =
 
 -- a list whose records in use come first, and are zero after those, has such words
 kind_zero : (k : ℕ) → k < 2 → is_reserved (kind_of k) ≡ true → k ≡ 0
-kind_zero k h r =
-    by_cases (eqb k 1)
-    (λ t. let e : false ≡ true = rw t at r in absurd (contradiction e refl))
-    (λ t. let q = eqb-false k 1 t in omega arith)
+kind_zero k h r = grind (arith, nat_tests)
 
 record_zero : (v : List ℕ) → 6 ≤ length v → record_fits v ≡ true → is_zero (record_of v) ≡ true → all_zero (drop 6 v) ≡ true → all_zero v ≡ true
 unfolding all_zero
 record_zero v h f e z =
-    let s = eqb (word v 0) 0 in
-    let b = eqb (word v 1) 0 in
-    let l = eqb (word v 2) 0 in
-    let w = eqb (word v 3) 0 in
-    let y = eqb (word v 4) 0 in
-    let k = is_reserved (kind_of (word v 5)) in
-    let e₄ = and_left (s && b && l && w && y) k e in
-    let e₃ = and_left (s && b && l && w) y e₄ in
-    let e₂ = and_left (s && b && l) w e₃ in
-    let e₁ = and_left (s && b) l e₂ in
-    let kind = eq-eqb (word v 5) 0 (kind_zero (word v 5) (ltb-true _ _ (and_right (ltb (word v 0) 256) (ltb (word v 5) 2) f)) (and_right (s && b && l && w && y) k e)) in
-    ap all_zero (six_words v h)
-    ∙ and_both (and_left s b e₁)
-    (and_both (and_right s b e₁)
-    (and_both (and_right (s && b) l e₂)
-    (and_both (and_right (s && b && l) w e₃)
-    (and_both (and_right (s && b && l && w) y e₄)
-    (and_both kind z)))))
+    let kind = kind_zero (word v 5) in ap all_zero (six_words v h) ∙ grind (arith, nat_tests)
 
 list_zero : (n : ℕ) (v : List ℕ) → length v ≡ 6 * n → list_fits n v ≡ true → every is_zero (list_of n v) ≡ true → all_zero v ≡ true
 unfolding list_fits list_of every all_zero
 list_zero zero [] h f e = refl
 list_zero zero (x ∷ v) h f e = absurd (omega arith)
 list_zero (suc n) v h f e =
-    record_zero v (omega arith) (and_left (record_fits v) (list_fits n (drop 6 v)) f)
-    (and_left (is_zero (record_of v)) (every is_zero (list_of n (drop 6 v))) e)
-    (list_zero n (drop 6 v) (simp length-drop (omega arith)) (and_right (record_fits v) (list_fits n (drop 6 v)) f)
-    (and_right (is_zero (record_of v)) (every is_zero (list_of n (drop 6 v))) e))
+    record_zero v (omega arith) (grind (arith, nat_tests)) (grind (arith, nat_tests))
+    (list_zero n (drop 6 v) (simp length-drop (omega arith)) (grind (arith, nat_tests)) (grind (arith, nat_tests)))
 
 used_first_zero :
     (n : ℕ) (v : List ℕ) → length v ≡ 6 * n → list_fits n v ≡ true → used_first (list_of n v) ≡ true → all_zero (drop (6 * used_of n v) v) ≡ true
@@ -258,7 +233,9 @@ module _ (w : List ℕ) where
     taken-record i rs e h = ap (λ (l : List (List ℕ)). get_or (take n l) i []) e ∙ record-at w n i [] h taken-most
 
     -- all are read: those not in use are there already
-    pub taken-list : (fs : List Fragment) (i : ℕ) → i ≡ n → fs ≡ list_of i (drop 7 w) ++ drop i (replicate limit unused_record) → fs ≡ list_of limit (drop 7 w)
-    taken-list fs i h e =
+    pub taken-list :
+        (fs z : List Fragment) (i : ℕ) → i ≡ n → z ≡ replicate limit unused_record → fs ≡ list_of i (drop 7 w) ++ drop i z
+        → fs ≡ list_of limit (drop 7 w)
+    taken-list fs z i h u e =
         let same : i ≡ used_in w = h ∙ k.counted in
-        e ∙ rw same (sym (used-list limit (drop 7 w) (sym rest-zero ∙ k.zeros)))
+        e ∙ rw (same, u) (sym (used-list limit (drop 7 w) (sym rest-zero ∙ k.zeros)))

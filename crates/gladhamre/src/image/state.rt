@@ -1,5 +1,5 @@
 // Words that are a state's, and the state that they stand for.
-ghost use Rattle.std.specs.Prelude.{◌≡◌, drop, Some, None, MatchResult};
+ghost use Rattle.std.specs.Prelude.{◌≡◌, ◌≤◌, drop, Some, None, MatchResult};
 ghost use Rattle.gladhamre.specs.Types.{UnsoundState};
 ghost use Rattle.std.proofs.Props.{props};
 ghost use Rattle.gladhamre.specs.Image.{list_of, decode};
@@ -15,7 +15,8 @@ use protocol::{LinkRefusal, Sense};
 
 // How many records stand before the first one that is not in use, or whose words are no record's.
 fn used_records(words: &Image) -> usize
-    ensures { result ≡ used_in words.now }
+    ensures first { result ≡ used_in words.now }
+    ensures most { result ≤ limit }
 {
     let first_unused = records_of(words)
         .iter()

@@ -1,41 +1,31 @@
-use Rattle.std.proofs.Common.{◌<◌, [], get_or, ap, ◌∙◌, arith}
-use Rattle.fragments.specs.Fragment.{unused_record}
-use Rattle.fragments.specs.List.{limit}
-use Rattle.fragments.specs.Address.{first_sector}
-use Rattle.fragments.proofs.Laws.Bool.{cond_yes, cond_no}
+use Rattle.std.proofs.Common.{ap, ◌∙◌}
+use Rattle.contents.specs.Sessions.{sessions_left}
+use Rattle.contents.specs.Contents.{session_entries}
 use Rattle.contents.specs.Entry.{entry}
-use Rattle.contents.specs.Contents.{is_shown, shown_entry, session_entry}
-use Rattle.contents.proofs.Laws.Contents.{entry_length, entries-on, entries-end, putting_on, putting_done, putting_off}
+use Rattle.contents.proofs.Laws.Contents.{putting_start, putting_on, putting_off, putting_done}
 use Rattle.contents.proofs.table.put_sessions.Goals as goal
-use Rattle.contents.proofs.table.put_sessions.Goals.{then-begins-start, else-begins-start}
+
+pub loop-f-init : goal.loop-f-init
+loop-f-init c =
+    rw c.into_iter-f-iterator.ensures.into_iter_gives
+    (tt, tt, putting_start c.args.reply.now (session_entries c.args.time c.args.start (sessions_left c.args.sessions)) _ c.requires)
+
+pub loop-f-preserved-then-start-f : goal.loop-f-preserved-then-start-f
+loop-f-preserved-then-start-f c =
+    let a = c.args in
+    let w = c.loop-f in
+    let made = c.entry.ensures ∙ ap (entry a.time c.in-Some.f.session) c.first_sector.ensures in
+    (tt, tt, putting_on a.reply.now _ a.time a.start c.in-Some.f _ _ w.reply w.at c.in-Some.ensures.steps _ _ _ w.invariant.2 c.if-start-f.true made c.put-at.ensures.place c.put-at.ensures.bytes)
 
 pub loop-f-preserved : goal.loop-f-preserved
 loop-f-preserved c =
-    let w = c.loop-f in
     let a = c.args in
-    let z = a.closing.finalized in
-    let k = a.closing.last in
-    let f = get_or a.closing.records.now w.f-index unused_record in
-    let few : w.f-index < limit = omega (arith, c.loop-f-test.true, c.requires) in
-    let now = rw (entries-on z k a.time a.start a.closing.records.now w.f-index w.before unused_record c.loop-f-test.true) at w.invariant in
-    elim c.if-begins-start.branch [
-      | then-begins-start t ↦
-          let shown = cond_yes (is_shown z k w.before a.start f) (session_entry a.time f) [] (rw c.begins.ensures at t.if-begins-start.true) in
-          let made = t.entry.ensures ∙ ap (entry a.time f.session) t.first_sector.ensures in
-          let on = rw shown at now in
-          rw (t.reply-is, t.at-is)
-          (putting_on a.reply.now _ (session_entry a.time f) _ w.f-index w.reply _ w.at _ on few (omega (arith, entry_length a.time f.session (first_sector f.start)))
-          (rw made at t.put-at.ensures.place) (rw made at t.put-at.ensures.bytes))
-      | else-begins-start t ↦
-          let none = cond_no (is_shown z k w.before a.start f) (session_entry a.time f) [] (rw c.begins.ensures at t.if-begins-start.false) in
-          rw (t.reply-is, t.at-is) (putting_off a.reply.now _ (shown_entry z k w.before a.time a.start f) _ w.f-index w.reply w.at now few none)
-    ]
+    let w = c.loop-f in
+    (tt, tt, putting_off a.reply.now _ a.time a.start c.in-Some.f _ _ w.reply w.at c.in-Some.ensures.steps w.invariant.2 c.if-start-f.false)
 
 pub returns : goal.returns
 returns c =
+    let a = c.args in
     let w = c.loop-f in
-    let a = c.args.closing in
-    let b =
-    putting_done c.args.reply.now _ _ w.f-index w.reply w.at w.invariant
-    (entries-end a.finalized a.last c.args.time c.args.start a.records.now w.f-index w.before unused_record c.loop-f-test.false) in
+    let b = putting_done a.reply.now _ a.time a.start _ w.reply w.at w.invariant.2 c.in-None.ensures.steps.0 in
     record { place = b.0; bytes = b.1.0; most = b.1.1 }

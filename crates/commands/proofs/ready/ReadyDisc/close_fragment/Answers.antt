@@ -1,12 +1,23 @@
-use Rattle.commands.specs.Types.{Reserved, Appended}
-use Rattle.commands.specs.Flush.{flush}
+use Prim.Native.Nat.{ℕ, ◌≤◌}
+use Rattle.commands.specs.Types.{Fragment, Disc, Flushing, Reserved, Appended}
+use Rattle.disc.specs.Records.{numbered}
+use Rattle.disc.specs.Ready.{Ready}
+use Rattle.fragments.specs.Entry.{over}
+use Rattle.commands.specs.Flush.{flush, flush_entry, flushing}
 use Rattle.disc.proofs.Laws.Records.{listed-number}
 use Rattle.commands.proofs.Laws.Flush.{flush-used, flush-sound}
 use Rattle.commands.proofs.Laws.Close.{close-complete, close-incomplete, appended_last}
 use Rattle.commands.proofs.Laws.Effect.{flush-numbered}
-use mathlib.Core.Path.{sym, ◌∙◌}
+use mathlib.Core.Path.{◌≡◌, sym, ◌∙◌, ap}
 use native.Mathlib.Omega.{arith}
 use Rattle.commands.proofs.ready.ReadyDisc.close_fragment.Goals as goal
+
+-- the record after the flush
+stands :
+    {first : Flushing} {before f : Fragment} (d : Disc) (n : ℕ)
+    → Ready d → 1 ≤ n → first ≡ flushing d → before ≡ numbered d n → f ≡ over first.entry n before → f ≡ numbered (flush d) n
+stands {before = before} d n r from e p q =
+    q ∙ (ap (λ x. over x.entry n before) e ∙ (ap (over (flush_entry d) n) p ∙ flush-numbered d r n from))
 
 pub returns-then-is_complete : goal.returns-then-is_complete
 returns-then-is_complete c =
@@ -15,7 +26,7 @@ returns-then-is_complete c =
     let r = c.args.self.now.ready in
     let li = sym c.is_listed.ensures ∙ c.if-not-is_listed.false in
     let l = listed-number d n li in
-    let fo = rw (c.flushing-first.ensures, c.numbered-before.ensures) at c.over-f.ensures ∙ flush-numbered d r n l.0 in
+    let fo = stands d n r l.0 c.flushing-first.ensures c.numbered-before.ensures c.over-f.ensures in
     let b = rw c.numbered-before.ensures at (sym c.is_blank.ensures ∙ c.if-is_blank.false) in
     c.synchronize_cache.ensures ∙ sym (close-complete d n li b (rw fo at (sym c.is_complete.ensures ∙ c.if-is_complete.true)))
 
@@ -26,7 +37,7 @@ close_reserved-requires c =
     let r = c.args.self.now.ready in
     let li = sym c.is_listed.ensures ∙ c.if-not-is_listed.false in
     let l = listed-number d n li in
-    let fo = rw (c.flushing-first.ensures, c.numbered-before.ensures) at c.over-f.ensures ∙ flush-numbered d r n l.0 in
+    let fo = stands d n r l.0 c.flushing-first.ensures c.numbered-before.ensures c.over-f.ensures in
     record { first_value = c.flushing-first.ensures; le_number = (l.0, omega (arith, l, flush-used d r)); f_value = fo }
 
 pub close_appended-requires : goal.close_appended-requires
@@ -36,8 +47,7 @@ close_appended-requires c =
     let r = c.args.self.now.ready in
     let li = sym c.is_listed.ensures ∙ c.if-not-is_listed.false in
     let l = listed-number d n li in
-    let fo = rw (c.flushing-first.ensures, c.numbered-before.ensures) at c.over-f.ensures ∙ flush-numbered d r n l.0 in
-    let b = rw c.numbered-before.ensures at (sym c.is_blank.ensures ∙ c.if-is_blank.false) in
+    let fo = stands d n r l.0 c.flushing-first.ensures c.numbered-before.ensures c.over-f.ensures in
     let cf = rw fo at (sym c.is_complete.ensures ∙ c.if-is_complete.false) in
     record {
       first_value = c.flushing-first.ensures;
@@ -52,7 +62,7 @@ returns-in-Reserved c =
     let r = c.args.self.now.ready in
     let li = sym c.is_listed.ensures ∙ c.if-not-is_listed.false in
     let l = listed-number d n li in
-    let fo = rw (c.flushing-first.ensures, c.numbered-before.ensures) at c.over-f.ensures ∙ flush-numbered d r n l.0 in
+    let fo = stands d n r l.0 c.flushing-first.ensures c.numbered-before.ensures c.over-f.ensures in
     let b = rw c.numbered-before.ensures at (sym c.is_blank.ensures ∙ c.if-is_blank.false) in
     let cf = rw fo at (sym c.is_complete.ensures ∙ c.if-is_complete.false) in
     c.close_reserved.ensures ∙ sym (close-incomplete d n li b Reserved cf (rw fo at c.in-Reserved.is))
@@ -64,7 +74,7 @@ returns-in-Appended c =
     let r = c.args.self.now.ready in
     let li = sym c.is_listed.ensures ∙ c.if-not-is_listed.false in
     let l = listed-number d n li in
-    let fo = rw (c.flushing-first.ensures, c.numbered-before.ensures) at c.over-f.ensures ∙ flush-numbered d r n l.0 in
+    let fo = stands d n r l.0 c.flushing-first.ensures c.numbered-before.ensures c.over-f.ensures in
     let b = rw c.numbered-before.ensures at (sym c.is_blank.ensures ∙ c.if-is_blank.false) in
     let cf = rw fo at (sym c.is_complete.ensures ∙ c.if-is_complete.false) in
     c.close_appended.ensures ∙ sym (close-incomplete d n li b Appended cf (rw fo at c.in-Appended.is))

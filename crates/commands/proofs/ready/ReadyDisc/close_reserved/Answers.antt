@@ -7,7 +7,7 @@ use Rattle.fragments.specs.Fragment.{first_unrecorded}
 use Rattle.commands.specs.Flush.{flush, flush_plan, flush_count}
 use Rattle.commands.specs.Close.{close_incomplete, filled_record}
 use Rattle.disc.specs.Records.{numbered}
-use Rattle.commands.proofs.Laws.Flush.{numbers, flush_ready}
+use Rattle.commands.proofs.Laws.Flush.{flushed-numbers}
 use Rattle.disc.proofs.Laws.Verdict.{accept_count}
 use Rattle.commands.proofs.Laws.Write.{flush_count_most}
 use Rattle.commands.proofs.Laws.Close.{fill_count}
@@ -19,43 +19,23 @@ use Rattle.commands.proofs.ready.ReadyDisc.close_reserved.Goals as goal
 
 pub overflow_sub-blocks : goal.overflow_sub-blocks
 overflow_sub-blocks c =
-    let d = c.args.self.now.disc in
-    let n = c.args.number in
-    let r = c.args.self.now.ready in
-    let first = c.requires.first_value in
-    let f = c.requires.f_value in
-    let m = numbers (flush d) n (flush_ready d r) c.requires.le_number.0 c.requires.le_number.1 in
-    rw f m.recorded
+    let m = flushed-numbers c.args.self.now.disc c.args.number c.args.self.now.ready c.requires.le_number in
+    rw c.requires.f_value m.recorded
 
 pub first_unrecorded-block-requires : goal.first_unrecorded-block-requires
 first_unrecorded-block-requires c =
-    let d = c.args.self.now.disc in
-    let n = c.args.number in
-    let r = c.args.self.now.ready in
-    let first = c.requires.first_value in
-    let f = c.requires.f_value in
-    let m = numbers (flush d) n (flush_ready d r) c.requires.le_number.0 c.requires.le_number.1 in
-    rw f (omega (arith, m.ends, m.recorded))
+    let m = flushed-numbers c.args.self.now.disc c.args.number c.args.self.now.ready c.requires.le_number in
+    rw c.requires.f_value (omega (arith, m.ends, m.recorded))
 
 pub filled-requires : goal.filled-requires
 filled-requires c =
-    let d = c.args.self.now.disc in
-    let n = c.args.number in
-    let r = c.args.self.now.ready in
-    let first = c.requires.first_value in
-    let f = c.requires.f_value in
-    let m = numbers (flush d) n (flush_ready d r) c.requires.le_number.0 c.requires.le_number.1 in
-    rw f (m.recorded, omega (arith, m.ends), m.zeroed)
+    let m = flushed-numbers c.args.self.now.disc c.args.number c.args.self.now.ready c.requires.le_number in
+    rw c.requires.f_value (m.recorded, omega (arith, m.ends), m.zeroed)
 
 pub overflow_add-first : goal.overflow_add-first
 overflow_add-first c =
-    let d = c.args.self.now.disc in
-    let n = c.args.number in
-    let r = c.args.self.now.ready in
-    let first = c.requires.first_value in
-    let f = c.requires.f_value in
-    let m = numbers (flush d) n (flush_ready d r) c.requires.le_number.0 c.requires.le_number.1 in
-    rw (f, first) (omega (arith, m.ends, flush_count_most d))
+    let m = flushed-numbers c.args.self.now.disc c.args.number c.args.self.now.ready c.requires.le_number in
+    rw (c.requires.f_value, c.requires.first_value) (omega (arith, m.ends, flush_count_most c.args.self.now.disc))
 
 pub returns : goal.returns
 unfolding close_incomplete
@@ -63,10 +43,7 @@ returns c =
     let d = c.args.self.now.disc in
     let n = c.args.number in
     let r = c.args.self.now.ready in
-    let first = c.requires.first_value in
-    let f = c.requires.f_value in
-    let m = numbers (flush d) n (flush_ready d r) c.requires.le_number.0 c.requires.le_number.1 in
     let g = numbered (flush d) n in
-    rw (c.accepted.ensures, accepted_verdict, c.none.ensures, c.none-2.ensures, c.new.ensures, c.filled.ensures, c.new-plan.ensures, c.first_unrecorded-block.ensures, f, first)
+    rw (c.accepted.ensures, accepted_verdict, c.none.ensures, c.none-2.ensures, c.new.ensures, c.filled.ensures, c.new-plan.ensures, c.first_unrecorded-block.ensures, c.requires.f_value, c.requires.first_value)
     (ap (λ x. accepted x (flush_count d + (g.length - g.recorded)) no_reply (plan (flush_plan d) (Fill (first_unrecorded g) (g.length - g.recorded)))) (affected-filled d n (filled_record g) r c.requires.le_number.0)
     ∙ sym (accept_count d _ _ _ _ (fill_count d n r c.requires.le_number.0 c.requires.le_number.1)))

@@ -32,13 +32,7 @@ returns-then-f-ne0 c =
 
 pub overflow_sub-number : goal.overflow_sub-number
 overflow_sub-number c =
-    let d = c.args.self.now.disc in
-    let r = c.args.self.now.ready in
-    let e = flush d in
-    let s = flush-sound d r in
-    let p = flush_pending d in
-    let l : c.args.last ≡ last_of e.fragments = c.requires.last_value in
-    omega (arith, s.some, ap (λ x. x.number) l)
+    omega (arith, (flush-sound c.args.self.now.disc c.args.self.now.ready).some, ap (λ x. x.number) c.requires.last_value)
 
 pub returns-then-number-eq0 : goal.returns-then-number-eq0
 returns-then-number-eq0 c =

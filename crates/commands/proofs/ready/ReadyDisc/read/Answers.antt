@@ -16,7 +16,7 @@ returns-then-passes-2 c =
     let n = c.args.sectors in
     let within : a.0 + n ≤ sectors_in d.capacity = ltb-false _ _ (sym (rw c.first_sector.ensures at c.passes.ensures) ∙ c.if-passes.false) in
     let t : passes a n (reach_around d a).readable ≡ true = sym (rw c.reach_around-reach.ensures at c.passes-2.ensures) ∙ c.if-passes-2.true in
-    (read_short d a n c.if-sectors-eq0.false within (sound-rules d c.args.self.now.ready.sound) t)
+    read_short d a n c.if-sectors-eq0.false within (sound-rules d c.args.self.now.ready.sound) t
 
 pub returns : goal.returns
 returns c =

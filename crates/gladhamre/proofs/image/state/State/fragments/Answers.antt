@@ -37,4 +37,4 @@ pub returns : goal.returns
 returns c =
     let most = taken-most c.args.self.words.now c.args.self.used c.args.self.taken in
     let h : length (take c.args.self.used c.records_of.result.now) ≡ c.args.self.used = length-take-le c.args.self.used c.records_of.result.now (omega (arith, c.records_of.ensures.1)) in
-    taken-list c.args.self.words.now c.args.self.used c.args.self.taken c.loop-i.fragments c.loop-i.i (omega arith) c.loop-i.invariant.1
+    taken-list c.args.self.words.now c.args.self.used c.args.self.taken c.loop-i.fragments (replicate limit unused_record) c.loop-i.i (omega arith) refl c.loop-i.invariant.1

@@ -72,15 +72,6 @@ pub part_head : (w : List ℕ) → head_fits (take 7 w) ≡ head_fits w
 part_head w =
     rw (get_or-take 7 w 1 0 (omega arith), get_or-take 7 w 2 0 (omega arith), get_or-take 7 w 3 0 (omega arith), get_or-take 7 w 4 0 (omega arith), get_or-take 7 w 5 0 (omega arith), get_or-take 7 w 6 0 (omega arith))
 
-six_tests : (a b c d e f : Bool) → (a && (b && (c && (d && (e && (f && true)))))) ≡ (a && b && c && d && e && f)
-six_tests false b c d e f = refl
-six_tests true false c d e f = refl
-six_tests true true false d e f = refl
-six_tests true true true false e f = refl
-six_tests true true true true false f = refl
-six_tests true true true true true false = refl
-six_tests true true true true true true = refl
-
 pub head_tests : (w : List ℕ) → length w ≡ 7 → (ltb (word w 1) 2 && list_all (λ x. ltb x 256) (take 5 (drop 2 w))) ≡ head_fits w
 head_tests [] h = absurd (omega arith)
 head_tests (x₀ ∷ []) h = absurd (omega arith)
@@ -89,7 +80,7 @@ head_tests (x₀ ∷ x₁ ∷ x₂ ∷ []) h = absurd (omega arith)
 head_tests (x₀ ∷ x₁ ∷ x₂ ∷ x₃ ∷ []) h = absurd (omega arith)
 head_tests (x₀ ∷ x₁ ∷ x₂ ∷ x₃ ∷ x₄ ∷ []) h = absurd (omega arith)
 head_tests (x₀ ∷ x₁ ∷ x₂ ∷ x₃ ∷ x₄ ∷ x₅ ∷ []) h = absurd (omega arith)
-head_tests (x₀ ∷ x₁ ∷ x₂ ∷ x₃ ∷ x₄ ∷ x₅ ∷ x₆ ∷ v) h = six_tests (ltb x₁ 2) (ltb x₂ 256) (ltb x₃ 256) (ltb x₄ 256) (ltb x₅ 256) (ltb x₆ 256)
+head_tests (x₀ ∷ x₁ ∷ x₂ ∷ x₃ ∷ x₄ ∷ x₅ ∷ x₆ ∷ v) h = grind (arith, nat_tests)
 
 -- the head of the state that an image stands for
 pub decoded :

@@ -171,22 +171,14 @@ module _ (w : List ℕ) where
     pub taken-state : is_state w ≡ true
     unfolding is_state
     taken-state =
-        let l = eqb (length w) image_length in
-        let z = all_zero (drop (7 + 6 * used_in w) w) in
-        let t = (taken-tests n e).0 in
-        let h = and_right l (head_fits w && z) t in
-        and_both (and_both (and_left l (head_fits w && z) t) (and_left (head_fits w) z h))
-        (used-fits limit (drop 7 w) (sym rest-zero ∙ and_right (head_fits w) z h))
+        let tests = (taken-tests n e).0 in
+        let fits = used-fits limit (drop 7 w) in
+        let rest = rest-zero in grind (arith, nat_tests)
 
     pub taken : Taken w n
     taken =
-        let z = all_zero (drop (7 + 6 * used_in w) w) in
         let t = taken-tests n e in
-        record {
-          state = state-words w taken-state;
-          counted = t.1;
-          zeros = and_right (head_fits w) z (and_right (eqb (length w) image_length) (head_fits w && z) t.0);
-        }
+        record { state = state-words w taken-state; counted = t.1; zeros = grind (arith, nat_tests) }
 
   -- the tests of the code
   pub words-short : (length w ≡ image_length → ⊥) → words_of w ≡ None

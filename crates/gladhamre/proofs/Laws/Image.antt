@@ -9,18 +9,16 @@ use mathlib.Core.Bool.{Bool, true, false, ◌&&◌}
 use mathlib.Core.List.{List, [], ◌∷◌, ◌++◌}
 use lib.ListN.{length, get_or, set, take, drop, length-append, length-drop}
 use lib.Seq.{drop-cons, drop-drop, get_or-take, take_all, length-take-le}
-use borrow.Author.Tests.{ltb-true}
 use lib.Dec.{eqb, ltb}
 use Rattle.std.specs.List.{list_all}
 use Rattle.std.specs.Simd.{first_chunks}
 use Rattle.fragments.specs.Fragment.{unused_record}
 use Rattle.fragments.specs.List.{limit}
 use Rattle.protocol.specs.Answer.{sense}
-use Rattle.fragments.proofs.Laws.Bool.{and_left, and_right}
 use Rattle.drive.specs.Bytes.{splice}
 use Rattle.drive.proofs.Laws.Bytes.{splice-splice, splice-end}
 use Rattle.gladhamre.specs.Types.{Kind, Reserved, Appended, Fragment, Disc}
-use Rattle.gladhamre.specs.Image.{image_length, flag_word, kind_word, kind_of, decode, word, record_of, record_fits, record_words, list_of, list_fits, list_words, head_words, head_fits, encode, is_state, StateWords, records_of}
+use Rattle.gladhamre.specs.Image.{image_length, flag_word, kind_word, kind_of, decode, word, record_of, record_words, list_of, list_fits, list_words, head_words, head_fits, encode, is_state, StateWords, records_of}
 
 -- the six words of a record, as the part of the image that is lent
 pub part_record : (v : List ℕ) → record_of (take 6 v) ≡ record_of v
@@ -229,8 +227,8 @@ unfolding list_fits list_of list_words
 list_same zero [] h t = refl
 list_same zero (x ∷ v) h t = absurd (omega arith)
 list_same (suc n) v h t =
-    let k = ltb-true (word v 5) 2 (and_right (ltb (word v 0) 256) _ (and_left (record_fits v) (list_fits n (drop 6 v)) t)) in
-    let r = list_same n (drop 6 v) (simp length-drop (omega arith)) (and_right (record_fits v) (list_fits n (drop 6 v)) t) in
+    let k : word v 5 < 2 = grind (arith, nat_tests) in
+    let r = list_same n (drop 6 v) (simp length-drop (omega arith)) (grind (arith, nat_tests)) in
     rw (kind_same (word v 5) k, r) (sym (six_words v (omega arith)))
 
 pub length-list_of : (n : ℕ) (v : List ℕ) → length (list_of n v) ≡ n

@@ -9,18 +9,16 @@ use mathlib.Core.Bool.{Bool, true, false, ◌&&◌}
 use mathlib.Core.List.{List, [], ◌∷◌, ◌++◌}
 use lib.ListN.{length, get_or, set, take, drop, length-append, length-drop}
 use lib.Seq.{drop-cons, drop-drop, get_or-take, take_all, length-take-le}
-use borrow.Author.Tests.{ltb-true}
 use lib.Dec.{eqb, ltb}
 use Rattle.std.specs.List.{list_all}
 use Rattle.std.specs.Simd.{first_chunks}
 use Rattle.fragments.specs.Fragment.{unused_record}
 use Rattle.fragments.specs.List.{limit}
 use Rattle.protocol.specs.Answer.{sense}
-use Rattle.fragments.proofs.Laws.Bool.{and_left, and_right}
 use Rattle.drive.specs.Bytes.{splice}
 use Rattle.drive.proofs.Laws.Bytes.{splice-splice, splice-end}
 use Rattle.gladhamre.specs.Types.{Kind, Reserved, Appended, Fragment, Disc}
-use Rattle.gladhamre.specs.Image.{image_length, flag_word, kind_word, kind_of, decode, word, record_of, record_fits, record_words, list_of, list_fits, list_words, head_words, head_fits, encode, is_state, StateWords, records_of}
+use Rattle.gladhamre.specs.Image.{image_length, flag_word, kind_word, kind_of, decode, word, record_of, record_words, list_of, list_fits, list_words, head_words, head_fits, encode, is_state, StateWords, records_of}
 
 -- the six words of a record, as the part of the image that is lent
 pub part_record : (v : List ℕ) → record_of (take 6 v) ≡ record_of v
@@ -72,15 +70,6 @@ pub part_head : (w : List ℕ) → head_fits (take 7 w) ≡ head_fits w
 part_head w =
     rw (get_or-take 7 w 1 0 (omega arith), get_or-take 7 w 2 0 (omega arith), get_or-take 7 w 3 0 (omega arith), get_or-take 7 w 4 0 (omega arith), get_or-take 7 w 5 0 (omega arith), get_or-take 7 w 6 0 (omega arith))
 
-six_tests : (a b c d e f : Bool) → (a && (b && (c && (d && (e && (f && true)))))) ≡ (a && b && c && d && e && f)
-six_tests false b c d e f = refl
-six_tests true false c d e f = refl
-six_tests true true false d e f = refl
-six_tests true true true false e f = refl
-six_tests true true true true false f = refl
-six_tests true true true true true false = refl
-six_tests true true true true true true = refl
-
 pub head_tests : (w : List ℕ) → length w ≡ 7 → (ltb (word w 1) 2 && list_all (λ x. ltb x 256) (take 5 (drop 2 w))) ≡ head_fits w
 head_tests [] h = absurd (omega arith)
 head_tests (x₀ ∷ []) h = absurd (omega arith)
@@ -89,7 +78,7 @@ head_tests (x₀ ∷ x₁ ∷ x₂ ∷ []) h = absurd (omega arith)
 head_tests (x₀ ∷ x₁ ∷ x₂ ∷ x₃ ∷ []) h = absurd (omega arith)
 head_tests (x₀ ∷ x₁ ∷ x₂ ∷ x₃ ∷ x₄ ∷ []) h = absurd (omega arith)
 head_tests (x₀ ∷ x₁ ∷ x₂ ∷ x₃ ∷ x₄ ∷ x₅ ∷ []) h = absurd (omega arith)
-head_tests (x₀ ∷ x₁ ∷ x₂ ∷ x₃ ∷ x₄ ∷ x₅ ∷ x₆ ∷ v) h = six_tests (ltb x₁ 2) (ltb x₂ 256) (ltb x₃ 256) (ltb x₄ 256) (ltb x₅ 256) (ltb x₆ 256)
+head_tests (x₀ ∷ x₁ ∷ x₂ ∷ x₃ ∷ x₄ ∷ x₅ ∷ x₆ ∷ v) h = grind (arith, nat_tests)
 
 -- the head of the state that an image stands for
 pub decoded :
@@ -238,8 +227,8 @@ unfolding list_fits list_of list_words
 list_same zero [] h t = refl
 list_same zero (x ∷ v) h t = absurd (omega arith)
 list_same (suc n) v h t =
-    let k = ltb-true (word v 5) 2 (and_right (ltb (word v 0) 256) _ (and_left (record_fits v) (list_fits n (drop 6 v)) t)) in
-    let r = list_same n (drop 6 v) (simp length-drop (omega arith)) (and_right (record_fits v) (list_fits n (drop 6 v)) t) in
+    let k : word v 5 < 2 = grind (arith, nat_tests) in
+    let r = list_same n (drop 6 v) (simp length-drop (omega arith)) (grind (arith, nat_tests)) in
     rw (kind_same (word v 5) k, r) (sym (six_words v (omega arith)))
 
 pub length-list_of : (n : ℕ) (v : List ℕ) → length (list_of n v) ≡ n

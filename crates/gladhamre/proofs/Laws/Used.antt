@@ -5,7 +5,7 @@ use mathlib.Core.List.{List, [], ◌∷◌, ◌++◌}
 use Prim.Native.Nat.{ℕ, zero, suc, ◌+◌, ◌-◌, ◌*◌, ◌≤◌, ◌<◌}
 use native.Mathlib.Omega.{arith}
 use Rattle.std.proofs.lemmas.Bool.Decides.{nat_tests}
-use borrow.Author.Tests.{eq-eqb, ne_eqb, eqb-true, ltb-false}
+use borrow.Author.Tests.{eq-eqb, ne_eqb, ltb-false}
 use lib.Bits.{bit_or}
 use Rattle.std.specs.List.{fold, position, position_or_len}
 use Rattle.std.specs.Option.{unwrap_or}
@@ -171,22 +171,14 @@ module _ (w : List ℕ) where
     pub taken-state : is_state w ≡ true
     unfolding is_state
     taken-state =
-        let l = eqb (length w) image_length in
-        let z = all_zero (drop (7 + 6 * used_in w) w) in
-        let t = (taken-tests n e).0 in
-        let h = and_right l (head_fits w && z) t in
-        and_both (and_both (and_left l (head_fits w && z) t) (and_left (head_fits w) z h))
-        (used-fits limit (drop 7 w) (sym rest-zero ∙ and_right (head_fits w) z h))
+        let tests = (taken-tests n e).0 in
+        let fits = used-fits limit (drop 7 w) in
+        let rest = rest-zero in grind (arith, nat_tests)
 
     pub taken : Taken w n
     taken =
-        let z = all_zero (drop (7 + 6 * used_in w) w) in
         let t = taken-tests n e in
-        record {
-          state = state-words w taken-state;
-          counted = t.1;
-          zeros = and_right (head_fits w) z (and_right (eqb (length w) image_length) (head_fits w && z) t.0);
-        }
+        record { state = state-words w taken-state; counted = t.1; zeros = grind (arith, nat_tests) }
 
   -- the tests of the code
   pub words-short : (length w ≡ image_length → ⊥) → words_of w ≡ None
@@ -205,16 +197,12 @@ module _ (w : List ℕ) where
   pub unsound-words : words_of w ≡ None → is_state w ≡ true → allowed_state (decode w) ≡ false
   unfolding words_of is_state allowed_state decode
   unsound-words e t =
-      let h = eqb (length w) image_length in
-      let f = list_fits limit (drop 7 w) in
-      let whole = and_left h (head_fits w) (and_left (h && head_fits w) f t) in
-      let head = and_right h (head_fits w) (and_left (h && head_fits w) f t) in
-      let fits = and_right (h && head_fits w) f t in
-      let l : length (drop 7 w) ≡ 6 * limit = simp length-drop (omega (arith, eqb-true (length w) image_length whole)) in
+      let whole : length w ≡ image_length = grind (arith, nat_tests) in
+      let fits : list_fits limit (drop 7 w) ≡ true = grind (arith, nat_tests) in
       by_cases (sound (decode w))
       (λ s.
-      let z = used_first_zero limit (drop 7 w) l fits (sound-tests (decode w) s).first in
-      let k = and_both whole (and_both head (rest-zero ∙ z)) in
+      let z = rest-zero ∙ used_first_zero limit (drop 7 w) (simp length-drop (omega arith)) fits (sound-tests (decode w) s).first in
+      let k : (eqb (length w) image_length && (head_fits w && all_zero (drop (7 + 6 * used_in w) w))) ≡ true = grind (arith, nat_tests) in
       let other : None ≡ Some (used_in w) = sym e ∙ cond_yes _ _ _ k in absurd cc)
       (λ s. and-false (sound (decode w)) _ s)
 

@@ -11,7 +11,7 @@ use Rattle.configuration.proofs.reader.read.Goals as goal
 pub returns : goal.returns
 returns c =
     let x = c.args.reply.now in
-    let first = c.first_feature-first.ensures in
+    let first = c.unwrap_or-first.ensures ∙ c.first_feature.ensures in
     let one : c.of-alone.result ≡ answered x 2 (first_feature x) = rw first at c.of-alone.ensures in
     by_cases (same_bytes x (configuration_bytes 2 (first_feature x)))
     (λ t.

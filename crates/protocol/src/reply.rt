@@ -3,7 +3,7 @@ ghost use Rattle.std.specs.Prelude.{◌≡◌, ◌≤◌, length};
 ghost use Rattle.protocol.specs.Reply.{cut_reply, report, configuration_reply, no_reply};
 
 // What a reply says: bytes that it holds itself, zeros after them, or what GET CONFIGURATION says, which is longer than any other report and
-// is written only where it is sent.
+// is written only where it is sent. Request type and start stand apart, as `decode` gives them and the functions of `features` take them.
 #[derive(Clone, Copy)]
 pub enum Content {
     Own([u8; Reply::LIMIT]),

@@ -14,7 +14,8 @@ use fragments::{Entry, Fragment, Kind};
 use protocol::{DriveRefusal, Reply};
 
 impl ReadyDisc {
-    // An incomplete reserved fragment is closed; `f` is its record after the flush.
+    // An incomplete reserved fragment is closed; `f` is its record after the flush. What `first` is stays a clause: in a struct of disc and
+    // flush it would be a ghost field, at the price of one more copy of the records or of a second reference in every clause.
     fn close_reserved(&self, first: Flushing, number: usize, f: Fragment) -> Decision
         requires first_value { first ≡ flushing self.now.disc }
         requires le_number { (1 ≤ number) × (number ≤ used (flush self.now.disc)) }

@@ -33,7 +33,7 @@ fn records_of(words: &Image) -> &[[u32; RECORD]]
     records
 }
 
-// A record in its place.
+// A record in its place. By its range: of chunks that are lent to be written the library does not say what they leave in the whole.
 pub(crate) fn put_record(words: &mut Image, index: usize, fragment: Fragment)
     requires { index < limit }
     ensures { words.new ≡ splice words.old (7 + 6 * index) (record_words fragment) }

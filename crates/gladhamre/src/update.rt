@@ -45,8 +45,8 @@ fn put_both(words: &mut Image, first: Entry, second: Entry)
     put(words, second);
 }
 
-// What becomes of the list, of the pending sectors and of the flag. The disc by value follows an effect in `disc` by itself: a trait over
-// both would need a type for words that are lent, since neither it nor an array is this crate's, and a relation in place of each equation.
+// What becomes of the list, of the pending sectors and of the flag.
+// Its twin is `affected` of `disc`: a trait over both would need a type for words that are lent, and a relation in place of each equation.
 fn put_effect(words: &mut Image, effect: Effect)
     ensures { Turned words.old words.new (λ d. affected d effect) }
 {

@@ -51,7 +51,7 @@ fn break_off<E: Write>(replay: Replay, errors: &mut E) -> io::Result<Ending>
 // Replays the trace that a reader gives: a line for each record goes to the report, and why a trace is not whole to the errors too. Where it
 // leads is where its records lead, whatever they are; and where the bytes that the reader gives are known, what is printed for them is
 // known too. A read that fails is told among the errors, and ends a trace that is not whole. An error is that of a line that could not be
-// written: nothing is read or played after it. It reads a record at a time at the most, and writes a line in parts.
+// written: nothing is read or played after it. It reads a record at a time at the most and writes a line in parts, so lend it buffered streams.
 pub fn replay_from<R: Read, W: Write, E: Write>(
     input: &mut R,
     report: &mut W,

@@ -2,7 +2,7 @@
 use Rattle.std.proofs.Common.{◌≡◌, ℕ, ◌⊎◌, inl, inr, ◌≤◌, List, [], ◌∷◌, ◌++◌, Option, None, Some, Result, Ok, Err, IfOk, OnOk, IfSome, length, take, drop, refl, sym, ap, ◌∙◌, subst, append_assoc, append-nil, arith}
 use lib.ListN.{drop_of_length-le}
 use Rattle.std.specs.Io.KnownBytes.{Keeps, Appends, Consumes, IsAtEnd, prepend_known}
-use Rattle.std.proofs.KnownBytes.{Appends-trans, Keeps-refl}
+use Rattle.std.proofs.KnownBytes.{Appends-trans, Keeps-refl, prepend_known-nil}
 use Rattle.trace.specs.Record.{reading_of, step_at}
 use Rattle.trace.specs.Whole.{whole_cdbs, whole_end}
 use Rattle.trace.proofs.Laws.Record.{step_end, step_stop}
@@ -103,10 +103,6 @@ pub record Sofar (x0 x y0 y z0 z : Option (List ℕ)) (h : List ℕ) (r : Replay
   pub replay : r ≡ replayed start done
   pub left : LeftOf x0 (prepend_known h x) done
 
-prepend_none : (x : Option (List ℕ)) → prepend_known [] x ≡ x
-prepend_none None = refl
-prepend_none (Some t) = refl
-
 pub sofar_first : (x y0 y z : Option (List ℕ)) (r : Replay) → r ≡ start → Appends y0 y heading → Sofar x x y0 y z z [] r
 unfolding lines replayed
 sofar_first x y0 y z r e printed =
@@ -115,7 +111,7 @@ sofar_first x y0 y z r e printed =
       report = subst (Appends y0 y) (sym (append-nil heading)) printed;
       errors = Keeps-refl z;
       replay = e;
-      left = subst (λ (o : Option (List ℕ)). LeftOf x o []) (sym (prepend_none x)) (left_first x);
+      left = subst (λ (o : Option (List ℕ)). LeftOf x o []) (sym (prepend_known-nil x)) (left_first x);
     }
 
 module _ (x0 x y0 y z0 z : Option (List ℕ)) (h : List ℕ) (r : Replay) (w : Sofar x0 x y0 y z0 z h r) where

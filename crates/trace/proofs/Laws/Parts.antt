@@ -1,14 +1,13 @@
 -- A trace that comes in parts: a record or a bad mark in the first part stands there in the whole, and where the first part is cut short
 -- or at its end, its last bytes are read again with what comes.
-use Rattle.std.proofs.Common.{◌≡◌, refl, sym, ap, ◌∙◌, ℕ, zero, suc, ◌+◌, ◌≤◌, ◌<◌, Bool, true, false, not, ◌||◌, arith, List, ◌∷◌, ◌++◌, length, get_or, take, drop, length-drop, Ok, Err, lt-ltb, ltb, eqb}
-use mathlib.Core.Bool.{and-eq-true_iff, or-true}
-use borrow.Author.Tests.{ne_eqb, ltb-true, eqb-false}
+use Rattle.std.proofs.Common.{◌≡◌, sym, ap, ◌∙◌, ℕ, zero, suc, ◌+◌, ◌≤◌, ◌<◌, arith, List, ◌∷◌, ◌++◌, length, take, drop, length-drop, Ok, Err}
+use Rattle.std.proofs.lemmas.Bool.Decides.{nat_tests}
 use lib.ListN.{length-append, get_or-append}
 use lib.Seq.{drop-append-le, take-append-le, drop-drop}
-use Rattle.trace.specs.Types.{Record, BadMark, Stop}
-use Rattle.trace.specs.Record.{is_wrong, bad_mark, cdb_of, reading_of, reason_of, step_of, stopped, step_at}
+use Rattle.trace.specs.Types.{Record, Reason, BadMark, End, Stop}
+use Rattle.trace.specs.Record.{bad_mark, cdb_of, reading_of, reason_of, step_of, stopped, step_at}
 use Rattle.trace.specs.Whole.{all_from, end_from, whole_cdbs, whole_end}
-use Rattle.trace.proofs.Laws.Record.{Marked, tested, marked_record, step_end, step_record, step_stop}
+use Rattle.trace.proofs.Laws.Record.{Marked, marked_record, step_end, step_record, step_stop}
 use Rattle.trace.proofs.Laws.Whole.{by_step, record_found, whole_next, whole_stop}
 
 pub record_early : (a b : List ℕ) (at : ℕ) (r : Record) → step_at a at ≡ Ok r → step_at (a ++ b) at ≡ Ok r
@@ -28,36 +27,20 @@ record_early a b at r h =
     ap (take 12) (drop-append-le 2 l b (omega arith)) ∙ take-append-le 12 (drop 2 l) b (omega (arith, length-drop 2 l)) in
     rw (e, marked_record (l ++ b) more, k) (rw (marked_record l m) at h)
 
--- a wrong byte stays wrong
-wrong_early : (l b : List ℕ) (i mark : ℕ) → is_wrong l i mark ≡ true → is_wrong (l ++ b) i mark ≡ true
-wrong_early l b i mark h =
-    let w = (and-eq-true_iff (ltb i (length l)) (not (eqb (get_or l i 0) mark))).0 h in
-    let k : i < length l = ltb-true i (length l) w.0 in
-    rw (get_or-append l b 0 i k, lt-ltb i (length (l ++ b)) (omega (arith, length-append l b))) w.1
+not_empty : (l : List ℕ) (r : Reason) → reading_of l ≡ Err r → (r ≡ End → ⊥) → 0 < length l
+unfolding reading_of
+not_empty l r h q = grind (arith, nat_tests)
 
-either : (a b c d : Bool) → (a ≡ true → c ≡ true) → (b ≡ true → d ≡ true) → (a || b) ≡ true → (c || d) ≡ true
-either true b c d f g h = rw (f refl)
-either false b c d f g h = rw (g h) (or-true c)
-
-bad_more : (l b : List ℕ) → bad_mark l ≡ true → bad_mark (l ++ b) ≡ true
-unfolding bad_mark
-bad_more l b h =
-    either (is_wrong l 0 0xA5) (is_wrong l 1 0x5A) (is_wrong (l ++ b) 0 0xA5) (is_wrong (l ++ b) 1 0x5A) (wrong_early l b 0 0xA5) (wrong_early l b 1 0x5A) h
-
-picked_bad : (e m s : Bool) (c : List ℕ) → tested e m s c ≡ Err BadMark → (e ≡ false) × (m ≡ true)
-picked_bad true m s c h = absurd (let z : ◌≡◌ {A = ℕ} 0 1 = cc in omega arith)
-picked_bad false true s c h = (refl, refl)
-picked_bad false false true c h = absurd (let z : ◌≡◌ {A = ℕ} 0 1 = cc in omega arith)
-picked_bad false false false c h = absurd (let z : ◌≡◌ {A = ℕ} 0 1 = cc in omega arith)
+-- a wrong mark byte stays wrong
+bad_more : (l b : List ℕ) → reading_of l ≡ Err BadMark → reading_of (l ++ b) ≡ Err BadMark
+unfolding reading_of bad_mark
+bad_more l b h = grind (arith, nat_tests, length-append l b, get_or-append l b 0)
 
 pub bad_early : (a b : List ℕ) (at : ℕ) → reading_of (drop at a) ≡ Err BadMark → step_at (a ++ b) at ≡ stopped BadMark at
-unfolding step_at step_of reading_of
+unfolding step_at step_of
 bad_early a b at h =
-    let l = drop at a in
-    let p = picked_bad (eqb (length l) 0) (bad_mark l) (ltb (length l) 14) (cdb_of l) h in
-    let some : length l ≡ 0 → ⊥ = eqb-false (length l) 0 p.0 in
-    let e : drop at (a ++ b) ≡ l ++ b = drop-append-le at a b (omega (arith, length-drop at a)) in
-    rw (e, ne_eqb (length (l ++ b)) 0 (λ q. some (omega (arith, length-append l b))), bad_more l b p.1)
+    let some : 0 < length (drop at a) = not_empty (drop at a) BadMark h (λ e. absurd (let z : ◌≡◌ {A = ℕ} 0 1 = cc in omega arith)) in
+    rw (drop-append-le at a b (omega (arith, length-drop at a)), bad_more (drop at a) b h)
 
 -- the records of a trace that goes on are those of its first part, and then those from its stop on
 record Goes (a b : List ℕ) (at : ℕ) : Type 0 where

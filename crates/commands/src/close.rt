@@ -10,44 +10,45 @@ ghost use Rattle.commands.specs.Close.{close_incomplete, close_fragment, close};
 use crate::change;
 use crate::ready::ReadyDisc;
 use decisions::{Decision, Effect, Flushing, Plan, Transfer};
-use fragments::{Entry, Fragment, Kind};
+use fragments::{Entry, Kind};
 use protocol::{DriveRefusal, Reply};
 
 impl ReadyDisc {
-    // An incomplete reserved fragment is closed; `f` is its record after the flush. What `first` is stays a clause: in a struct of disc and
+    // An incomplete reserved fragment is closed, given with its number and its record after the flush. What `first` is stays a clause: in a struct of disc and
     // flush it would be a ghost field, at the price of one more copy of the records or of a second reference in every clause.
-    fn close_reserved(&self, first: Flushing, number: usize, f: Fragment) -> Decision
+    fn close_reserved(&self, first: Flushing, entry: Entry) -> Decision
         requires first_value { first ≡ flushing self.now.disc }
-        requires le_number { (1 ≤ number) × (number ≤ used (flush self.now.disc)) }
-        requires f_value { f ≡ numbered (flush self.now.disc) number }
-        ensures { decided self.now.disc result ≡ close_incomplete self.now.disc (flush self.now.disc) number Reserved }
+        requires le_number { (1 ≤ entry.number) × (entry.number ≤ used (flush self.now.disc)) }
+        requires record_value { entry.fragment ≡ numbered (flush self.now.disc) entry.number }
+        ensures { decided self.now.disc result ≡ close_incomplete self.now.disc (flush self.now.disc) entry.number Reserved }
     {
+        let f = entry.fragment;
         let blocks = f.length - f.recorded;
         let block = change::first_unrecorded(f);
         let transfer = Transfer::Fill { block, blocks };
         let plan = Plan::new(first.plan, transfer);
         let effect = Effect::Close {
             flushed: first.entry,
-            closed: Entry::new(number, change::filled(f)),
+            closed: Entry::new(entry.number, change::filled(f)),
             tail: Entry::none(),
             finalized: self.disc.finalized,
         };
         Decision::accepted(effect, first.recorded + blocks, Reply::none(), plan)
     }
 
-    // A written tail is closed; `f` is its record after the flush.
-    fn close_appended(&self, first: Flushing, number: usize, f: Fragment) -> Decision
+    // A written tail is closed, given with its number and its record after the flush.
+    fn close_appended(&self, first: Flushing, entry: Entry) -> Decision
         requires first_value { first ≡ flushing self.now.disc }
-        requires number_value { number ≡ used (flush self.now.disc) }
-        requires f_value { f ≡ numbered (flush self.now.disc) number }
-        ensures { decided self.now.disc result ≡ close_incomplete self.now.disc (flush self.now.disc) number Appended }
+        requires number_value { entry.number ≡ used (flush self.now.disc) }
+        requires record_value { entry.fragment ≡ numbered (flush self.now.disc) entry.number }
+        ensures { decided self.now.disc result ≡ close_incomplete self.now.disc (flush self.now.disc) entry.number Appended }
     {
         let plan = Plan::new(first.plan, Transfer::Nothing);
-        let short = f.shortened();
+        let short = entry.fragment.shortened();
         let effect = Effect::Close {
             flushed: first.entry,
-            closed: Entry::new(number, short),
-            tail: Entry::tail_after(self.disc.capacity, number, short),
+            closed: Entry::new(entry.number, short),
+            tail: Entry::tail_after(self.disc.capacity, entry.number, short),
             finalized: self.disc.finalized,
         };
         Decision::accepted(effect, first.recorded, Reply::none(), plan)
@@ -66,13 +67,14 @@ impl ReadyDisc {
             return Err(DriveRefusal::EmptyTrack);
         }
         let first = self.flushing();
-        let f = first.entry.over(number, before);
-        if f.is_complete() {
+        let fragment = first.entry.over(number, before);
+        if fragment.is_complete() {
             return Ok(self.synchronize_cache());
         }
-        match f.kind {
-            Kind::Reserved => Ok(self.close_reserved(first, number, f)),
-            Kind::Appended => Ok(self.close_appended(first, number, f)),
+        let entry = Entry { number, fragment };
+        match fragment.kind {
+            Kind::Reserved => Ok(self.close_reserved(first, entry)),
+            Kind::Appended => Ok(self.close_appended(first, entry)),
         }
     }
 

@@ -9,7 +9,7 @@ ghost use Rattle.commands.specs.Write.{flush_others, flush_others_entry, gather,
 use crate::change;
 use crate::ready::ReadyDisc;
 use decisions::{Decision, Effect, Plan, Transfer};
-use fragments::{Entry, Fragment, Lba};
+use fragments::{Entry, Lba};
 use protocol::{DriveRefusal, Reply};
 
 // The number beside a pending count: the fragment's, or 0 with none pending, as the state that C keeps has it.
@@ -24,50 +24,44 @@ fn owner_of(pending: usize, number: usize) -> u8
 }
 
 impl ReadyDisc {
-    // More sectors gathered in the fragment with a number, whose record is `f`, after the flush that leaves `flushed`.
-    fn gather(&self, flushed: Entry, number: usize, f: Fragment, sectors: u32) -> Effect
-        requires flushed_value { flushed ≡ flush_others_entry self.now.disc number }
-        requires gathering { Gathering self.now.disc number sectors }
-        requires f_value { f ≡ numbered self.now.disc number }
-        ensures { affected self.now.disc result ≡ gather (flush_others self.now.disc number) number sectors }
+    // More sectors gathered in a fragment, given with its number, after the flush that leaves `flushed`.
+    fn gather(&self, flushed: Entry, entry: Entry, sectors: u32) -> Effect
+        requires flushed_value { flushed ≡ flush_others_entry self.now.disc entry.number }
+        requires gathering { Gathering self.now.disc entry.number sectors }
+        requires record_value { entry.fragment ≡ numbered self.now.disc entry.number }
+        ensures { affected self.now.disc result ≡ gather (flush_others self.now.disc entry.number) entry.number sectors }
     {
-        let held = self.disc.pending_in(number) as usize + sectors as usize;
+        let held = self.disc.pending_in(entry.number) as usize + sectors as usize;
         let left = fragments::left_over(held);
         Effect::Grow {
             flushed,
-            grown: Entry::new(number, change::grown(f, held)),
+            grown: Entry::new(entry.number, change::grown(entry.fragment, held)),
             pending: left as u8,
-            owner: owner_of(left, number),
+            owner: owner_of(left, entry.number),
         }
     }
 
-    // A WRITE of 1 up at the next writable address of the fragment with a number, whose record is `f`.
+    // A WRITE of 1 up at the next writable address of a fragment, given with its number.
     #[tactic(auto, unfolding(crate::specs::Write::write_to))]
-    fn write_to(
-        &self,
-        address: Lba,
-        sectors: u32,
-        number: usize,
-        f: Fragment,
-    ) -> Result<Decision, DriveRefusal>
-        requires writable { Writable self.now.disc address number }
-        requires f_value { f ≡ numbered self.now.disc number }
-        ensures { concluded self.now.disc result ≡ write_to self.now.disc address sectors number }
+    fn write_to(&self, address: Lba, sectors: u32, entry: Entry) -> Result<Decision, DriveRefusal>
+        requires writable { Writable self.now.disc address entry.number }
+        requires record_value { entry.fragment ≡ numbered self.now.disc entry.number }
+        ensures { concluded self.now.disc result ≡ write_to self.now.disc address sectors entry.number }
     {
-        if address.passes(sectors, f.end_address()) {
+        if address.passes(sectors, entry.fragment.end_address()) {
             return Err(DriveRefusal::EndOfUserArea);
         }
-        let pending = self.disc.pending_in(number);
-        let block = change::first_unrecorded(f);
+        let pending = self.disc.pending_in(entry.number);
+        let block = change::first_unrecorded(entry.fragment);
         let transfer = Transfer::Gather {
             block,
             pending,
             sectors,
         };
         let gathered = fragments::whole_blocks(pending as usize + sectors as usize) as u32;
-        let first = self.flushing_others(number);
+        let first = self.flushing_others(entry.number);
         let plan = Plan::new(first.plan, transfer);
-        let effect = self.gather(first.entry, number, f, sectors);
+        let effect = self.gather(first.entry, entry, sectors);
         Ok(Decision::accepted(effect, first.recorded + gathered, Reply::none(), plan))
     }
 
@@ -85,6 +79,6 @@ impl ReadyDisc {
         let Some(holder) = self.writable_at(address) else {
             return Err(DriveRefusal::InvalidAddressForWrite);
         };
-        self.write_to(address, sectors, holder.number, holder.fragment)
+        self.write_to(address, sectors, holder)
     }
 }

@@ -1,5 +1,5 @@
 -- The fragment that an address lies in, as the search by halving finds it on a sound list, and what the commands take from it.
-use Prim.Native.Nat.{ℕ, suc, ◌-◌, ◌≤◌, ◌<◌}
+use Prim.Native.Nat.{ℕ, suc, ◌-◌, ◌<◌}
 use mathlib.Core.Path.{◌≡◌, refl, sym, ◌∙◌, ap}
 use mathlib.Core.Bool.{true, false, not}
 use mathlib.Core.List.{List}
@@ -8,7 +8,7 @@ use borrow.Author.Tests.{le-leb, lt-ltb, eq-eqb, eqb-true, not-true}
 use lib.Dec.{eqb}
 use Rattle.commands.specs.Types.{Lba, Fragment, Disc, Entry, Option, Some, None}
 use Rattle.fragments.specs.Address.{first_sector}
-use Rattle.fragments.specs.Fragment.{end, complete, first_unrecorded, takes}
+use Rattle.fragments.specs.Fragment.{end, complete, takes}
 use Rattle.fragments.specs.List.{record_numbered}
 use Rattle.fragments.specs.Entry.{entry}
 use Rattle.search.specs.Search.{finds, halving, held}
@@ -18,10 +18,9 @@ use Rattle.disc.specs.Ready.{Ready}
 use Rattle.commands.specs.Holder.{EightLooks}
 use Rattle.commands.specs.Write.{Writable}
 use Rattle.fragments.proofs.Laws.Bool.{and_left, and_right, and_both, contradiction}
-use Rattle.fragments.proofs.Laws.Numbers.{equal_cases}
 use Rattle.search.proofs.Laws.Search.{Rising, seen_few, seen_decides, halving-finds, holder-is}
 use Rattle.disc.proofs.Laws.Rules.{sound-rules}
-use Rattle.disc.proofs.Laws.Sound.{starts-rise, none_pending, other_pending, writable-within}
+use Rattle.disc.proofs.Laws.Sound.{starts-rise, writable-within}
 use Rattle.disc.proofs.Laws.Readable.{located}
 use Rattle.commands.proofs.Laws.Write.{writable_found, takes-found}
 

@@ -19,10 +19,10 @@ pub returns : goal.returns
 unfolding close_incomplete
 returns c =
     let d = c.args.self.now.disc in
-    let n = c.args.number in
+    let n = c.args.entry.number in
     let r = c.args.self.now.ready in
     let u = c.requires.number_value in
     let g = shortened_record (numbered (flush d) n) in
-    rw (c.accepted.ensures, accepted_verdict, c.none.ensures, c.tail_after.ensures, c.new.ensures, c.shortened-short.ensures, c.new-plan.ensures, c.requires.f_value, c.requires.first_value)
+    rw (c.accepted.ensures, accepted_verdict, c.none.ensures, c.tail_after.ensures, c.new.ensures, c.shortened-short.ensures, c.new-plan.ensures, c.requires.record_value, c.requires.first_value)
     (ap (λ x. accepted x (flush_count d) no_reply (plan (flush_plan d) Nothing)) (affected_shortened d n g r (omega (arith, u, (flush-sound d r).some)) (omega (arith, u, used-limit (flush d) (flush_ready d r))))
     ∙ sym (accept_count d _ _ _ _ (shorten_count d n r u)))

@@ -26,7 +26,7 @@ returns-then-is_complete c =
     let r = c.args.self.now.ready in
     let li = sym c.is_listed.ensures ∙ c.if-not-is_listed.false in
     let l = listed-number d n li in
-    let fo = stands d n r l.0 c.flushing-first.ensures c.numbered-before.ensures c.over-f.ensures in
+    let fo = stands d n r l.0 c.flushing-first.ensures c.numbered-before.ensures c.over-fragment.ensures in
     let b = rw c.numbered-before.ensures at (sym c.is_blank.ensures ∙ c.if-is_blank.false) in
     c.synchronize_cache.ensures ∙ sym (close-complete d n li b (rw fo at (sym c.is_complete.ensures ∙ c.if-is_complete.true)))
 
@@ -37,8 +37,8 @@ close_reserved-requires c =
     let r = c.args.self.now.ready in
     let li = sym c.is_listed.ensures ∙ c.if-not-is_listed.false in
     let l = listed-number d n li in
-    let fo = stands d n r l.0 c.flushing-first.ensures c.numbered-before.ensures c.over-f.ensures in
-    record { first_value = c.flushing-first.ensures; le_number = (l.0, omega (arith, l, flush-used d r)); f_value = fo }
+    let fo = stands d n r l.0 c.flushing-first.ensures c.numbered-before.ensures c.over-fragment.ensures in
+    record { first_value = c.flushing-first.ensures; le_number = (l.0, omega (arith, l, flush-used d r)); record_value = fo }
 
 pub close_appended-requires : goal.close_appended-requires
 close_appended-requires c =
@@ -47,12 +47,12 @@ close_appended-requires c =
     let r = c.args.self.now.ready in
     let li = sym c.is_listed.ensures ∙ c.if-not-is_listed.false in
     let l = listed-number d n li in
-    let fo = stands d n r l.0 c.flushing-first.ensures c.numbered-before.ensures c.over-f.ensures in
+    let fo = stands d n r l.0 c.flushing-first.ensures c.numbered-before.ensures c.over-fragment.ensures in
     let cf = rw fo at (sym c.is_complete.ensures ∙ c.if-is_complete.false) in
     record {
       first_value = c.flushing-first.ensures;
       number_value = appended_last (flush d) n (flush-sound d r) l.0 (omega (arith, l, flush-used d r)) cf (rw fo at c.in-Appended.is);
-      f_value = fo;
+      record_value = fo;
     }
 
 pub returns-in-Reserved : goal.returns-in-Reserved
@@ -62,7 +62,7 @@ returns-in-Reserved c =
     let r = c.args.self.now.ready in
     let li = sym c.is_listed.ensures ∙ c.if-not-is_listed.false in
     let l = listed-number d n li in
-    let fo = stands d n r l.0 c.flushing-first.ensures c.numbered-before.ensures c.over-f.ensures in
+    let fo = stands d n r l.0 c.flushing-first.ensures c.numbered-before.ensures c.over-fragment.ensures in
     let b = rw c.numbered-before.ensures at (sym c.is_blank.ensures ∙ c.if-is_blank.false) in
     let cf = rw fo at (sym c.is_complete.ensures ∙ c.if-is_complete.false) in
     c.close_reserved.ensures ∙ sym (close-incomplete d n li b Reserved cf (rw fo at c.in-Reserved.is))
@@ -74,7 +74,7 @@ returns-in-Appended c =
     let r = c.args.self.now.ready in
     let li = sym c.is_listed.ensures ∙ c.if-not-is_listed.false in
     let l = listed-number d n li in
-    let fo = stands d n r l.0 c.flushing-first.ensures c.numbered-before.ensures c.over-f.ensures in
+    let fo = stands d n r l.0 c.flushing-first.ensures c.numbered-before.ensures c.over-fragment.ensures in
     let b = rw c.numbered-before.ensures at (sym c.is_blank.ensures ∙ c.if-is_blank.false) in
     let cf = rw fo at (sym c.is_complete.ensures ∙ c.if-is_complete.false) in
     c.close_appended.ensures ∙ sym (close-incomplete d n li b Appended cf (rw fo at c.in-Appended.is))

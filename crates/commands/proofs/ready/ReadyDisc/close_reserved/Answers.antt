@@ -19,31 +19,31 @@ use Rattle.commands.proofs.ready.ReadyDisc.close_reserved.Goals as goal
 
 pub overflow_sub-blocks : goal.overflow_sub-blocks
 overflow_sub-blocks c =
-    let m = flushed-numbers c.args.self.now.disc c.args.number c.args.self.now.ready c.requires.le_number in
-    rw c.requires.f_value m.recorded
+    let m = flushed-numbers c.args.self.now.disc c.args.entry.number c.args.self.now.ready c.requires.le_number in
+    rw c.requires.record_value m.recorded
 
 pub first_unrecorded-block-requires : goal.first_unrecorded-block-requires
 first_unrecorded-block-requires c =
-    let m = flushed-numbers c.args.self.now.disc c.args.number c.args.self.now.ready c.requires.le_number in
-    rw c.requires.f_value (omega (arith, m.ends, m.recorded))
+    let m = flushed-numbers c.args.self.now.disc c.args.entry.number c.args.self.now.ready c.requires.le_number in
+    rw c.requires.record_value (omega (arith, m.ends, m.recorded))
 
 pub filled-requires : goal.filled-requires
 filled-requires c =
-    let m = flushed-numbers c.args.self.now.disc c.args.number c.args.self.now.ready c.requires.le_number in
-    rw c.requires.f_value (m.recorded, omega (arith, m.ends), m.zeroed)
+    let m = flushed-numbers c.args.self.now.disc c.args.entry.number c.args.self.now.ready c.requires.le_number in
+    rw c.requires.record_value (m.recorded, omega (arith, m.ends), m.zeroed)
 
 pub overflow_add-first : goal.overflow_add-first
 overflow_add-first c =
-    let m = flushed-numbers c.args.self.now.disc c.args.number c.args.self.now.ready c.requires.le_number in
-    rw (c.requires.f_value, c.requires.first_value) (omega (arith, m.ends, flush_count_most c.args.self.now.disc))
+    let m = flushed-numbers c.args.self.now.disc c.args.entry.number c.args.self.now.ready c.requires.le_number in
+    rw (c.requires.record_value, c.requires.first_value) (omega (arith, m.ends, flush_count_most c.args.self.now.disc))
 
 pub returns : goal.returns
 unfolding close_incomplete
 returns c =
     let d = c.args.self.now.disc in
-    let n = c.args.number in
+    let n = c.args.entry.number in
     let r = c.args.self.now.ready in
     let g = numbered (flush d) n in
-    rw (c.accepted.ensures, accepted_verdict, c.none.ensures, c.none-2.ensures, c.new.ensures, c.filled.ensures, c.new-plan.ensures, c.first_unrecorded-block.ensures, c.requires.f_value, c.requires.first_value)
+    rw (c.accepted.ensures, accepted_verdict, c.none.ensures, c.none-2.ensures, c.new.ensures, c.filled.ensures, c.new-plan.ensures, c.first_unrecorded-block.ensures, c.requires.record_value, c.requires.first_value)
     (ap (λ x. accepted x (flush_count d + (g.length - g.recorded)) no_reply (plan (flush_plan d) (Fill (first_unrecorded g) (g.length - g.recorded)))) (affected-filled d n (filled_record g) r c.requires.le_number.0)
     ∙ sym (accept_count d _ _ _ _ (fill_count d n r c.requires.le_number.0 c.requires.le_number.1)))

@@ -18,4 +18,4 @@ write_to-requires c =
     let d = c.args.self.now.disc in
     let a = c.args.address in
     let h = sym c.writable_at.ensures ∙ c.in-Some.is in
-    record { writable = held-writable d a _ h; f_value = (held_some d.fragments (writable_at d a) _ h).1 }
+    record { writable = held-writable d a _ h; record_value = (held_some d.fragments (writable_at d a) _ h).1 }

@@ -21,30 +21,30 @@ fits {g = g} a n p q r z = ltb-false (first_sector (end g)).0 (a.0 + n) (sym (p 
 pub first_unrecorded-block-requires : goal.first_unrecorded-block-requires
 first_unrecorded-block-requires c =
     let d = c.args.self.now.disc in
-    let p = place d c.args.address c.args.number c.args.self.now.ready c.requires.writable in
-    rw c.requires.f_value (omega (arith, p.ends, p.room))
+    let p = place d c.args.address c.args.entry.number c.args.self.now.ready c.requires.writable in
+    rw c.requires.record_value (omega (arith, p.ends, p.room))
 
 pub gather-effect-requires : goal.gather-effect-requires
 gather-effect-requires c =
     let d = c.args.self.now.disc in
     let a = c.args.address in
-    let n = c.args.number in
+    let n = c.args.entry.number in
     let k = c.args.sectors in
-    let h = fits a k c.passes.ensures c.end_address.ensures c.requires.f_value c.if-passes.false in
+    let h = fits a k c.passes.ensures c.end_address.ensures c.requires.record_value c.if-passes.false in
     record {
       flushed_value = ap (λ x. x.entry) c.flushing_others-first.ensures;
       gathering = gathering d a n k c.args.self.now.ready c.requires.writable h;
-      f_value = c.requires.f_value;
+      record_value = c.requires.record_value;
     }
 
 pub overflow_add-first : goal.overflow_add-first
 overflow_add-first c =
     let d = c.args.self.now.disc in
     let a = c.args.address in
-    let n = c.args.number in
+    let n = c.args.entry.number in
     let k = c.args.sectors in
     let p = place d a n c.args.self.now.ready c.requires.writable in
-    let h = fits a k c.passes.ensures c.end_address.ensures c.requires.f_value c.if-passes.false in
+    let h = fits a k c.passes.ensures c.end_address.ensures c.requires.record_value c.if-passes.false in
     let f = fit d a n k p c.requires.writable h in
     rw (c.flushing_others-first.ensures, c.whole_blocks-gathered.ensures)
     (omega (arith, f.sectors, c.pending_in-pending.ensures, p.few, others_count_most d n))
@@ -54,8 +54,8 @@ unfolding write_to accept
 returns c =
     let d = c.args.self.now.disc in
     let a = c.args.address in
-    let n = c.args.number in
+    let n = c.args.entry.number in
     let k = c.args.sectors in
     let p = place d a n c.args.self.now.ready c.requires.writable in
-    let h = fits a k c.passes.ensures c.end_address.ensures c.requires.f_value c.if-passes.false in
-    rw (c.accepted.ensures, accepted_verdict, c.gather-effect.ensures, c.none.ensures, c.new-plan.ensures, c.flushing_others-first.ensures, c.whole_blocks-gathered.ensures, c.first_unrecorded-block.ensures, c.pending_in-pending.ensures, c.requires.f_value, le-ltb _ _ h, write_count d n k c.args.self.now.ready c.requires.writable.from p.slot)
+    let h = fits a k c.passes.ensures c.end_address.ensures c.requires.record_value c.if-passes.false in
+    rw (c.accepted.ensures, accepted_verdict, c.gather-effect.ensures, c.none.ensures, c.new-plan.ensures, c.flushing_others-first.ensures, c.whole_blocks-gathered.ensures, c.first_unrecorded-block.ensures, c.pending_in-pending.ensures, c.requires.record_value, le-ltb _ _ h, write_count d n k c.args.self.now.ready c.requires.writable.from p.slot)

@@ -63,15 +63,14 @@ fn step(address: Lba, f: Fragment) -> Side
 pub fn halving(fragments: [Fragment; LIMIT], address: Lba) -> Sought
     ensures { result ≡ sought fragments (halving address) }
 {
-    let mut low = 0;
-    let mut high = LIMIT;
-    for looks in 0..LOOKS {
-        if low == high {
-            let holder = Holder::none();
-            return Sought { holder, looks };
-        }
+    let mut low: usize = 0;
+    let mut high: usize = LIMIT;
+    let mut looks: usize = 0;
+    // A count and no `for` over it: that is unrolled, and then a call takes 13,920 bytes of stack, as host/stack measures, in place of 10,656.
+    while looks < LOOKS && low < high {
         let index = low + (high - low) / 2;
         let f = fragments[index];
+        looks += 1;
         match step(address, f) {
             Side::Left => high = index,
             Side::Right => low = index + 1,
@@ -80,16 +79,10 @@ pub fn halving(fragments: [Fragment; LIMIT], address: Lba) -> Sought
                     number: index + 1,
                     fragment: f,
                 };
-                return Sought {
-                    holder,
-                    looks: looks + 1,
-                };
+                return Sought { holder, looks };
             }
         }
     }
     let holder = Holder::none();
-    Sought {
-        holder,
-        looks: LOOKS,
-    }
+    Sought { holder, looks }
 }

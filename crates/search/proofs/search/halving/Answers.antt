@@ -4,26 +4,21 @@ use native.Mathlib.Omega.{arith}
 use lib.ListN.{get_or}
 use Rattle.fragments.specs.Fragment.{unused_record}
 use Rattle.search.specs.Search.{sought, no_holder, middle, halve, enough}
-use Rattle.search.proofs.Laws.Search.{after, after-after, after_none, sought-over, sought-none, sought-left, sought-right, sought-here}
+use Rattle.search.proofs.Laws.Search.{after, after-after, sought-over, sought-none, sought-left, sought-right, sought-here}
 use Rattle.search.proofs.search.halving.Goals as goal
-use Rattle.search.proofs.search.halving.Goals.{in-Left, in-Right}
+use Rattle.search.proofs.search.halving.Goals.{then-loop-looks-test+else-low-high, else-loop-looks-test}
 
-pub returns-then-low-high : goal.returns-then-low-high
-returns-then-low-high c =
-    let w = c.loop-looks in
-    let none = sought-none c.args.fragments c.args.address w.low w.high (enough - w.looks) (omega (arith, c.if-low-high.true)) in
-    rw c.none-holder.ensures (sym (w.invariant.2 ∙ (ap (after w.looks) none ∙ after_none w.looks)))
-
-pub returns-in-Here : goal.returns-in-Here
-returns-in-Here c =
+pub loop-looks-preserved-in-Left : goal.loop-looks-preserved-in-Left
+loop-looks-preserved-in-Left c =
     let w = c.loop-looks in
     let fs = c.args.fragments in
     let a = c.args.address in
     let n = enough - (w.looks + 1) in
     let more : enough - w.looks ≡ suc n = omega (arith, c.loop-looks-test.true) in
-    let next = w.invariant.2 ∙ ap (λ k. after w.looks (sought fs (halve k a w.low w.high))) more in
-    let said = sought-here fs a w.low w.high n c.if-low-high.false (sym c.step.ensures ∙ c.in-Here.is) in
-    sym (next ∙ (ap (after w.looks) said ∙ ap (λ (k : ℕ). record { holder = record { number = middle w.low w.high + 1; fragment = get_or fs (middle w.low w.high) unused_record }; looks = k }) (omega arith)))
+    let left = c.if-low-high.true in
+    let next = w.invariant.4 ∙ ap (λ k. after w.looks (sought fs (halve k a w.low w.high))) more in
+    let said = sought-left fs a w.low w.high n (λ e. omega (arith, left, e)) (sym c.step.ensures ∙ c.in-Left.is) in
+    (omega arith, omega arith, omega arith, w.invariant.3, next ∙ (ap (after w.looks) said ∙ after-after w.looks _))
 
 pub loop-looks-preserved : goal.loop-looks-preserved
 loop-looks-preserved c =
@@ -32,23 +27,34 @@ loop-looks-preserved c =
     let a = c.args.address in
     let n = enough - (w.looks + 1) in
     let more : enough - w.looks ≡ suc n = omega (arith, c.loop-looks-test.true) in
-    let left = c.if-low-high.false in
-    let next = w.invariant.2 ∙ ap (λ k. after w.looks (sought fs (halve k a w.low w.high))) more in
-    elim c.match-step.branch [
-      | in-Left t ↦
-          let said = sought-left fs a w.low w.high n left (sym c.step.ensures ∙ t.in-Left.is) in
-          rw (t.low-is, t.high-is) (omega (arith, left), omega (arith, left), next ∙ (ap (after w.looks) said ∙ after-after w.looks _))
-      | in-Right t ↦
-          let said = sought-right fs a w.low w.high n left (sym c.step.ensures ∙ t.in-Right.is) in
-          rw (t.low-is, t.high-is) (omega (arith, left), omega (arith, left), next ∙ (ap (after w.looks) said ∙ after-after w.looks _))
-    ]
+    let left = c.if-low-high.true in
+    let next = w.invariant.4 ∙ ap (λ k. after w.looks (sought fs (halve k a w.low w.high))) more in
+    let said = sought-right fs a w.low w.high n (λ e. omega (arith, left, e)) (sym c.step.ensures ∙ c.in-Right.is) in
+    (omega arith, omega (arith, left), omega (arith, left), w.invariant.3, next ∙ (ap (after w.looks) said ∙ after-after w.looks _))
+
+pub returns-in-Here : goal.returns-in-Here
+returns-in-Here c =
+    let w = c.loop-looks in
+    let fs = c.args.fragments in
+    let a = c.args.address in
+    let n = enough - (w.looks + 1) in
+    let more : enough - w.looks ≡ suc n = omega (arith, c.loop-looks-test.true) in
+    let left = c.if-low-high.true in
+    let next = w.invariant.4 ∙ ap (λ k. after w.looks (sought fs (halve k a w.low w.high))) more in
+    let said = sought-here fs a w.low w.high n (λ e. omega (arith, left, e)) (sym c.step.ensures ∙ c.in-Here.is) in
+    sym (next ∙ (ap (after w.looks) said ∙ ap (λ (k : ℕ). record { holder = record { number = middle w.low w.high + 1; fragment = get_or fs (middle w.low w.high) unused_record }; looks = k }) (omega arith)))
 
 pub returns : goal.returns
 returns c =
     let w = c.loop-looks in
     let fs = c.args.fragments in
     let a = c.args.address in
-    let over : enough - w.looks ≡ 0 = omega (arith, c.loop-looks-test.false) in
-    let none = ap (λ n. sought fs (halve n a w.low w.high)) over ∙ sought-over fs a w.low w.high in
-    let last : w.looks ≡ enough = omega (arith, c.loop-looks-test.false) in
-    rw c.none-holder-2.ensures (sym (w.invariant.2 ∙ (ap (after w.looks) none ∙ (after_none w.looks ∙ ap (λ (k : ℕ). record { holder = no_holder; looks = k }) last))))
+    let none : sought fs (halve (enough - w.looks) a w.low w.high) ≡ record { holder = no_holder; looks = 0 } =
+    elim c.loop-looks-test.branch [
+      | then-loop-looks-test+else-low-high t ↦ sought-none fs a w.low w.high (enough - w.looks) (omega (arith, t.if-low-high.false))
+      | else-loop-looks-test t ↦
+          let over : enough - w.looks ≡ 0 = omega (arith, t.loop-looks-test.false) in
+          ap (λ n. sought fs (halve n a w.low w.high)) over ∙ sought-over fs a w.low w.high
+    ] in
+    rw c.none-holder.ensures
+    (sym (w.invariant.4 ∙ (ap (after w.looks) none ∙ ap (λ (k : ℕ). record { holder = no_holder; looks = k }) (omega arith))))

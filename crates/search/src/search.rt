@@ -66,7 +66,7 @@ pub fn halving(fragments: [Fragment; LIMIT], address: Lba) -> Sought
     let mut low: usize = 0;
     let mut high: usize = LIMIT;
     let mut looks: usize = 0;
-    // A count and no `for` over it: that is unrolled, and then a call takes 13,920 bytes of stack, as host/stack measures, in place of 10,656.
+    // A count and no `for` over it: that is unrolled, and then a call takes 13,920 bytes of stack, as host/stack measures, in place of 10,624.
     while looks < LOOKS && low < high {
         let index = low + (high - low) / 2;
         let f = fragments[index];

@@ -44,30 +44,27 @@ fn step(address: Lba, f: Fragment) -> Side
 pub fn halving(fragments: [Fragment; LIMIT], address: Lba) -> Sought
     ensures { result ≡ sought fragments (halving address) }
 {
-    let mut low = 0;
-    let mut high = LIMIT;
-    for looks in 0..LOOKS {
-        if low == high {
-            return Sought {
-                holder: None,
-                looks,
-            };
-        }
+    let mut low: usize = 0;
+    let mut high: usize = LIMIT;
+    let mut looks: usize = 0;
+    // A count and no `for` over it: that is unrolled, and then a call takes 13,920 bytes of stack, as host/stack measures, in place of 10,624.
+    while looks < LOOKS && low < high {
         let index = low + (high - low) / 2;
         let f = fragments[index];
+        looks += 1;
         match step(address, f) {
             Side::Left => high = index,
             Side::Right => low = index + 1,
             Side::Here => {
                 return Sought {
                     holder: Some(Entry::new(index + 1, f)),
-                    looks: looks + 1,
+                    looks,
                 };
             }
         }
     }
     Sought {
         holder: None,
-        looks: LOOKS,
+        looks,
     }
 }

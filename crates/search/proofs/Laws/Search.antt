@@ -57,8 +57,8 @@ module _ (a : Lba) (f : Fragment) where
 abbrev pub after : ℕ → Sought → Sought
 after k s = record { holder = s.holder; looks = s.looks + k }
 
-pub after_none : (k : ℕ) → after k (record { holder = None; looks = 0 }) ≡ record { holder = None; looks = k }
-after_none k = ap (λ (n : ℕ). record { holder = None; looks = n }) (omega arith)
+pub after_none : (s : Sought) → s ≡ after 0 s
+after_none s = ap (λ (n : ℕ). record { holder = s.holder; looks = n }) (omega arith)
 
 pub after-after : (k : ℕ) (s : Sought) → after k (after 1 s) ≡ after (k + 1) s
 after-after k s = ap (λ (n : ℕ). record { holder = s.holder; looks = n }) (omega arith)

@@ -4,14 +4,14 @@ use mathlib.Core.Path.{◌≡◌, sym, ap, ◌∙◌}
 use mathlib.Core.Bool.{cond}
 use mathlib.Core.List.{List, [], ◌++◌, append_assoc, append-nil}
 use native.Mathlib.Omega.{arith}
-use borrow.Author.Tests.{eq-eqb, ne_eqb, ltb-true, ltb-false}
-use lib.Dec.{eqb, ltb}
+use borrow.Author.Tests.{ltb-true, ltb-false}
+use lib.Dec.{ltb}
 use lib.ListN.{length, take, drop, take-append-drop, length-append}
 use lib.Seq.{take_at, drop_at, length-take-le}
 use Rattle.disc.specs.Records.{pending_in, numbered}
 use Rattle.outcomes.specs.Recorded.{among}
-use Rattle.fragments.proofs.Laws.Bool.{by_cases, cond_yes, cond_no}
-use Rattle.outcomes.proofs.Laws.Recorded.{among-from, among_below, among_between}
+use Rattle.fragments.proofs.Laws.Bool.{by_cases, cond_no}
+use Rattle.outcomes.proofs.Laws.Recorded.{among-from, among_below}
 use Rattle.drive.specs.Bytes.{zeros}
 use Rattle.drive.specs.Moves.{stream, gathered_pending}
 use Rattle.drive.proofs.Laws.Bytes.{length-zeros, zeros_add, sector_front, sector-after}
@@ -32,11 +32,10 @@ sector-zeros n i h =
 
 -- a choice by whether a sum lies among n numbers
 inside : {A : Type 0} (b n i : ℕ) (x y : A) → i < n → cond (among b n (b + i)) x y ≡ x
-inside b n i x y h = cond_yes (among b n (b + i)) x y (among_between b n (b + i) (omega arith) (omega arith))
+inside b n i x y h = grind arith
 
 outside : {A : Type 0} (b n a : ℕ) (x y : A) → a < b → cond (among b n a) x y ≡ y
-outside b n a x y h =
-    cond_no (among b n a) x y (by_cases (among b n a) (λ t. absurd (let from = among-from b n a t in omega arith)) (λ t. t))
+outside b n a x y h = grind arith
 
 -- the bytes of a fragment from its first sector on: recorded, then pending
 abbrev pub bytes_of : Disc → List ℕ → List ℕ → ℕ → List ℕ
@@ -238,8 +237,8 @@ module _
 -- a flush in the account
 pub flushed_none : (x : Extent) (k : Account) → k.pending ≡ 0 → flushed x k ≡ k
 unfolding flushed
-flushed_none x k z = cond_yes (eqb k.pending 0) k (zeroed x (missing k) k) (eq-eqb k.pending 0 z)
+flushed_none x k z = grind arith
 
 pub flushed-some : (x : Extent) (k : Account) → (k.pending ≡ 0 → ⊥) → flushed x k ≡ zeroed x (missing k) k
 unfolding flushed
-flushed-some x k z = cond_no (eqb k.pending 0) k (zeroed x (missing k) k) (ne_eqb k.pending 0 z)
+flushed-some x k z = grind arith

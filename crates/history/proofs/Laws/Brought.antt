@@ -11,7 +11,7 @@ use Rattle.outcomes.specs.Recorded.{among}
 use Rattle.disc.specs.Records.{used, numbered}
 use Rattle.disc.specs.Rules.{Sound}
 use Rattle.fragments.proofs.Laws.Bool.{by_cases, cond_yes, cond_no}
-use Rattle.outcomes.proofs.Laws.Recorded.{among-from, among_below, among_between}
+use Rattle.outcomes.proofs.Laws.Recorded.{among-from, among_between}
 use Rattle.disc.proofs.Laws.Sound.{disjoint}
 use Rattle.drive.specs.Bytes.{zeros}
 use Rattle.history.specs.Types.{Fragment, Disc}
@@ -35,10 +35,7 @@ brought_one a w t = cond_yes (among w.address w.count a) _ _ t
 
 pub brought_none : (a : ℕ) (w : Written) → (w.address ≤ a → a < w.address + w.count → ⊥) → brought_to a (w ∷ []) ≡ []
 unfolding brought_to
-brought_none a w h =
-    cond_no (among w.address w.count a) _ _
-    (by_cases (among w.address w.count a)
-    (λ t. absurd (h (among-from w.address w.count a t) (among_below w.address w.count a t))) (λ t. t))
+brought_none a w h = grind arith
 
 -- counts over addresses
 pub count_split : (a n m : ℕ) (ws : List Written) → brought_in a (n + m) ws ≡ brought_in a n ws + brought_in (a + n) m ws
@@ -124,7 +121,7 @@ pub record Pads (b : ℕ) (k l : Account) : Type 0 where
   pub new : (i : ℕ) → i < more → l.content (b + (k.recorded + k.pending) + i) ≡ zeros 2048
 
 pub pads_same : (b : ℕ) (k : Account) → Pads b k k
-pads_same b k = record { more = 0; accepted = refl; size = omega arith; old = λ i h. refl; new = λ i h. absurd (omega (arith, h)) }
+pads_same b k = grind arith
 
 pads_zeroed : (b : ℕ) (x : Extent) (z : ℕ) (k : Account) → x.first ≡ b → Pads b k (zeroed x z k)
 pads_zeroed b x z k first =

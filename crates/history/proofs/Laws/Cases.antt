@@ -30,7 +30,7 @@ use Rattle.outcomes.specs.Recorded.{among}
 use Rattle.drive.specs.Bytes.{zeros}
 use Rattle.drive.specs.Step.{Drive, Request}
 use Rattle.drive.specs.Requests.{WriteOf, ReadOf}
-use Rattle.drive.specs.Alike.{recorded_byte, pending_sectors, Alike}
+use Rattle.drive.specs.Alike.{recorded_byte, Alike}
 use Rattle.history.specs.Types.{Disc, Appended, Answer, Accepted, Drive as by_drive, DriveRefusal, BlankCheck, EndOfUserArea, LinkRefusal, CommandBlockLength, MediumSize, UnsoundState, TransferLength, Some, Read}
 use Rattle.history.specs.Sequence.{Start, Turn, Told, found, requests, result, final, Admissible, Undisturbed, AllAccepted, blocks_of}
 use Rattle.history.specs.Forms.{Form, ten, twelve, read_opcode, write_opcode, longest, fields, write_cdb}

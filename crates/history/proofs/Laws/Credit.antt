@@ -8,9 +8,8 @@ use borrow.Author.Tests.{eq-eqb, ne_eqb, eqb-true, eqb-false, leb-true, leb-fals
 use lib.Dec.{eqb, leb, ltb}
 use lib.ListN.{length}
 use Rattle.fragments.specs.Address.{lba, first_sector, sectors_in}
-use Rattle.protocol.specs.Answer.{no_sense}
 use Rattle.fragments.specs.Fragment.{end, first_unrecorded, complete, is_reserved, next_session_start, shortened_record}
-use Rattle.disc.specs.Records.{is_blank, pending_in, used, is_listed, numbered, last_record, with_record, with_sense, has_tail, has_blank_tail, writable_at, blank_tail_only, at_address}
+use Rattle.disc.specs.Records.{is_blank, pending_in, used, is_listed, numbered, last_record, with_record, has_tail, has_blank_tail, writable_at, blank_tail_only, at_address}
 use Rattle.fragments.specs.List.{limit}
 use Rattle.outcomes.specs.Recorded.{among}
 use Rattle.disc.specs.Ready.{Ready}
@@ -125,8 +124,7 @@ module _
         → Holds after (moved_medium w m p sectors) (moved_pending w p sectors) n l)
         → Noted l (accept d after reply w)
     unfolding accept accepted
-    noted-accepted l after reply w q e f g =
-        same_holds after (with_sense after no_sense) (moved_medium w m p sectors) (moved_pending w p sectors) n l refl refl (λ z. refl) refl (q f g)
+    noted-accepted l after reply w q e f g = grind arith
 
     -- no change
     noted-same : (l : Account) (reply : Reply) → k ≡ l → Noted l (accept d d reply no_plan)
@@ -235,11 +233,11 @@ module _
 
     closed-filled : (function j : ℕ) → fills function j ≡ true → filled (extent_of d n) (flushed (extent_of d n) k) ≡ closed function j
     unfolding credited
-    closed-filled function j t = sym (cond_yes (fills function j) (filled (extent_of d n) (flushed (extent_of d n) k)) (flushed (extent_of d n) k) t)
+    closed-filled function j t = grind arith
 
     closed-flushed : (function j : ℕ) → fills function j ≡ false → flushed (extent_of d n) k ≡ closed function j
     unfolding credited
-    closed-flushed function j t = sym (cond_no (fills function j) (filled (extent_of d n) (flushed (extent_of d n) k)) (flushed (extent_of d n) k) t)
+    closed-flushed function j t = grind arith
 
     -- the drive after the flush
     abbrev flushed-medium : List ℕ

@@ -7,7 +7,7 @@ use lib.ListN.{take}
 use Rattle.disc.proofs.Laws.Blank.{blank_pending}
 use Rattle.fragments.specs.Address.{lba}
 use Rattle.disc.proofs.Laws.Readable.{blank_unrecorded}
-use Rattle.drive.specs.Step.{Drive, Request, request, Result, verdict_on, carried_out, step}
+use Rattle.drive.specs.Step.{Drive, Request, Result, verdict_on, carried_out, step}
 use Rattle.drive.specs.Alike.{recorded_byte, pending_sectors, Alike}
 use Rattle.drive.proofs.Laws.Alike.{AlikeResults, step_alike, alike_same, alike_back, alike_on}
 use Rattle.history.specs.Types.{Disc, Accepted}
@@ -40,10 +40,10 @@ cut_does s q qs c = parts_do s q c.address c.count q.payload qs c.whole refl (se
 
 -- a turn of each sequence, from alike drives
 found_alike : (t u : Turn) (s e : Drive) → Alike s e → Alike s (found t s) → Alike e (found u e) → Alike (found t s) (found u e)
-found_alike t u s e a b c = alike_on (found t s) s (found u e) (alike_back s (found t s) b) (alike_on s e (found u e) a c)
+found_alike t u s e a b c = grind arith
 
 told_alike : (r t : Result) → AlikeResults r t → told r ≡ told t
-told_alike r t a = λ i. record { answer = a.answer i; reply = a.reply i; recorded = a.recorded i }
+told_alike r t a = grind arith
 
 again_alike :
     (s e : Drive) (ts us : List Turn) → Alike s e → Admissible ts s → Admissible us e → (w : Again s ts us)

@@ -47,11 +47,11 @@ tail = record { first = 0; sectors = 4800; reserved = false }
 -- WRITE 0 of 20: 16 sectors recorded, 4 pending; then 35h: 12 sectors of zeros
 pub write-figures : (x : List ℕ) → Figures (credited 1 tail (Write (lba 0) 20) x opened) 20 16 0 4
 unfolding credited written
-write-figures x = record { accepted = refl; recorded = refl; zero_filled = refl; pending = refl }
+write-figures x = grind arith
 
 pub flush-figures : (x y : List ℕ) → Figures (credited 1 tail SynchronizeCache y (credited 1 tail (Write (lba 0) 20) x opened)) 20 32 12 0
 unfolding credited written flushed
-flush-figures x y = record { accepted = refl; recorded = refl; zero_filled = refl; pending = refl }
+flush-figures x y = grind arith
 
 -- what stands at an address then: sector 3 of the data, zeros that the drive put there, and nothing
 pub write_content : (x y : List ℕ) → (credited 1 tail SynchronizeCache y (credited 1 tail (Write (lba 0) 20) x opened)).content 3 ≡ sector_at 3 x

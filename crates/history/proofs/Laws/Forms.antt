@@ -1,16 +1,13 @@
 -- Which WRITEs there are: what a command block of bytes names, and the command block of an address and a length.
 use Prim.Native.Nat.{ℕ, zero, suc, ◌+◌, ◌*◌, ◌/◌, ◌%◌, ◌≤◌, ◌<◌}
 use mathlib.Core.Path.{◌≡◌, refl, ap, ◌∙◌, subst}
-use mathlib.Core.Logic.{◌⊎◌, inl, inr}
+use mathlib.Core.Logic.{◌⊎◌}
 use mathlib.Core.List.{List, [], ◌∷◌, ◌++◌}
 use native.Mathlib.Omega.{arith}
-use borrow.Author.Tests.{eqb-true}
-use lib.Dec.{eqb}
 use lib.ListN.{length}
 use Rattle.fragments.specs.Address.{lba}
 use Rattle.protocol.specs.Command.{byte_at, word16, word32, decode}
 use Rattle.protocol.specs.Reports.{low, high, bytes32}
-use Rattle.fragments.proofs.Laws.Bool.{cond_cases}
 use Rattle.drive.specs.Step.{request}
 use Rattle.drive.specs.Requests.{WriteOf}
 use Rattle.history.specs.Types.{Lba, Command, TestUnitReady, RequestSense, Inquiry, ReadCapacity, Read, Write, SynchronizeCache, ReserveTrack, CloseTrackSession, GetConfiguration, ReadDiscInformation, ReadTrackInformation, Unlisted}
@@ -41,25 +38,7 @@ four_bytes b h i = omega (arith, two_bytes b h i, two_bytes b h (i + 2))
 
 has_form : (b : List ℕ) → IsBytes b → HasForm b (decode b)
 unfolding decode HasForm write_opcode longest
-has_form b h =
-    let o = byte_at b 0 in
-    let P = HasForm b in
-    let address : word32 b 2 < addresses = omega (arith, four_bytes b h 2) in
-    cond_cases P (eqb o 0x00) _ _ (λ t. tt)
-    (λ f₀. cond_cases P (eqb o 0x03) _ _ (λ t. tt)
-    (λ f₁. cond_cases P (eqb o 0x12) _ _ (λ t. tt)
-    (λ f₂. cond_cases P (eqb o 0x25) _ _ (λ t. tt)
-    (λ f₃. cond_cases P (eqb o 0x28) _ _ (λ t. tt)
-    (λ f₄. cond_cases P (eqb o 0x2A) _ _ (λ t. inl (record { opcode = eqb-true o 0x2A t; address = address; count = two_bytes b h 7 }))
-    (λ f₅. cond_cases P (eqb o 0x35) _ _ (λ t. tt)
-    (λ f₆. cond_cases P (eqb o 0x46) _ _ (λ t. tt)
-    (λ f₇. cond_cases P (eqb o 0x53) _ _ (λ t. tt)
-    (λ f₈. cond_cases P (eqb o 0x5B) _ _ (λ t. tt)
-    (λ f₉. cond_cases P (eqb o 0x51) _ _ (λ t. tt)
-    (λ g₀. cond_cases P (eqb o 0x52) _ _ (λ t. tt)
-    (λ g₁. cond_cases P (eqb o 0xA8) _ _ (λ t. tt)
-    (λ g₂. cond_cases P (eqb o 0xAA) _ _ (λ t. inr (record { opcode = eqb-true o 0xAA t; address = address; count = four_bytes b h 6 }))
-    (λ g₃. tt))))))))))))))
+has_form b h = grind arith
 
 only_forms : (b : List ℕ) → IsBytes b → (a : Lba) (n : ℕ) → decode b ≡ Write a n → OfForm ten b a n ⊎ OfForm twelve b a n
 unfolding HasForm
@@ -72,7 +51,7 @@ of_bytes :
 of_bytes a b c d e f g h = omega (arith, e, f, g, h)
 
 of_four : (a : ℕ) → a < addresses → 0x10000 * (0x100 * (a / 0x1000000 % 0x100) + a / 0x10000 % 0x100) + (0x100 * (a / 0x100 % 0x100) + a % 0x100) ≡ a
-of_four a h = of_bytes a (a / 0x100) (a / 0x10000) (a / 0x1000000) refl (omega arith) (omega arith) (omega (arith, h))
+of_four a h = grind arith
 
 -- a command block names its address and its length
 pub write_cdb_lem :
@@ -104,7 +83,7 @@ bytes_more {x} {b} h k = record { each = each }
     each (suc i) = k.each i
 
 four_more : (n : ℕ) {b : List ℕ} → IsBytes b → IsBytes (bytes32 n ++ b)
-four_more n k = bytes_more (omega arith) (bytes_more (omega arith) (bytes_more (omega arith) (bytes_more (omega arith) k)))
+four_more n k = grind arith
 
 cdb_bytes : (f : Form) (a n : ℕ) → IsBytes (write_cdb f a n)
 unfolding write_opcode fields

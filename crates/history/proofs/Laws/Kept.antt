@@ -100,15 +100,7 @@ region_alike s t n sound w one a =
     ∙ sym (ap (λ (f : Fragment). take (32768 * f.recorded) (drop (32768 * f.start.0) t.medium)) none))
 
 pending_alike : (s : Drive) (t : Turn) (n : ℕ) → Alike s (found t s) → take (2048 * pending_in s.disc n) s.pending ≡ take (2048 * pending_in s.disc n) t.pending
-pending_alike s t n a =
-    let d = s.disc in
-    by_cases (eqb d.owner n)
-    (λ e.
-    let own = cond_yes (eqb d.owner n) d.pending 0 e in
-    ap (λ (c : ℕ). take (2048 * c) s.pending) own ∙ (a.pending ∙ sym (ap (λ (c : ℕ). take (2048 * c) t.pending) own)))
-    (λ e.
-    let none = cond_no (eqb d.owner n) d.pending 0 e in
-    ap (λ (c : ℕ). take (2048 * c) s.pending) none ∙ sym (ap (λ (c : ℕ). take (2048 * c) t.pending) none))
+pending_alike s t n a = grind arith
 
 pub found-holds : (s : Drive) (t : Turn) (n : ℕ) (k : Account) → Served s → 1 ≤ n → Alike s (found t s) → HoldsOn s n k → HoldsOn (found t s) n k
 found-holds s t n k w one a h =

@@ -9,7 +9,7 @@ use Rattle.protocol.specs.Command.{decode}
 use Rattle.drive.specs.Step.{Drive, Request, request, verdict_on, carried_out, step}
 use Rattle.drive.specs.Requests.{WriteOf}
 use Rattle.drive.proofs.Laws.Cut.{Served, write_verdict, accepted-served, whole_parts, parts_whole, cut-recorded, cut-after}
-use Rattle.history.specs.Types.{Lba, Accepted, Write, Verdict}
+use Rattle.history.specs.Types.{Lba, Accepted, Verdict}
 use Rattle.history.specs.Cut.{Parts, none, part}
 use Rattle.history.proofs.Laws.Runs.{runs, RunAccepted, run_blocks}
 
@@ -20,14 +20,7 @@ write_request a n x = request (0x2A ∷ 0 ∷ 0 ∷ 0 ∷ 0 ∷ a.0 ∷ 0 ∷ 0 
 
 write-request : (a : Lba) (n : ℕ) (x : List ℕ) → length x ≡ 2048 * n → WriteOf (write_request a n x) a n
 unfolding decode
-write-request a n x h =
-    let address : 0 + (0 + a.0) ≡ a.0 = omega arith in
-    let count : 0 + n ≡ n = omega arith in
-    record {
-      cdb = refl;
-      command = ap (λ (k : ℕ). Write (lba k) (0 + n)) address ∙ ap (λ (k : ℕ). Write a k) count;
-      payload = h;
-    }
+write-request a n x h = grind arith
 
 -- a request with the same fields and sectors is answered alike
 module _ (s : Drive) (q u : Request) (a : Lba) (n : ℕ) (w : WriteOf q a n) (x : WriteOf u a n) (same : q.payload ≡ u.payload) where

@@ -6,7 +6,6 @@ use mathlib.Core.Logic.{⊎_elim}
 use native.Mathlib.Omega.{arith}
 use borrow.Author.Tests.{eq-eqb, ne_eqb, eqb-true, eqb-false, ltb-true, ltb-false, not-false}
 use lib.Dec.{eqb, ltb}
-use lib.ListN.{length}
 use Rattle.fragments.specs.Address.{lba, first_sector}
 use Rattle.fragments.specs.Fragment.{end, first_unrecorded, complete, is_reserved, next_session_start, shortened_record}
 use Rattle.disc.specs.Records.{is_blank, pending_in, used, is_listed, numbered, last_record, with_record, has_tail, writable_at, blank_tail_only, at_address, is_recorded}
@@ -24,7 +23,7 @@ use Rattle.commands.specs.Close.{filled_record, append_tail, close_incomplete, c
 use Rattle.reporting.specs.Identity.{inquiry, get_configuration}
 use Rattle.reporting.specs.Reports.{request_sense, read_capacity, read_disc_information, read_track_information, track_verdict, track_found, track_numbered}
 use Rattle.commands.specs.Judge.{test_unit_ready, perform}
-use Rattle.fragments.proofs.Laws.Bool.{and_both, and-false, by_cases, or_left, or_right, or_cases, same_test, cond_yes, cond_no, cond_cases}
+use Rattle.fragments.proofs.Laws.Bool.{and-false, by_cases, or_left, or_right, or_cases, same_test, cond_yes, cond_no, cond_cases}
 use Rattle.fragments.proofs.Laws.Numbers.{equal_cases}
 use Rattle.disc.proofs.Laws.Readable.{recorded_held, held_recorded, recorded_onward}
 use Rattle.commands.proofs.Laws.Read.{read_cases}
@@ -51,7 +50,7 @@ or_assoc true b c = refl
 or_assoc false b c = refl
 
 or_absorbed : (a b : Bool) → (b ≡ true → a ≡ true) → (a || b) ≡ a
-or_absorbed a b h = same_test (λ t. or_cases a b (λ x. x) h t) (λ t. or_left b t)
+or_absorbed a b h = grind arith
 
 no_second : (a b : Bool) → b ≡ false → (a && b) ≡ false
 no_second true b e = e
@@ -63,8 +62,7 @@ pub record Gathers (b n : ℕ) (h g : Past) : Type 0 where
   pub held : g.held ≡ (h.held + n) % 16
 
 among_empty : (b k : ℕ) → among b 0 k ≡ false
-among_empty b k =
-    by_cases (among b 0 k) (λ t. absurd (let from = among-from b 0 k t in let below = among_below b 0 k t in omega arith)) (λ t. t)
+among_empty b k = grind arith
 
 among_next : (b n k : ℕ) → (eqb k b || among (b + 1) n k) ≡ among b (n + 1) k
 among_next b n k =
@@ -125,7 +123,7 @@ gathers a (suc n) b h few here =
 
 -- the address after them
 one_next : (a : ℕ) (h : Past) → (sector_gathered a h).next ≡ a + 1
-one_next a h = cond_cases (λ (g : Past). g.next ≡ a + 1) (eqb (h.held + 1) 16) _ _ (λ t. refl) (λ t. refl)
+one_next a h = grind arith
 
 gathered_next : (a n : ℕ) (h : Past) → (sectors_gathered a (suc n) h).next ≡ a + suc n
 unfolding sectors_gathered
@@ -166,13 +164,11 @@ module _ (d : Disc) (h : Past) (r : Ready d) (w : Recalls d h) where
 
   tells_none : Tells d h h no_plan
   unfolding records_block flushes transfers transferred_count flushed_count transferred_block
-  tells_none =
-      record { recorded = λ k. or_none (h.recorded k); held = refl; next = λ z. w.next (λ q. z (sym w.held ∙ q)) ∙ ap (λ (n : ℕ). 16 * pending_block d + n) w.held }
+  tells_none = grind arith
 
   tells-sent : (a : Lba) (n : ℕ) → Tells d h h (plan None (sending d a n))
   unfolding records_block flushes transfers transferred_count flushed_count transferred_block sending
-  tells-sent a n =
-      record { recorded = λ k. or_none (h.recorded k); held = refl; next = λ z. w.next (λ q. z (sym w.held ∙ q)) ∙ ap (λ (n : ℕ). 16 * pending_block d + n) w.held }
+  tells-sent a n = grind arith
 
   recalled-same : (reply : Reply) → Recalled h (accept d d reply no_plan)
   recalled-same reply = recalled-accepted h d reply no_plan tells_none
@@ -180,7 +176,7 @@ module _ (d : Disc) (h : Past) (r : Ready d) (w : Recalls d h) where
   -- the flush
   flushed-idle : d.pending ≡ 0 → past_flushed h ≡ h
   unfolding past_flushed
-  flushed-idle z = cond_yes (eqb h.held 0) h _ (eq-eqb h.held 0 (sym w.held ∙ z))
+  flushed-idle z = grind arith
 
   flushed-some : (d.pending ≡ 0 → ⊥) → past_flushed h ≡ block_recorded (pending_block d) h
   unfolding past_flushed
@@ -269,8 +265,7 @@ module _ (d : Disc) (h : Past) (r : Ready d) (w : Recalls d h) where
 
     same_meets : flush_others_plan d j ≡ None → d.pending ≡ pending_in d j → Meets h
     unfolding flushes
-    same_meets skip own =
-        record { recorded = λ k. ap (λ (f : Option Flush). h.recorded k || flushes f k) skip ∙ or_none (h.recorded k); held = sym w.held ∙ own }
+    same_meets skip own = grind arith
 
     flush-meets : flush_others_plan d j ≡ flush_plan d → pending_in d j ≡ 0 → Meets (past_flushed h)
     flush-meets whole none =
@@ -278,11 +273,11 @@ module _ (d : Disc) (h : Past) (r : Ready d) (w : Recalls d h) where
 
     own-plan : d.owner ≡ j → flush_others_plan d j ≡ None
     unfolding flush_others_plan
-    own-plan e = cond_yes (eqb d.owner j) None (flush_plan d) (eq-eqb d.owner j e)
+    own-plan e = grind arith
 
     other-plan : (d.owner ≡ j → ⊥) → flush_others_plan d j ≡ flush_plan d
     unfolding flush_others_plan
-    other-plan e = cond_no (eqb d.owner j) None (flush_plan d) (ne_eqb d.owner j e)
+    other-plan e = grind arith
 
     meets : Meets flushedElsewhere
     meets =
@@ -371,13 +366,11 @@ module _ (d : Disc) (h : Past) (r : Ready d) (w : Recalls d h) where
 
   closed-filled : (j : ℕ) → (extent_of d j).reserved ≡ true → past_filled (extent_of d j) (past_flushed h) ≡ closedPast 0b001 j
   unfolding past_after
-  closed-filled j t =
-      sym (cond_yes (eqb 0b001 0b001 && (extent_of d j).reserved) (past_filled (extent_of d j) (past_flushed h)) (past_flushed h) (and_both {a = eqb 0b001 0b001} refl t))
+  closed-filled j t = grind arith
 
   closed-flushed : (function j : ℕ) → (eqb function 0b001 && (extent_of d j).reserved) ≡ false → past_flushed h ≡ closedPast function j
   unfolding past_after
-  closed-flushed function j t =
-      sym (cond_no (eqb function 0b001 && (extent_of d j).reserved) (past_filled (extent_of d j) (past_flushed h)) (past_flushed h) t)
+  closed-flushed function j t = grind arith
 
   -- block k of an extent
   module _ (j : ℕ) (from : 1 ≤ j) (to : j ≤ used (flush d)) where

@@ -73,7 +73,7 @@ same_places : (d : Disc) → SamePlaces d d
 same_places d = record { start = λ i. refl; size = λ i. refl }
 
 places-on : (d e f : Disc) → SamePlaces d e → SamePlaces e f → SamePlaces d f
-places-on d e f a b = record { start = λ i. b.start i ∙ a.start i; size = λ i. b.size i ∙ a.size i }
+places-on d e f a b = grind arith
 
 grown_places : (d e : Disc) → Grown d e → SamePlaces d e
 grown_places d e g = record { start = g.start; size = g.size }
@@ -86,13 +86,7 @@ module _ (d : Disc) (n : ℕ) (r : Ready d) (one : 1 ≤ n) where
   -- a change that records nothing, after one that keeps the places and leaves nothing pending
   counts-placed :
       (e f : Disc) → Sound e → SamePlaces d e → e.pending ≡ 0 → SameCounts e f → f.pending ≡ 0 → InPlace d f n
-  counts-placed e f s p none same after =
-      let count = same.recorded (n - 1) in
-      let was = taken_within e n s one in
-      record {
-        start = λ z. same.start (n - 1) (λ q. z (omega (arith, count, q, none_pending f n after))) ∙ p.start (n - 1);
-        within = omega (arith, was, count, p.size (n - 1), none_pending f n after, none_pending e n none);
-      }
+  counts-placed e f s p none same after = grind arith
 
   -- an accepted verdict
   abbrev Moved : Verdict → Type 0

@@ -4,7 +4,6 @@ use mathlib.Core.Path.{◌≡◌, refl, sym, ap, ◌∙◌, subst}
 use mathlib.Core.Bool.{Bool, false, ◌||◌}
 use mathlib.Core.List.{List, [], ◌∷◌}
 use native.Mathlib.Omega.{arith}
-use lib.ListN.{take}
 use Rattle.fragments.specs.Address.{lba}
 use Rattle.disc.specs.Blank.{blank}
 use Rattle.protocol.specs.Command.{decode}
@@ -67,33 +66,13 @@ module _ (s : Drive) (q : Request) (h : Past) (w : Served s) (m : Recalls s.disc
 -- stale bytes by the state and by the history
 module _ (s e : Drive) (h : Past) (m : Recalls s.disc h) where
   byte_recorded : (i : ℕ) → is_recorded s.disc (lba (i / 2048)) ≡ h.recorded (i / 32768)
-  byte_recorded i =
-      let place : i / 2048 / 16 ≡ i / 32768 = omega arith in
-      m.recorded (i / 2048) ∙ ap h.recorded place
+  byte_recorded i = grind arith
 
   alike-apart : Alike s e → StaleApart h s e
-  alike-apart a =
-      record {
-        disc = a.disc;
-        medium_length = a.medium_length;
-        pending_length = a.pending_length;
-        recorded = λ i t. a.recorded i (byte_recorded i ∙ t);
-        pending =
-            ap (λ (n : ℕ). take (2048 * n) s.pending) (sym m.held)
-            ∙ (a.pending ∙ ap (λ (n : ℕ). take (2048 * n) e.pending) (ap (λ (d : Disc). d.pending) (sym a.disc) ∙ m.held));
-      }
+  alike-apart a = grind arith
 
   apart-alike : StaleApart h s e → Alike s e
-  apart-alike a =
-      record {
-        disc = a.disc;
-        medium_length = a.medium_length;
-        pending_length = a.pending_length;
-        recorded = λ i t. a.recorded i (sym (byte_recorded i) ∙ t);
-        pending =
-            ap (λ (n : ℕ). take (2048 * n) s.pending) m.held
-            ∙ (a.pending ∙ ap (λ (n : ℕ). take (2048 * n) e.pending) (sym m.held ∙ ap (λ (d : Disc). d.pending) a.disc));
-      }
+  apart-alike a = grind arith
 
 -- pending sectors by the history: the last ones that it accepted
 recalled_waiting : (d : Disc) (h : Past) → Recalls d h → (a : ℕ) → is_pending d (lba a) ≡ among (h.next - h.held) h.held a

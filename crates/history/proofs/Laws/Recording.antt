@@ -2,7 +2,6 @@
 use Prim.Native.Nat.{ℕ, ◌+◌, ◌-◌, ◌*◌, ◌/◌, ◌%◌, ◌≤◌}
 use mathlib.Core.Path.{◌≡◌, refl, sym, ap, ◌∙◌, subst}
 use mathlib.Core.Bool.{cond}
-use mathlib.Core.Logic.{⊎_elim}
 use mathlib.Core.List.{List, ◌++◌}
 use native.Mathlib.Omega.{arith}
 use borrow.Author.Tests.{eq-eqb, ne_eqb}
@@ -37,9 +36,7 @@ use Rattle.decisions.specs.Plan.{recording}
 -- the same by other names
 pub holds_as :
     {d e : Disc} {m q p o : List ℕ} {k l : Account} (n : ℕ) → d ≡ e → m ≡ q → p ≡ o → k ≡ l → Holds d m p n k → Holds e q o n l
-holds_as {d} {e} {m} {q} {p} {o} {k} {l} n a b c f h =
-    subst (λ (x : Disc). Holds x q o n l) a
-    (subst (λ (x : List ℕ). Holds d x o n l) b (subst (λ (x : List ℕ). Holds d m x n l) c (subst (λ (x : Account). Holds d m p n x) f h)))
+holds_as {d} {e} {m} {q} {p} {o} {k} {l} n a b c f h = grind arith
 
 pub holds_at : {d : Disc} {m p : List ℕ} {k : Account} {i j : ℕ} → i ≡ j → Holds d m p i k → Holds d m p j k
 holds_at {d} {m} {p} {k} e h = subst (λ (n : ℕ). Holds d m p n k) e h
@@ -218,7 +215,7 @@ module _
         (λ t. other (sym q ∙ cond_no (eqb ((held + n) % 16) 0) 0 j t))))
 
     alone : (i : ℕ) → (i ≡ j → ⊥) → pending_in d i ≡ 0
-    alone i other = ⊎_elim (λ z. none_pending d i z) (λ o. other_pending d i (λ q. other (sym q ∙ o))) room.alone
+    alone i other = grind arith
 
     abbrev GatherHolds : ℕ → Account → Type 0
     GatherHolds i l =

@@ -10,7 +10,7 @@ use Rattle.fragments.specs.Fragment.{unused_record, end}
 use Rattle.disc.specs.Records.{used, numbered}
 use Rattle.disc.specs.Rules.{Sound}
 use Rattle.fragments.proofs.Laws.Bool.{by_cases}
-use Rattle.fragments.proofs.Laws.Numbers.{order_cases, equal_cases}
+use Rattle.fragments.proofs.Laws.Numbers.{order_cases}
 use Rattle.fragments.proofs.Laws.List.{listed_le}
 use Rattle.disc.proofs.Laws.Sound.{starts-rise}
 use Rattle.drive.specs.Bytes.{splice}
@@ -128,10 +128,4 @@ module _ (d e : Disc) (j blocks : ℕ) (g : Fragment) (m x : List ℕ) (w : Grow
 pub same_region :
     (d e : Disc) (m : List ℕ) (n : ℕ) → (numbered e n).recorded ≡ (numbered d n).recorded
     → (((numbered d n).recorded ≡ 0 → ⊥) → (numbered e n).start.0 ≡ (numbered d n).start.0) → region e m n ≡ region d m n
-same_region d e m n count start =
-    ap (λ (w : ℕ). take (32768 * w) (drop (32768 * (numbered e n).start.0) m)) count
-    ∙ equal_cases (numbered d n).recorded 0
-    (λ z.
-    ap (λ (w : ℕ). take (32768 * w) (drop (32768 * (numbered e n).start.0) m)) z
-    ∙ sym (ap (λ (w : ℕ). take (32768 * w) (drop (32768 * (numbered d n).start.0) m)) z))
-    (λ z. ap (λ (b : ℕ). take (32768 * (numbered d n).recorded) (drop (32768 * b) m)) (start z))
+same_region d e m n count start = grind arith

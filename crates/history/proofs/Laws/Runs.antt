@@ -10,7 +10,7 @@ use Rattle.drive.specs.Step.{Drive, Request, verdict_on, carried_out, step}
 use Rattle.drive.specs.Alike.{recorded_byte, Alike}
 use Rattle.drive.proofs.Laws.Step.{verdict_decided}
 use Rattle.drive.proofs.Laws.Alike.{AlikeResults, step_alike, step_kept, alike_on}
-use Rattle.history.specs.Types.{Disc, Accepted}
+use Rattle.history.specs.Types.{Accepted}
 use Rattle.history.specs.Sequence.{Turn, found, result, final, Admissible, Undisturbed, AllAccepted, blocks_of, requests}
 use Rattle.history.specs.Demand.{RecordedStays}
 
@@ -80,7 +80,7 @@ stays_on : (s e f : Drive) → RecordedStays s e → RecordedStays e f → Recor
 stays_on s e f a b = λ i t. let x = a i t in let y = b i x.0 in (y.0, y.1 ∙ x.1)
 
 stays_stale : (s e : Drive) → Alike s e → RecordedStays s e
-stays_stale s e a = λ i t. (ap (λ (d : Disc). recorded_byte d i) (sym a.disc) ∙ t, sym (a.recorded i t))
+stays_stale s e a = grind arith
 
 step_recorded : (s : Drive) (q : Request) (i : ℕ) → recorded_byte s.disc i ≡ true → recorded_byte (step s q).after.disc i ≡ true
 unfolding step carried_out

@@ -25,7 +25,7 @@ use Rattle.drive.proofs.Laws.Cut.{Served, served-after, served_alike}
 use Rattle.drive.proofs.Laws.Step.{verdict_decided}
 use Rattle.history.specs.Types.{Lba, Disc, Answer, Accepted, Link, Drive as by_drive, Verdict, Command, TestUnitReady, RequestSense, Inquiry, ReadCapacity, Read, Write, SynchronizeCache, ReserveTrack, CloseTrackSession, GetConfiguration, ReadDiscInformation, ReadTrackInformation, Unlisted}
 use Rattle.history.specs.Sequence.{Start, Turn, found, result, final, Admissible}
-use Rattle.history.specs.Account.{Extent, Account, opened, extent_of, written, flushed, filled, credited, noted, account_from, account}
+use Rattle.history.specs.Account.{Extent, Account, opened, extent_of, written, flushed, filled, credited, noted, account_from}
 use Rattle.history.specs.Brought.{Written, write_of, accepted_write, writes, brought_to, sole, brought_in}
 use Rattle.history.proofs.Laws.Places.{taken, InPlace, taken_within, moved-performed}
 use Rattle.history.proofs.Laws.Credit.{covers-own, covers-else}
@@ -203,12 +203,7 @@ module _
     -- what was brought before, at an address that is no fragment's sector afterwards
     fresh-onward :
         ((n : ℕ) → 1 ≤ n → taken d n ≤ taken e n) → (a : ℕ) → ((n : ℕ) → 1 ≤ n → base e n ≤ a → a < base e n + taken e n → ⊥) → brought_to a ws ≡ []
-    fresh-onward grows a none =
-        tr.fresh a
-        (λ n one from below.
-        let more = grows n one in
-        let start : base e n ≡ base d n = ap (λ (x : ℕ). 16 * x) ((p n one).start (λ z. omega (arith, z, more, from, below))) in
-        none n one (omega (arith, start, from)) (omega (arith, start, below, more)))
+    fresh-onward grows a none = grind arith
 
     -- it brings nothing
     traced-none : (vs : List Written) → ((a : ℕ) → brought_to a vs ≡ []) → ((n : ℕ) → 1 ≤ n → Pads (base d n) (ks n) (ls n)) → Traced e (ws ++ vs) ls

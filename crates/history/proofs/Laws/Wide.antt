@@ -1,11 +1,11 @@
 -- Wide witnesses: admissible sequences of any requests over any stale bytes, and the same again with accepted WRITEs cut in any way.
-use Prim.Native.Nat.{ℕ, suc, ◌+◌, ◌-◌, ◌*◌, ◌/◌, ◌%◌, ◌≤◌, ◌<◌}
+use Prim.Native.Nat.{ℕ, suc, ◌+◌, ◌-◌, ◌*◌, ◌≤◌, ◌<◌}
 use mathlib.Core.Path.{◌≡◌, refl, sym, ap, ◌∙◌, subst}
 use mathlib.Core.Bool.{Bool, true, false, ◌&&◌}
 use mathlib.Core.Logic.{◌⊎◌, inl, inr}
 use mathlib.Core.List.{List, [], ◌∷◌, ◌++◌, map}
 use native.Mathlib.Omega.{arith}
-use borrow.Author.Tests.{eq-eqb, ne_eqb, eqb-true, le-leb, leb-true, ltb-true, le-ltb}
+use borrow.Author.Tests.{ne_eqb, leb-true, ltb-true, le-ltb}
 use lib.Dec.{eqb, leb, ltb}
 use lib.ListN.{length, get_or, take, drop, length-drop, take-append-drop}
 use lib.Seq.{length-take-le}
@@ -17,7 +17,7 @@ use Rattle.outcomes.proofs.Laws.Accepts.{Takes, takes-accepted}
 use Rattle.disc.proofs.Laws.Blank.{range_least, blank-allowed, blank_capacity}
 use Rattle.commands.proofs.Laws.Judge.{allowed_ready}
 use Rattle.disc.proofs.Laws.Rules.{sound-rules}
-use Rattle.fragments.proofs.Laws.Bool.{and_left, and_right, and_both, by_cases, cond_yes, cond_no}
+use Rattle.fragments.proofs.Laws.Bool.{and_left, and_right, by_cases, cond_yes, cond_no}
 use Rattle.drive.specs.Bytes.{zeros}
 use Rattle.drive.specs.Step.{Drive, Request, request, carried_out, step}
 use Rattle.drive.specs.Alike.{recorded_byte}
@@ -87,26 +87,10 @@ module _ (q : Request) (a n : ℕ) (ks : List Portion) where
     named : nameable a ks ≡ true
 
   test-cuts : is_cut q a n ks ≡ true → Cuts
-  test-cuts t =
-      let four = block-fits && data_fits && is-several && is_whole in
-      let three = block-fits && data_fits && is-several in
-      let t₄ = and_left four (nameable a ks) t in
-      let t₃ = and_left three is_whole t₄ in
-      let t₂ = and_left (block-fits && data_fits) is-several t₃ in
-      record {
-        cdb = eqb-true (length q.cdb) 12 (and_left block-fits data_fits t₂);
-        payload = eqb-true (length q.payload) (2048 * n) (and_right block-fits data_fits t₂);
-        several = leb-true 2 (length ks) (and_right (block-fits && data_fits) is-several t₃);
-        whole = eqb-true (total ks) n (and_right three is_whole t₄);
-        named = and_right four (nameable a ks) t;
-      }
+  test-cuts t = grind arith
 
   cuts-test : Cuts → is_cut q a n ks ≡ true
-  cuts-test c =
-      and_both
-      (and_both
-      (and_both (and_both (eq-eqb (length q.cdb) 12 c.cdb) (eq-eqb (length q.payload) (2048 * n) c.payload)) (le-leb 2 (length ks) c.several))
-      (eq-eqb (total ks) n c.whole)) c.named
+  cuts-test c = grind arith
 
 -- the parts of a command again are a cut, or there is but the command
 cut_of : (q : Request) (a : Lba) (n : ℕ) (ks : List Portion) → decode q.cdb ≡ Write a n → Cuts q a.0 n ks → CutOf q (parts_of a.0 ks q.payload)

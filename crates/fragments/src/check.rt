@@ -14,13 +14,19 @@ impl Fragment {
     fn joined(self, other: Fragment) -> Fragment
         ensures { is_zero result ≡ (is_zero self && is_zero other) }
     {
+        // No `max` of the kinds: along a list each turn waits for the one before then, and a command on a short list takes a sixth longer (host/bench).
+        let kind = if other.kind.is_reserved() {
+            self.kind
+        } else {
+            other.kind
+        };
         Fragment {
             start: Block(self.start.0 | other.start.0),
             length: self.length | other.length,
             recorded: self.recorded | other.recorded,
             zeroed: self.zeroed | other.zeroed,
             session: self.session | other.session,
-            kind: self.kind.max(other.kind),
+            kind,
         }
     }
 

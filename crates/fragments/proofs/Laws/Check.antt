@@ -91,15 +91,6 @@ module _ (fs : List Fragment) (d : Fragment) (c : ℕ) (fin full : Bool) where
   unfolding walk_in_use
   walk_end i o p h = rw (drop_of_length-le fs h)
 
--- two records joined bit by bit, and their kinds
-pub joined_kind :
-    (join : Kind → Kind → Kind) → join Reserved Reserved ≡ Reserved → join Reserved Appended ≡ Appended → join Appended Reserved ≡ Appended
-    → join Appended Appended ≡ Appended → (a b : Kind) → is_reserved (join a b) ≡ (is_reserved a && is_reserved b)
-joined_kind join e f g h Reserved Reserved = ap is_reserved e
-joined_kind join e f g h Reserved Appended = ap is_reserved f
-joined_kind join e f g h Appended Reserved = ap is_reserved g
-joined_kind join e f g h Appended Appended = ap is_reserved h
-
 -- a record whose fields are those of an unused one, in the order of the fields
 rows : (a b c d e k : Bool) → (b && (c && (d && (e && (a && k))))) ≡ (a && b && c && d && e && k)
 rows true b c d e k = simp (and_assoc, and_true)
@@ -114,6 +105,7 @@ same_zero f =
     tag_zero Reserved = refl
     tag_zero Appended = refl
 
+-- two records joined bit by bit
 pub joined_zero :
     (a b : Fragment) (k : Kind)
     → is_reserved k ≡ (is_reserved a.kind && is_reserved b.kind)

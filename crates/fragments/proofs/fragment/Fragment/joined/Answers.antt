@@ -1,10 +1,20 @@
-use Rattle.std.proofs.Common.{refl}
-use Rattle.std.specs.Ordering.{ord_max}
-use Rattle.fragments.specs.contracts.fragment.KindOrd.TheImpl.{cmp-value}
-use Rattle.fragments.proofs.Laws.Check.{joined_zero, joined_kind}
+use Rattle.std.proofs.Common.{◌≡◌, ◌&&◌, sym, ◌∙◌}
+use mathlib.Core.Bool.{and-false}
+use Rattle.fragments.specs.Fragment.{is_reserved}
+use Rattle.fragments.proofs.Laws.Bool.{and_true}
+use Rattle.fragments.proofs.Laws.Check.{joined_zero}
 use Rattle.fragments.proofs.fragment.Fragment.joined.Goals as goal
+use Rattle.fragments.proofs.fragment.Fragment.joined.Goals.{then-is_reserved, else-is_reserved}
 
 pub returns : goal.returns
 returns c =
-    let a = c.args in
-    joined_zero a.self a.other c.max.result (rw c.max.ensures (joined_kind (ord_max cmp-value.it) refl refl refl refl a.self.kind a.other.kind))
+    let a = c.args.self.kind in
+    let b = c.args.other.kind in
+    let kind =
+    elim c.if-is_reserved.branch as (λ _. is_reserved c.if-is_reserved.kind ≡ (is_reserved a && is_reserved b)) [
+      | then-is_reserved t ↦ rw (t.kind-is, sym c.is_reserved.ensures ∙ t.if-is_reserved.true) (sym (and_true (is_reserved a)))
+      | else-is_reserved t ↦
+          let no = sym c.is_reserved.ensures ∙ t.if-is_reserved.false in
+          rw (t.kind-is, no) (sym (and-false (is_reserved a)))
+    ] in
+    joined_zero c.args.self c.args.other c.if-is_reserved.kind kind

@@ -3,7 +3,7 @@ use Rattle.std.proofs.Common.{◌≡◌, ℕ, zero, suc, ◌+◌, ◌-◌, ◌/�
 use Rattle.std.proofs.lemmas.Fmt.{AppendsLastDigit, decimal_from_appends, decimal_step, length-decimal-le, hex_byte}
 use borrow.Author.Tests.{ltb-false}
 use Rattle.std.specs.Fmt as fmt
-use Rattle.playback.specs.Types.{Sense}
+use Rattle.playback.specs.Types.{Sense, Lba, Option, Some, None}
 use Rattle.playback.specs.Text.{digit, digits, decimal, hex, next_text, words, record_text}
 
 by_cases {ℓ} : {P : Type ℓ} (b : Bool) → (b ≡ true → P) → (b ≡ false → P) → P

@@ -69,10 +69,10 @@ abbrev pub untouched : Drive → Request → Answer → Disc → Result
 untouched s q a d =
     record { answer = a; reply = []; recorded = 0; buffer = q.buffer; after = drive d s.medium s.pending }
 
--- what the code that carries a decision out asks: what its plan asks of the lent buffers is there, of which the pending buffer is one
--- block by its type
+-- what the code that carries a decision out asks: what its plan asks of the lent buffers is there
 pub record Feasible (p : Plan) (r : Reply) (payload medium pending buffer : List ℕ) : Type 0 where
   pub sends : Sendable medium pending p.transfer r (length buffer)
+  pub block : length pending ≡ 32768
   pub flush : FlushFits (length medium) p.flush
   pub transfer : TransferFits (length medium) (length payload) p.transfer
 

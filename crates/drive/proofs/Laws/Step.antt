@@ -137,6 +137,7 @@ decided_feasible s q d h e =
             report = f.report;
             whole = f.whole;
           };
+      block = j.block;
       flush = f.flush;
       transfer = f.transfer;
     }

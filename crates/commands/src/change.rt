@@ -22,7 +22,7 @@ pub(crate) fn flushed(mut f: Fragment, pending: u8) -> Fragment
     ensures { result ≡ flushed_record pending f }
 {
     f.recorded += 1;
-    f.zeroed += fragments::missing(pending as usize) as u32;
+    f.zeroed += fragments::missing(usize::from(pending)) as u32;
     f
 }
 

@@ -33,7 +33,8 @@ fn admitted(
 }
 
 // The decision about a command block, with data and a reply buffer of these lengths: the link refusals that need no buffer, in order,
-// then the drive. Here alone a refusal becomes a decision.
+// then the drive. Here alone a command's refusal becomes a decision; the functions of `reporting` give their refusals as decisions themselves.
+// The two lengths stay parameters, here and below: `decide` and `judge` of docs/PROMISES.md are public and take any two.
 pub fn decide(disc: Disc, cdb: &[u8], data_length: usize, reply_length: usize) -> Decision
     ensures { Judged disc cdb.now data_length reply_length (decided disc result) }
 {

@@ -20,7 +20,7 @@ impl ReadyDisc {
         if sectors == 0 {
             return Flushing::none();
         }
-        let owner = self.disc.owner as usize;
+        let owner = usize::from(self.disc.owner);
         let f = self.disc.numbered(owner);
         let block = change::first_unrecorded(f);
         Flushing {
@@ -35,7 +35,7 @@ impl ReadyDisc {
     pub(crate) fn flushing_others(&self, number: usize) -> Flushing
         ensures { result ≡ flushing_others self.now.disc number }
     {
-        if self.disc.owner as usize == number {
+        if usize::from(self.disc.owner) == number {
             return Flushing::none();
         }
         self.flushing()

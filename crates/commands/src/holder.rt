@@ -22,7 +22,7 @@ impl ReadyDisc {
         self.holder_at(address).map(|holder| holder.number)
     }
 
-    // Where its recorded sectors end, and where its readable ones do; both 0 where there is none.
+    // Where its recorded sectors end, and where its readable ones do; both 0 where there is none, as `no_reach` holds, so no Option.
     pub(crate) fn reach_around(&self, address: Lba) -> Reach
         ensures { result ≡ reach_around self.now.disc address }
     {

@@ -28,7 +28,7 @@ impl ReadyDisc {
             Command::SynchronizeCache => Ok(self.synchronize_cache()),
             Command::ReserveTrack { size } => self.reserve_track(size),
             Command::CloseTrackSession { function, number } => {
-                self.close_track_session(function, number as usize)
+                self.close_track_session(function, usize::from(number))
             }
             Command::GetConfiguration {
                 request_type,

@@ -28,7 +28,7 @@ impl ReadyDisc {
         let transfer = Transfer::Send {
             address,
             recorded,
-            place: Lba(address.0 + recorded as u64).place(),
+            place: Lba(address.0 + u64::from(recorded)).place(),
             pending: sectors - recorded,
         };
         let plan = Plan::new(None, transfer);

@@ -48,7 +48,7 @@ impl ReadyDisc {
             return Err(DriveRefusal::NoMoreReservations);
         }
         let blocks = fragments::whole_blocks(size as usize) as u32;
-        if self.disc.capacity as u64 <= last.fragment.reserved(blocks).next_start().0 {
+        if u64::from(self.disc.capacity) <= last.fragment.reserved(blocks).next_start().0 {
             return Err(DriveRefusal::EndOfUserArea);
         }
         let effect = self.split_tail(last, blocks);

@@ -71,7 +71,7 @@ impl ReadyDisc {
             return Err(DriveRefusal::NoMoreReservations);
         }
         let start = kept.fragment.next_session_start();
-        if (self.disc.capacity as u64) < start.0 + 1 {
+        if u64::from(self.disc.capacity) < start.0 + 1 {
             return Err(DriveRefusal::EndOfUserArea);
         }
         let tail = Entry::tail(

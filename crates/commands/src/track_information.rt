@@ -22,7 +22,7 @@ impl ReadyDisc {
     {
         match address_type {
             0 => {
-                let found = self.at_address(Lba(number as u64));
+                let found = self.at_address(Lba(u64::from(number)));
                 Ok(reporting::track_found(self.disc, found, allocation))
             }
             1 => Ok(reporting::track_numbered(self.disc, number as usize, allocation)),

@@ -31,7 +31,7 @@ impl ReadyDisc {
         requires record_value { entry.fragment ≡ numbered self.now.disc entry.number }
         ensures { affected self.now.disc result ≡ gather (flush_others self.now.disc entry.number) entry.number sectors }
     {
-        let held = self.disc.pending_in(entry.number) as usize + sectors as usize;
+        let held = usize::from(self.disc.pending_in(entry.number)) + sectors as usize;
         let left = fragments::left_over(held);
         Effect::Grow {
             flushed,
@@ -42,6 +42,7 @@ impl ReadyDisc {
     }
 
     // A WRITE of 1 up at the next writable address of a fragment, given with its number.
+    // That the record is the one with the number stays a clause, in two contracts over the disc and in two over the flushed one (close.rt).
     #[tactic(auto, unfolding(crate::specs::Write::write_to))]
     fn write_to(&self, address: Lba, sectors: u32, entry: Entry) -> Result<Decision, DriveRefusal>
         requires writable { Writable self.now.disc address entry.number }
@@ -58,7 +59,7 @@ impl ReadyDisc {
             pending,
             sectors,
         };
-        let gathered = fragments::whole_blocks(pending as usize + sectors as usize) as u32;
+        let gathered = fragments::whole_blocks(usize::from(pending) + sectors as usize) as u32;
         let first = self.flushing_others(entry.number);
         let plan = Plan::new(first.plan, transfer);
         let effect = self.gather(first.entry, entry, sectors);

@@ -57,6 +57,7 @@ impl Iterator for Sessions<'_> {
 
     ghost remaining = { item_count sessions_left };
 
+    // By hand: each turn takes the front record off what is left, and no index is counted; a `for` would have no rest to keep.
     fn next(&mut self) -> Option<Fragment> {
         while let Some((f, others)) = self.records.split_first() {
             let begins = f.session != self.before;

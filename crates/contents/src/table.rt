@@ -55,7 +55,8 @@ fn header(last: u8, entries: usize) -> [u8; HEADER]
     [high, low, 1, last]
 }
 
-// Writes the table of contents of a list, as much of it as there is room for; the rest of the buffer stays.
+// Writes the table of contents of a list, as much of it as there is room for; the rest of the buffer stays. Form and time stay numbers, here
+// and in an entry: public, and `toc_bytes` takes every number.
 pub fn write(
     fragments: [Fragment; LIMIT],
     finalized: bool,

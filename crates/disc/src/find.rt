@@ -53,7 +53,8 @@ impl Disc {
         fragments::pending_of(self.pending, self.owner, number)
     }
 
-    // The fragment with a number has no block recorded and no sector pending. Number and record stay two, here and below: a public promise.
+    // The fragment with a number has no block recorded and no sector pending. Number and record stay two, here and below: docs/PROMISES.md has
+    // the rows of `is_blank` and `next_writable` for any two of them, and `asked_of_a_list` of examples asks so.
     pub fn is_blank(self, number: usize, f: Fragment) -> bool
         ensures { result ≡ is_blank self number f }
     {

@@ -140,7 +140,7 @@ impl Fragment {
         !self.is_complete() & (address == self.next_writable(pending))
     }
 
-    // The address of the last recorded sector, or 0.
+    // The address of the last recorded sector, or 0. No Option: the reply's number, which `last_recorded` holds.
     pub fn last_recorded(self) -> Lba
         ensures { result ≡ last_recorded self }
     {
@@ -150,7 +150,8 @@ impl Fragment {
         Lba(self.recorded_end().0 - 1)
     }
 
-    // The address of the last readable sector, with so many sectors pending in the fragment, or 0.
+    // The address of the last readable sector, with so many sectors pending in the fragment, or 0. No Option: the reply's number, which
+    // `last_readable_of` holds.
     pub(crate) fn last_readable(self, pending: u8) -> Lba
         ensures { result ≡ last_readable_of pending self }
     {

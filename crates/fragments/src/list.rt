@@ -35,6 +35,7 @@ pub fn used(fragments: [Fragment; LIMIT]) -> usize
 }
 
 // The record with a number; of number 0, the first, and past the end an unused one.
+// No Option: `record_numbered`, and the theorem `asked_of_a_list` of examples for a disc, hold the answer for every number.
 pub fn record_numbered(fragments: [Fragment; LIMIT], number: usize) -> Fragment
     ensures { result ≡ record_numbered fragments number }
 {
@@ -51,6 +52,7 @@ pub fn last_record(fragments: [Fragment; LIMIT]) -> Entry
 }
 
 // The pending sectors of the fragment with a number, of all those pending and the number of the fragment that has them.
+// The pair stays two numbers, here and in `highest_readable`: so the disc's state in document 01 and its C image have it.
 pub fn pending_of(pending: u8, owner: u8, number: usize) -> u8
     ensures { result ≡ pending_of pending owner number }
 {
@@ -61,7 +63,7 @@ pub fn pending_of(pending: u8, owner: u8, number: usize) -> u8
     }
 }
 
-// The number of a session's first record; one more than the last record's where it has none.
+// The number of a session's first record; one more than the last record's where it has none. No Option: `first_of_session` holds that number.
 pub fn first_of_session(fragments: [Fragment; LIMIT], session: u8) -> usize
     ensures { result ≡ first_of_session session 1 (listed fragments) }
 {
@@ -81,6 +83,7 @@ pub fn has_incomplete_reserved(fragments: [Fragment; LIMIT]) -> bool
 }
 
 // The highest readable address, or 0, with so many sectors pending in the fragment with the number `owner`.
+// No Option: READ CAPACITY replies with the number as it is, and `highest_readable` holds it.
 pub fn highest_readable(fragments: [Fragment; LIMIT], pending: u8, owner: u8) -> Lba
     ensures { result ≡ highest_readable pending owner 1 (listed fragments) }
 {

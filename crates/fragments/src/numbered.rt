@@ -6,7 +6,7 @@ use crate::fragment::Fragment;
 use crate::list::LIMIT;
 
 // A record and its number, from 1. Put into the list it stands there under its number; under 0 none is put. An Option beside it would say that a
-// second time: a number may be any, so what becomes of 0 is promised anyway.
+// second time: `puts` and `changes` of examples put an entry under 0, so what becomes of that number is promised anyway.
 #[derive(Clone, Copy)]
 pub struct Entry {
     pub number: usize,
@@ -31,15 +31,13 @@ impl Entry {
     pub fn put(self, mut records: [Fragment; LIMIT]) -> [Fragment; LIMIT]
         ensures { result ≡ put self records }
     {
-        let number = self.number;
-        if number == 0 {
+        if self.number == 0 {
             return records;
         }
-        if number > LIMIT {
+        if self.number > LIMIT {
             return records;
         }
-        let f = self.fragment;
-        records[number - 1] = f;
+        records[self.number - 1] = self.fragment;
         records
     }
 

@@ -13,7 +13,7 @@ impl Entry {
     pub fn tail(capacity: u32, number: usize, session: u8, start: WideBlock) -> Entry
         ensures { result ≡ tail_entry capacity number session (block start.0) }
     {
-        if start.0 >= capacity as u64 {
+        if start.0 >= u64::from(capacity) {
             return Entry::none();
         }
         let first = start.0 as u32;

@@ -15,7 +15,7 @@ pub struct Sought {
 }
 
 // What one look at one record tells of the fragment that an address lies in.
-// Not an Ordering: `sides` of examples/specs/Searches.antt names what a look tells, and an unused record stands in no order to an address.
+// Not an Ordering: `sides` of examples/specs/Searches.antt names what a look tells.
 #[derive(Clone, Copy)]
 pub enum Side {
     // It can only stand on the left, among the records before this one.
@@ -47,7 +47,8 @@ pub fn halving(fragments: [Fragment; LIMIT], address: Lba) -> Sought
     let mut low: usize = 0;
     let mut high: usize = LIMIT;
     let mut looks: usize = 0;
-    // A count and no `for` over it: that is unrolled, and then a call takes 13,920 bytes of stack, as host/stack measures, in place of 10,624.
+    // A count and no `for` over it: that is unrolled, and then a call takes 13,920 bytes of stack, as host/stack measures, in place of 10,624;
+    // the bar is GLADHAMRE_STACK_LENGTH of include/gladhamre.h, 11,264.
     while looks < LOOKS && low < high {
         let index = low + (high - low) / 2;
         let f = fragments[index];

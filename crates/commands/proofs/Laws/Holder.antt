@@ -8,8 +8,8 @@ use borrow.Author.Tests.{le-leb, lt-ltb, eq-eqb, eqb-true, not-true}
 use lib.Dec.{eqb}
 use Rattle.commands.specs.Types.{Lba, Fragment, Disc, Entry, Option, Some, None}
 use Rattle.fragments.specs.Address.{first_sector}
-use Rattle.fragments.specs.Fragment.{end, complete, takes}
-use Rattle.fragments.specs.List.{record_numbered}
+use Rattle.fragments.specs.Fragment.{end, complete, first_unrecorded, takes}
+use Rattle.fragments.specs.List.{record_numbered, reach_found, no_reach}
 use Rattle.fragments.specs.Entry.{entry}
 use Rattle.search.specs.Search.{finds, halving, held}
 use Rattle.disc.specs.Records.{pending_in, next_writable, used, numbered, at_address, writable_at}
@@ -67,7 +67,27 @@ module _ (fs : List Fragment) where
   held_none (Some n) h = let z : Some (entry n (record_numbered fs n)) ≡ None = h in cc
   held_none None h = refl
 
+-- the same of a disc: its number, its record, and where it can be read to
+module _ (d : Disc) (x : Option ℕ) where
+  pub held_number : (e : Entry) → held d.fragments x ≡ Some e → Some e.number ≡ x
+  held_number e h = sym (held_some d.fragments x e h).0
+
+  pub held-record : (e : Entry) → held d.fragments x ≡ Some e → e.fragment ≡ numbered d e.number
+  held-record e h = (held_some d.fragments x e h).1
+
+  pub held-reaches :
+      (e : Entry) → held d.fragments x ≡ Some e
+      → record { recorded = first_sector (first_unrecorded e.fragment); readable = next_writable d e.number e.fragment }
+      ≡ reach_found d.fragments d.pending d.owner x
+  held-reaches e h = rw ((held_some d.fragments x e h).0, (held_some d.fragments x e h).1)
+
+  pub held-reaches-none : held d.fragments x ≡ None → no_reach ≡ reach_found d.fragments d.pending d.owner x
+  held-reaches-none h = rw (held_none d.fragments x h)
+
 module _ (d : Disc) (a : Lba) where
+  pub held-unwritable : held d.fragments (writable_at d a) ≡ None → None ≡ writable_at d a
+  held-unwritable h = sym (held_none d.fragments (writable_at d a) h)
+
   -- where a WRITE goes, its next writable address is named
   pub held-writable : (e : Entry) → held d.fragments (writable_at d a) ≡ Some e → Writable d a e.number
   held-writable e h = writable_found d a e.number (held_some d.fragments (writable_at d a) e h).0

@@ -1,7 +1,7 @@
 -- Bytes stored one after another in a lent buffer, cut where it ends.
 use Prim.Native.Nat.{ℕ, ◌+◌, ◌-◌, ◌≤◌, ◌<◌, min}
 use mathlib.Core.Path.{◌≡◌, refl, sym, ap, ◌∙◌}
-use mathlib.Core.List.{List, [], ◌∷◌, ◌++◌}
+use mathlib.Core.List.{List, [], ◌∷◌, ◌++◌, append-nil}
 use mathlib.Core.Logic.{⊎_elim}
 use native.Mathlib.Omega.{arith}
 use native.Mathlib.Nat.{eq-zero-or-pos}
@@ -44,6 +44,15 @@ unfolding stored
 stored_front l a b c d x =
     rw (set-stored l 4 0 a x (omega arith), set-stored (set l 0 a) 4 1 b x (omega arith), set-stored (set (set l 0 a) 1 b) 4 2 c x (omega arith))
     (set-stored (set (set (set l 0 a) 1 b) 2 c) 4 3 d x (omega arith))
+
+-- a list that is stored over whole is the first bytes of what is stored
+pub stored-all : (l x : List ℕ) → length l ≤ length x → stored l 0 x ≡ take (length l) x
+stored-all l x h =
+    let n = length l in
+    let size : length (take n x) ≡ n = length-take-le n x h in
+    let over : stored l 0 (take n x) ≡ take n x =
+    rw (append-nil l, append-nil (take n x)) at (stored-over [] l [] (take n x) (sym size)) in
+    sym (stored_room l 0 n x (omega (arith, h))) ∙ over
 
 -- what there is room for, in the place of as many that were there
 stored_cut :

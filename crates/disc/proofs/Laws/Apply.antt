@@ -4,13 +4,13 @@ use mathlib.Core.Path.{◌≡◌, refl, ◌∙◌}
 use native.Mathlib.Omega.{arith}
 use borrow.Author.Tests.{ne_eqb}
 use lib.Dec.{eqb}
-use Rattle.disc.specs.Types.{Fragment, Disc, DriveRefusal, LinkRefusal, Reply, Plan, Effect, Keep}
+use Rattle.disc.specs.Types.{Fragment, Disc, DriveRefusal, LinkRefusal, Reply, Plan, Entry, Effect, Keep}
 use Rattle.disc.specs.Records.{with_record}
 use Rattle.disc.specs.Verdict.{accepted, accept, refuse, refuse_link}
-use Rattle.fragments.specs.Entry.{entry, no_entry}
+use Rattle.fragments.specs.Entry.{entry, no_entry, put}
 use Rattle.decisions.specs.Decision.{accepting, refusing, refusing_link}
 use Rattle.disc.specs.Apply.{with_entry, affected, changed, decided}
-use Rattle.fragments.proofs.Laws.Bool.{cond_no}
+use Rattle.fragments.proofs.Laws.Bool.{by_cases, cond_no}
 use Rattle.disc.proofs.Laws.Verdict.{accept_same}
 
 -- refused and accepted decisions come to refused and accepted verdicts
@@ -33,6 +33,13 @@ unchanged_verdict d r p = accepted_verdict d Keep 0 r p ∙ accept_same d r p
 
 -- all four, for the functions that decide
 pub ruleset verdicts = (refused_verdict, link_verdict, accepted_verdict, unchanged_verdict)
+
+-- a record put among the records is put into the disc
+pub put-entry :
+    (d : Disc) (e : Entry)
+    → record { capacity = d.capacity; finalized = d.finalized; sense = d.sense; pending = d.pending; owner = d.owner; fragments = put e d.fragments } ≡ with_entry d e
+unfolding with_entry
+put-entry d e = by_cases (eqb e.number 0) (λ z. rw z) (λ z. rw z)
 
 -- a record put under a number from 1, and none put
 pub with_entry_lem : (d : Disc) (n : ℕ) (f : Fragment) → 1 ≤ n → with_entry d (entry n f) ≡ with_record d n f

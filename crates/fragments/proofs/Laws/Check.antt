@@ -3,20 +3,21 @@ use Prim.Native.Nat.{ℕ, suc, ◌+◌, ◌-◌, ◌≤◌, ◌<◌}
 use mathlib.Core.Path.{◌≡◌, refl, sym, ◌∙◌, ap}
 use mathlib.Core.Bool.{Bool, true, false, not, ◌&&◌, ◌||◌, and-false}
 use mathlib.Core.List.{List, [], ◌∷◌}
-use borrow.Author.Tests.{eq-eqb, ne_eqb, eqb-true}
+use borrow.Author.Tests.{eq-eqb, ne_eqb, eqb-true, eqb-false}
 use denote.Enum.Declared.{tag_of}
 use lib.Bits.{bit_or}
 use lib.Dec.{eqb}
 use lib.ListN.{length, get_or, take, drop, drop_of_length-le}
+use native.Mathlib.Numerals.{add-one}
 use native.Mathlib.Omega.{arith}
 use lib.Seq.{drop-cons, take_all}
 use Rattle.fragments.specs.contracts.fragment.Kind.{the_type}
 use Rattle.fragments.specs.Types.{Kind, Reserved, Appended, Fragment}
 use Rattle.fragments.specs.Fragment.{fragment, unused, is_reserved, is_zero, end, complete, is_tail, next_fragment_start, next_session_start}
 use Rattle.fragments.specs.List.{listed, every}
-use Rattle.fragments.proofs.Laws.Bool.{cond_yes, cond_no, and_right, and_true, and_assoc, and_rows, or_cases}
+use Rattle.fragments.proofs.Laws.Bool.{cond_yes, cond_no, and_right, and_true, and_assoc, and_rows, or_cases, by_cases}
 use Rattle.fragments.proofs.Laws.Numbers.{or_zero}
-use Rattle.fragments.proofs.Laws.List.{use_cases, listed_none, listed_off, listed-on, every-step}
+use Rattle.fragments.proofs.Laws.List.{use_cases, listed_none, listed_off, listed-on, every-step, every-end}
 use Rattle.fragments.specs.Check.{within, begins_list, continues, open_after, ends_list, walk, list_sound, walk_in_use, in_use_sound}
 
 -- the walk along the list is that along the records in use, and the rest zero
@@ -91,6 +92,52 @@ module _ (fs : List Fragment) (d : Fragment) (c : ℕ) (fin full : Bool) where
   unfolding walk_in_use
   walk_end i o p h = rw (drop_of_length-le fs h)
 
+-- the first record, and after it the walk along the others
+pub list-start :
+    (fs : List Fragment) (d : Fragment) (c : ℕ) (fin : Bool)
+    → 0 < length fs → list_sound c fin fs
+    ≡ (begins_list (get_or fs 0 d) && within c (get_or fs 0 d) && walk c fin (not (complete (get_or fs 0 d))) (get_or fs 0 d) (drop 1 fs))
+unfolding list_sound
+list-start [] d c fin h = absurd (omega arith)
+list-start (f ∷ fs) d c fin h = refl
+
+-- the record at an index of the walk along the whole list: none in use there, or one that must fit
+module _ (fs : List Fragment) (i : ℕ) (d : Fragment) (h : i < length fs) (c : ℕ) (fin o : Bool) (p : Fragment) where
+  pub walk-stop : (get_or fs i d).length ≡ 0 → walk c fin o p (drop i fs) ≡ (ends_list c fin false o p && every is_zero (drop i fs))
+  unfolding walk
+  walk-stop e = rw (drop-cons fs i d h) (rw (eq-eqb _ _ e))
+
+  pub walk-more :
+      ((get_or fs i d).length ≡ 0 → ⊥) → walk c fin o p (drop i fs)
+      ≡ (within c (get_or fs i d) && continues o p (get_or fs i d) && walk c fin (open_after o p (get_or fs i d)) (get_or fs i d) (drop (i + 1) fs))
+  unfolding walk
+  walk-more e = rw (add-one, drop-cons fs i d h) (rw (ne_eqb _ _ e))
+
+pub walk-past : (fs : List Fragment) (i c : ℕ) (fin o : Bool) (p : Fragment) → length fs ≤ i → walk c fin o p (drop i fs) ≡ ends_list c fin true o p
+unfolding walk
+walk-past fs i c fin o p h = rw (drop_of_length-le fs h)
+
+-- that walk at its end: past the last record, or at the first one that is not in use
+pub walk-over :
+    (fs : List Fragment) (i end n c : ℕ) (fin o : Bool) (p : Fragment) (s : Bool)
+    → length fs ≡ n → i ≡ end → end ≤ n → s ≡ walk c fin o p (drop i fs)
+    → (end < n → s ≡ (ends_list c fin false o p && every is_zero (drop end fs)))
+    → s ≡ (ends_list c fin (eqb end n) o p && every is_zero (drop i fs))
+walk-over fs i end n c fin o p s l e m w stop =
+    by_cases (eqb end n)
+    (λ t.
+    let at-end = eqb-true end n t in
+    w
+    ∙ (walk-past fs i c fin o p (omega arith)
+    ∙ (sym (and_true (ends_list c fin true o p))
+    ∙ (ap (λ b. ends_list c fin true o p && b) (sym (every-end is_zero fs i (omega arith)))
+    ∙ ap (λ b. ends_list c fin b o p && every is_zero (drop i fs)) (sym t)))))
+    (λ t.
+    let before = eqb-false end n t in
+    stop (omega arith)
+    ∙ (ap (λ k. ends_list c fin false o p && every is_zero (drop k fs)) (sym e)
+    ∙ ap (λ b. ends_list c fin b o p && every is_zero (drop i fs)) (sym t)))
+
 -- a record whose fields are those of an unused one, in the order of the fields
 rows : (a b c d e k : Bool) → (b && (c && (d && (e && (a && k))))) ≡ (a && b && c && d && e && k)
 rows true b c d e k = simp (and_assoc, and_true)
@@ -132,6 +179,23 @@ rest_more fs i d rest r h so j =
     so
     ∙ (ap (λ b. is_zero rest && b) (every-step is_zero fs i d h)
     ∙ (and_assoc (is_zero rest) (is_zero (get_or fs i d)) (every is_zero (drop (i + 1) fs)) ∙ ap (λ b. b && every is_zero (drop (i + 1) fs)) (sym j)))
+
+-- the same beside an outcome `e` that is known: one more of them, and all
+pub rest-next :
+    (fs : List Fragment) (i : ℕ) (d rest r : Fragment) (s e : Bool)
+    → i < length fs → s ≡ (e && (is_zero rest && every is_zero (drop i fs))) → is_zero r ≡ (is_zero rest && is_zero (get_or fs i d))
+    → s ≡ (e && (is_zero r && every is_zero (drop (i + 1) fs)))
+rest-next fs i d rest r s e h so j =
+    so
+    ∙ ap (λ b. e && b)
+    (ap (λ b. is_zero rest && b) (every-step is_zero fs i d h)
+    ∙ (and_assoc (is_zero rest) (is_zero (get_or fs i d)) (every is_zero (drop (i + 1) fs)) ∙ ap (λ b. b && every is_zero (drop (i + 1) fs)) (sym j)))
+
+pub rest_all :
+    (fs : List Fragment) (i : ℕ) (rest : Fragment) (s e : Bool)
+    → length fs ≤ i → s ≡ (e && (is_zero rest && every is_zero (drop i fs))) → (e && is_zero rest) ≡ s
+rest_all fs i rest s e h so =
+    sym (so ∙ ap (λ b. e && b) (ap (λ b. is_zero rest && b) (every-end is_zero fs i h) ∙ and_true (is_zero rest)))
 
 -- a record that may stand after another leaves a block between them
 pub continues_apart : (o : Bool) (p f : Fragment) → continues o p f ≡ true → (end p).0 + 1 ≤ f.start.0

@@ -138,6 +138,17 @@ listed_stop [] = refl
 listed_stop (f ∷ fs) =
     use_cases f (λ e. rw (listed_off f fs e) e) (λ e. rw (listed-on f fs e) (listed_stop fs))
 
+-- one step along the records in use for a session's first one: a record of another session is passed by
+module _ (fs : List Fragment) (i : ℕ) (d : Fragment) (h : i < length fs) where
+  pub listed-drop-on : ((get_or fs i d).length ≡ 0 → ⊥) → listed (drop i fs) ≡ get_or fs i d ∷ listed (drop (i + 1) fs)
+  listed-drop-on e = rw (add-one, drop-cons fs i d h) (listed-on (get_or fs i d) (drop (suc i) fs) e)
+
+  pub session-on :
+      (s n : ℕ) → ((get_or fs i d).length ≡ 0 → ⊥) → ((get_or fs i d).session ≡ s → ⊥)
+      → first_of_session s n (listed (drop i fs)) ≡ first_of_session s (n + 1) (listed (drop (i + 1) fs))
+  unfolding first_of_session
+  session-on s n e t = rw (listed-drop-on e) (rw (ne_eqb _ _ t))
+
 -- the sum of the recorded blocks with one record changed
 pub sum-set :
     (fs : List Fragment) (k : ℕ) (g d : Fragment)

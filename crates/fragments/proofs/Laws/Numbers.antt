@@ -1,9 +1,9 @@
 -- The order of two numbers, as a proof by cases, sums that are not formed, and numbers joined bit by bit.
-use Prim.Native.Nat.{ℕ, suc, ◌≤◌, ◌<◌}
+use Prim.Native.Nat.{ℕ, suc, ◌+◌, ◌-◌, ◌≤◌, ◌<◌}
 use mathlib.Core.Path.{◌≡◌}
 use mathlib.Core.Bool.{◌&&◌}
 use native.Mathlib.Omega.{arith}
-use borrow.Author.Tests.{eq-eqb, eqb-true, eqb-false, ltb-true, ltb-false}
+use borrow.Author.Tests.{eq-eqb, eqb-true, eqb-false, ltb-true, ltb-false, lt-ltb}
 use lib.Bits.{bit_or, or_add_and, and_le_l, and_le_r}
 use lib.Dec.{eqb, ltb}
 use Rattle.fragments.proofs.Laws.Bool.{and_left, and_right, and_both, by_cases, same_test}
@@ -28,6 +28,13 @@ equal_cases a b same other = by_cases (eqb a b) (λ e. same (eqb-true a b e)) (�
 
 pub below_limit : {a b : ℕ} → a ≤ b → (a ≡ b → ⊥) → a < b
 below_limit h n = omega arith
+
+-- the test whether a run passes an end, without the sum
+pub rest-passes : (a n e : ℕ) → a ≤ e → ltb (e - a) n ≡ ltb e (a + n)
+rest-passes a n e h =
+    same_test
+    (λ t. let l = ltb-true (e - a) n t in lt-ltb e (a + n) (omega arith))
+    (λ t. let l = ltb-true e (a + n) t in lt-ltb (e - a) n (omega arith))
 
 -- numbers joined bit by bit are zero where each of them is
 pub or_zero : (a b : ℕ) → eqb (bit_or a b) 0 ≡ (eqb a 0 && eqb b 0)

@@ -47,10 +47,10 @@ returns c =
     let u : used (close_tail (flush d)) ≡ limit → ⊥ = λ e. c.if-kept-eq-LIMIT.false (ap (λ x. x.number) l ∙ e) in
     let n = wide-number (rw l at c.next_session_start-start.ensures) in
     let s = next_session_start (end (last_record (close_tail (flush d)))) in
-    let w : s.0 < d.capacity = omega (arith, n, c.if-self-start.false) in
+    let w : s.0 < d.capacity = omega (arith, n, c.from.ensures, c.if-from-start.false) in
     let t = rw (c.next_session_start-start.ensures, l) at c.tail-tail.ensures in
     let fe = ap (λ x. x.entry) c.in_ok-first.ensures.ok.0 in
     let g = rw (fe, c.last-before.ensures) at c.over_last-last.ensures ∙ last-flushed d c.args.self.now.ready in
     rw (c.closing.ensures, accepted_verdict, t, tail_left _ _ _ s w, g, c.in_ok-first.ensures.ok.0)
     (ap (λ x. accepted x (flush_count d) no_reply (plan (flush_plan d) Nothing)) (affected-session d c.args.self.now.ready _ _ refl refl)
-    ∙ sym (session-done d h i u c.args.self.now.ready (rw n at c.if-self-start.false)))
+    ∙ sym (session-done d h i u c.args.self.now.ready (rw (n, c.from.ensures) at c.if-from-start.false)))

@@ -25,5 +25,5 @@ returns c =
     let n = c.args.sectors in
     let within : a.0 + n ≤ sectors_in d.capacity = ltb-false _ _ (sym (rw c.first_sector.ensures at c.passes.ensures) ∙ c.if-passes.false) in
     let t : passes a n (reach_around d a).readable ≡ false = sym (rw c.reach_around-reach.ensures at c.passes-2.ensures) ∙ c.if-passes-2.false in
-    rw (c.accepted.ensures, unchanged_verdict, c.none-2.ensures, c.new-plan.ensures, c.place.ensures, c.sectors_before-recorded.ensures, c.reach_around-reach.ensures)
+    rw (c.accepted.ensures, unchanged_verdict, c.none-2.ensures, c.new-plan.ensures, c.place.ensures, c.from.ensures, c.sectors_before-recorded.ensures, c.reach_around-reach.ensures)
     (read_found d a n c.if-sectors-eq0.false within (sound-rules d c.args.self.now.ready.sound) t)

@@ -13,7 +13,7 @@ split_tail-effect-requires c =
     let n = ap (λ l. l.number) c.last-last.ensures in
     let u : used d ≡ limit → ⊥ = λ e. c.if-last-eq-LIMIT.false (n ∙ e) in
     let k = wide-number (rw (c.reserved.ensures, c.last-last.ensures) at c.next_start.ensures) in
-    record { splitting = splitting d _ c.args.self.now.ready u (rw k at c.if-self-next_start.false); last_value = c.last-last.ensures }
+    record { splitting = splitting d _ c.args.self.now.ready u (rw (k, c.from.ensures) at c.if-from-next_start.false); last_value = c.last-last.ensures }
 
 pub returns : goal.returns
 returns c =
@@ -25,4 +25,4 @@ returns c =
     let u : used d ≡ limit → ⊥ = λ e. c.if-last-eq-LIMIT.false (n ∙ e) in
     let k = wide-number (rw (c.reserved.ensures, c.last-last.ensures, c.whole_blocks-blocks.ensures) at c.next_start.ensures) in
     rw (c.accepted.ensures, accepted_verdict, c.none.ensures, c.none-2.ensures, c.split_tail-effect.ensures, c.whole_blocks-blocks.ensures)
-    (sym (reserve-done d c.args.size f z b u (sound-rules d c.args.self.now.ready.sound) (rw k at c.if-self-next_start.false)))
+    (sym (reserve-done d c.args.size f z b u (sound-rules d c.args.self.now.ready.sound) (rw (k, c.from.ensures) at c.if-from-next_start.false)))

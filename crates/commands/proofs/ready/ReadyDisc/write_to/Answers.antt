@@ -47,7 +47,7 @@ overflow_add-first c =
     let h = fits a k c.passes.ensures c.end_address.ensures c.requires.record_value c.if-passes.false in
     let f = fit d a n k p c.requires.writable h in
     rw (c.flushing_others-first.ensures, c.whole_blocks-gathered.ensures)
-    (omega (arith, f.sectors, c.pending_in-pending.ensures, p.few, others_count_most d n))
+    (omega (arith, f.sectors, c.from.ensures, c.pending_in-pending.ensures, p.few, others_count_most d n))
 
 pub returns : goal.returns
 unfolding write_to accept
@@ -58,4 +58,4 @@ returns c =
     let k = c.args.sectors in
     let p = place d a n c.args.self.now.ready c.requires.writable in
     let h = fits a k c.passes.ensures c.end_address.ensures c.requires.record_value c.if-passes.false in
-    rw (c.accepted.ensures, accepted_verdict, c.gather-effect.ensures, c.none.ensures, c.new-plan.ensures, c.flushing_others-first.ensures, c.whole_blocks-gathered.ensures, c.first_unrecorded-block.ensures, c.pending_in-pending.ensures, c.requires.record_value, le-ltb _ _ h, write_count d n k c.args.self.now.ready c.requires.writable.from p.slot)
+    rw (c.accepted.ensures, accepted_verdict, c.gather-effect.ensures, c.none.ensures, c.new-plan.ensures, c.flushing_others-first.ensures, c.whole_blocks-gathered.ensures, c.first_unrecorded-block.ensures, c.from.ensures, c.pending_in-pending.ensures, c.requires.record_value, le-ltb _ _ h, write_count d n k c.args.self.now.ready c.requires.writable.from p.slot)

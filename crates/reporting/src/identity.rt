@@ -23,7 +23,7 @@ pub fn inquiry(disc: Disc, page_bit: u8, allocation: u16) -> Decision
 pub fn get_configuration(disc: Disc, request_type: u8, start: u16, allocation: u16) -> Decision
     ensures { decided disc result ≡ get_configuration disc request_type start allocation }
 {
-    if request_type == 3 {
+    if request_type == protocol::FOURTH_REQUEST_TYPE {
         return Decision::refused(DriveRefusal::InvalidFieldInCommand);
     }
     Decision::unchanged(Reply::of_configuration(request_type, start, usize::from(allocation)))

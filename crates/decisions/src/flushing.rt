@@ -21,28 +21,29 @@ impl Flushing {
     pub fn none() -> Flushing
         ensures { result ≡ no_flushing }
     {
-        let entry = Entry::none();
         Flushing {
-            entry,
+            entry: Entry::none(),
             plan: None,
             recorded: 0,
         }
     }
 
     // After the flush the last record is closed, and a tail may begin after it: what CLOSE of the session and of the disc are decided to.
+    #[tactic(auto, unfolding(crate::specs::Flushing::closing_last))]
     pub fn closing(self, last: Entry, tail: Entry, finalized: bool) -> Decision
         ensures { result ≡ closing_last self last tail finalized }
     {
-        let flush = self.plan;
-        let plan = Plan::new(flush, Transfer::Nothing);
-        let flushed = self.entry;
-        let closed = Entry::tail_closed(last);
         let effect = Effect::Close {
-            flushed,
-            closed,
+            flushed: self.entry,
+            closed: Entry::tail_closed(last),
             tail,
             finalized,
         };
-        Decision::accepted(effect, self.recorded, Reply::none(), plan)
+        Decision::accepted(
+            effect,
+            self.recorded,
+            Reply::none(),
+            Plan::new(self.plan, Transfer::Nothing),
+        )
     }
 }

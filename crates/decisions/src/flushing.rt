@@ -8,7 +8,8 @@ use crate::plan::{Flush, Plan, Transfer};
 use fragments::Entry;
 use protocol::Reply;
 
-// The record that a flush leaves, what it does to the bytes, and how many blocks it records.
+// The record that a flush leaves, what it does to the bytes, and how many blocks it records. Each field says whether there is a flush, and it
+// is no Option of all three: `flushing`, `closing_last` and the theorem `closings` (examples) name them.
 #[derive(Clone, Copy)]
 pub struct Flushing {
     pub entry: Entry,

@@ -60,7 +60,7 @@ fn halves(n: usize) -> [u8; 2]
     [low, high]
 }
 
-// Its low four bytes, the highest first.
+// Its low four bytes, the highest first. `number_bytes` of contents is the same: for one line a crate below both would have to make it public.
 fn word(n: u64) -> [u8; 4]
     ensures { result ≡ bytes32 n }
 {

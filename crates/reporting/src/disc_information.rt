@@ -87,7 +87,8 @@ fn disc_report(disc: Disc) -> DiscReport
     }
 }
 
-// READ DISC INFORMATION (51h): data type 0 alone is served.
+// READ DISC INFORMATION (51h): data type 0 alone is served. A Decision and no Result: the function is public, and its promise
+// `decided disc result` is of a decision, refused or not.
 #[tactic(auto, using(disc::proofs::Laws::Apply::verdicts), unfolding(crate::specs::Reports::read_disc_information))]
 pub fn read_disc_information(disc: Disc, data_type: u8, allocation: u16) -> Decision
     ensures { decided disc result ≡ read_disc_information disc data_type allocation }

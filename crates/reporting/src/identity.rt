@@ -7,7 +7,8 @@ use decisions::Decision;
 use disc::Disc;
 use protocol::{DriveRefusal, Reply};
 
-// INQUIRY (12h): the standard data; no page is served.
+// INQUIRY (12h): the standard data; no page is served. A Decision and no Result, here and below: the functions are public, and their
+// promise `decided disc result` is of a decision, refused or not.
 #[tactic(auto, using(disc::proofs::Laws::Apply::verdicts), unfolding(crate::specs::Identity::inquiry))]
 pub fn inquiry(disc: Disc, page_bit: u8, allocation: u16) -> Decision
     ensures { decided disc result ≡ inquiry disc page_bit allocation }

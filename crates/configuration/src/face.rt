@@ -19,7 +19,8 @@ fn write(words: &mut [u32; WORDS], reading: Reading)
 }
 
 // Reads a reply into twelve words: 0. It is 1 where the reply is no uncut one of the drive, and 2 where there are not twelve words; then
-// the words stay. Numbers and a slice: C calls it.
+// the words stay. Numbers and a slice: C calls it. It stands in configuration_c too, which exports it for C under this name: a static library
+// cannot be a dependency.
 pub fn gladhamre_configuration(reply: &[u8], words: &mut [u32]) -> u32
     ensures { Faced reply.now words.old result words.new }
 {

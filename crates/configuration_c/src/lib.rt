@@ -1,5 +1,6 @@
 // The C face of the reader of GET CONFIGURATION's replies: the export that a host in C or Rust links, which calls the reader and repeats
-// its promise. include/gladhamre_configuration.h declares it. It is total.
+// its promise. include/gladhamre_configuration.h declares it. It is total. A function of its own, for C under this name: a static library
+// cannot be a dependency, and others stand on configuration.
 #![tactic(auto)]
 
 ghost use Rattle.configuration.specs.Face.{Faced};

@@ -20,14 +20,16 @@ pub struct Decision {
 
 impl Decision {
     // Accepted: the sense is cleared, and so many blocks are recorded.
+    #[tactic(auto, unfolding(crate::specs::Decision::accepting))]
     pub fn accepted(effect: Effect, recorded: u32, reply: Reply, plan: Plan) -> Decision
         ensures { result ≡ accepting effect recorded reply plan }
     {
-        let sense = Sense::none();
-        let change = Change { sense, effect };
         Decision {
             answer: Answer::Accepted,
-            change,
+            change: Change {
+                sense: Sense::none(),
+                effect,
+            },
             reply,
             recorded,
             plan,
@@ -45,22 +47,20 @@ impl Decision {
     fn declined(answer: Answer, sense: Sense) -> Decision
         ensures { result ≡ declining answer sense }
     {
-        let change = Change {
-            sense,
-            effect: Effect::Keep,
-        };
-        let reply = Reply::none();
-        let plan = Plan::none();
         Decision {
             answer,
-            change,
-            reply,
+            change: Change {
+                sense,
+                effect: Effect::Keep,
+            },
+            reply: Reply::none(),
             recorded: 0,
-            plan,
+            plan: Plan::none(),
         }
     }
 
     // Refused by the drive: only the sense changes.
+    #[tactic(auto, unfolding(crate::specs::Decision::refusing))]
     pub fn refused(refusal: DriveRefusal) -> Decision
         ensures { result ≡ refusing refusal }
     {
@@ -68,6 +68,7 @@ impl Decision {
     }
 
     // Refused on the link: nothing changes, the sense included.
+    #[tactic(auto, unfolding(crate::specs::Decision::refusing_link))]
     pub fn refused_link(sense: Sense, refusal: LinkRefusal) -> Decision
         ensures { result ≡ refusing_link sense refusal }
     {

@@ -8,7 +8,8 @@ use crate::plan::{Flush, Plan, Transfer};
 use fragments::Entry;
 use protocol::Reply;
 
-// The record that a flush leaves, what it does to the bytes, and how many blocks it records.
+// The record that a flush leaves, what it does to the bytes, and how many blocks it records. Each field says whether there is a flush, and it
+// is no Option of all three: `flushing`, `closing_last` and the theorem `closings` (examples) name them.
 #[derive(Clone, Copy)]
 pub struct Flushing {
     pub entry: Entry,
@@ -21,28 +22,29 @@ impl Flushing {
     pub fn none() -> Flushing
         ensures { result ≡ no_flushing }
     {
-        let entry = Entry::none();
         Flushing {
-            entry,
+            entry: Entry::none(),
             plan: None,
             recorded: 0,
         }
     }
 
     // After the flush the last record is closed, and a tail may begin after it: what CLOSE of the session and of the disc are decided to.
+    #[tactic(auto, unfolding(crate::specs::Flushing::closing_last))]
     pub fn closing(self, last: Entry, tail: Entry, finalized: bool) -> Decision
         ensures { result ≡ closing_last self last tail finalized }
     {
-        let flush = self.plan;
-        let plan = Plan::new(flush, Transfer::Nothing);
-        let flushed = self.entry;
-        let closed = Entry::tail_closed(last);
         let effect = Effect::Close {
-            flushed,
-            closed,
+            flushed: self.entry,
+            closed: Entry::tail_closed(last),
             tail,
             finalized,
         };
-        Decision::accepted(effect, self.recorded, Reply::none(), plan)
+        Decision::accepted(
+            effect,
+            self.recorded,
+            Reply::none(),
+            Plan::new(self.plan, Transfer::Nothing),
+        )
     }
 }

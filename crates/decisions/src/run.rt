@@ -9,7 +9,7 @@ fn stretch_within<'a>(first: u64, sectors: u32, bytes: &'a [u8]) -> &'a [u8]
     ensures { result.now ≡ stretch_within first sectors bytes.now }
 {
     let end = (bytes.len() / protocol::SECTOR_LENGTH) as u64;
-    if first > end || end - first < sectors as u64 {
+    if first > end || end - first < u64::from(sectors) {
         return &[];
     }
     let from = protocol::SECTOR_LENGTH * (first as usize);
@@ -41,7 +41,11 @@ impl Transfer {
         ensures { result.now ≡ pending_within self buffer.now }
     {
         match self {
-            Transfer::Send { place, pending, .. } => stretch_within(place as u64, pending, buffer),
+            Transfer::Send { place, pending, .. } => stretch_within(
+                u64::from(place),
+                pending,
+                buffer,
+            ),
             _ => &[],
         }
     }

@@ -14,7 +14,8 @@ pub const ONE_FEATURE: u8 = 2;
 // How many features there are.
 pub const COUNT: usize = 10;
 
-// A feature: its number, its version, and the length of its feature dependent data with those, as two numbers of four bytes.
+// A feature: its number, its version, and the length of its feature dependent data with those, as two numbers of four bytes. No slice:
+// `feature` and `whole_descriptor` name the fields.
 #[derive(Clone, Copy)]
 pub struct Feature {
     pub number: u16,

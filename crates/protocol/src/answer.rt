@@ -69,6 +69,7 @@ pub enum DriveRefusal {
     EndOfUserArea,
 }
 
+// An enum, as document 01 binds it: a definition (`number`) gives its cases their numbers, and `Judged`, `Answered` and `Faced` name them.
 #[derive(Clone, Copy, PartialEq, Eq, Debug)]
 pub enum Answer {
     Accepted,
@@ -119,7 +120,8 @@ impl DriveRefusal {
 }
 
 impl Answer {
-    // Its number: 0 for accepted, 1 to 4 for L1 to L4, key, ASC and ASCQ in a row for a drive refusal.
+    // Its number: 0 for accepted, 1 to 4 for L1 to L4, key, ASC and ASCQ in a row for a drive refusal. A method and no `From`: PROMISES.md
+    // names it.
     pub fn number(self) -> u32
         ensures { result ≡ number self }
     {

@@ -58,7 +58,8 @@ fn byte_at(cdb: &[u8], at: usize) -> u8
     cdb.get(at).copied().unwrap_or(0)
 }
 
-// Two bytes from a place on, the highest first.
+// Two bytes from a place on, the highest first. No twin of `word32`: its library function and the size that this takes differ, and a
+// const parameter would stand for these two calls.
 fn word16(cdb: &[u8], at: usize) -> u16
     requires { at ≤ 12 }
     ensures { result ≡ word16 cdb.now at }
@@ -97,12 +98,12 @@ impl Command {
             },
             0x25 => Command::ReadCapacity,
             0x28 => Command::Read {
-                address: Lba(word32(cdb, 2) as u64),
-                length: word16(cdb, 7) as u32,
+                address: Lba(u64::from(word32(cdb, 2))),
+                length: u32::from(word16(cdb, 7)),
             },
             0x2A => Command::Write {
-                address: Lba(word32(cdb, 2) as u64),
-                length: word16(cdb, 7) as u32,
+                address: Lba(u64::from(word32(cdb, 2))),
+                length: u32::from(word16(cdb, 7)),
             },
             0x35 => Command::SynchronizeCache,
             0x46 => Command::GetConfiguration {
@@ -127,11 +128,11 @@ impl Command {
                 allocation: word16(cdb, 7),
             },
             0xA8 => Command::Read {
-                address: Lba(word32(cdb, 2) as u64),
+                address: Lba(u64::from(word32(cdb, 2))),
                 length: word32(cdb, 6),
             },
             0xAA => Command::Write {
-                address: Lba(word32(cdb, 2) as u64),
+                address: Lba(u64::from(word32(cdb, 2))),
                 length: word32(cdb, 6),
             },
             _ => Command::Unlisted,

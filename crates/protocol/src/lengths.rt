@@ -23,8 +23,8 @@ pub(crate) const DISC_INFORMATION_LENGTH: usize = 34;
 
 pub(crate) const TRACK_INFORMATION_LENGTH: usize = 36;
 
-// The fourth request type of GET CONFIGURATION, which the drive refuses.
-const FOURTH_REQUEST_TYPE: u8 = 3;
+// The fourth request type of GET CONFIGURATION, which the drive refuses: a number and no enum, `decode` gives every number.
+pub const FOURTH_REQUEST_TYPE: u8 = 3;
 
 // The room for INQUIRY's report: none where the page bit has it refused.
 #[tactic(auto, unfolding(crate::specs::Lengths::inquiry_room))]
@@ -68,23 +68,23 @@ impl Command {
         ensures { result ≡ reply_room self }
     {
         match self {
-            Command::RequestSense { allocation } => SENSE_LENGTH.min(allocation as usize),
+            Command::RequestSense { allocation } => SENSE_LENGTH.min(usize::from(allocation)),
             Command::Inquiry {
                 page_bit,
                 allocation,
-            } => inquiry_room(page_bit, allocation as usize),
+            } => inquiry_room(page_bit, usize::from(allocation)),
             Command::ReadCapacity => CAPACITY_LENGTH,
             Command::Read { length, .. } => SECTOR_LENGTH * (length as usize),
             Command::GetConfiguration {
                 request_type,
                 start,
                 allocation,
-            } => configuration_room(request_type, start, allocation as usize),
+            } => configuration_room(request_type, start, usize::from(allocation)),
             Command::ReadDiscInformation { allocation, .. } => {
-                DISC_INFORMATION_LENGTH.min(allocation as usize)
+                DISC_INFORMATION_LENGTH.min(usize::from(allocation))
             }
             Command::ReadTrackInformation { allocation, .. } => {
-                TRACK_INFORMATION_LENGTH.min(allocation as usize)
+                TRACK_INFORMATION_LENGTH.min(usize::from(allocation))
             }
             _ => 0,
         }

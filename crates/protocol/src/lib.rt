@@ -11,6 +11,6 @@ mod reports;
 
 pub use answer::{Answer, DriveRefusal, LinkRefusal, Sense};
 pub use command::Command;
-pub use lengths::{BLOCK_LENGTH, CDB_LENGTH, SECTOR_LENGTH};
+pub use lengths::{BLOCK_LENGTH, CDB_LENGTH, FOURTH_REQUEST_TYPE, SECTOR_LENGTH};
 pub use reply::{Content, Reply};
 pub use reports::{DiscReport, TrackReport};

@@ -1,6 +1,6 @@
 // The replies of the commands that report: REQUEST SENSE (03h), READ CAPACITY (25h), READ DISC INFORMATION (51h) and READ TRACK
 // INFORMATION (52h). Each is built here alone, from named fields.
-ghost use Rattle.std.specs.Prelude.{◌≡◌};
+ghost use Rattle.std.specs.Prelude.{◌≡◌, ◌∷◌, []};
 ghost use Rattle.protocol.specs.Lengths.{capacity_length};
 ghost use Rattle.protocol.specs.Reply.{report};
 ghost use Rattle.protocol.specs.Reports.{low, high, bytes32, when, flags_of, valid_of, sense_bytes, capacity_bytes, disc_bytes, track_bytes};
@@ -53,19 +53,14 @@ fn when(test: bool, n: u8) -> u8
 }
 
 // A number's low byte, and the one above it.
-fn low(n: usize) -> u8
-    ensures { result ≡ low n }
+fn halves(n: usize) -> [u8; 2]
+    ensures { result ≡ (low n ∷ high n ∷ []) }
 {
-    n.to_le_bytes()[0]
+    let [low, high, ..] = n.to_le_bytes();
+    [low, high]
 }
 
-fn high(n: usize) -> u8
-    ensures { result ≡ high n }
-{
-    n.to_le_bytes()[1]
-}
-
-// Its low four bytes, the highest first.
+// Its low four bytes, the highest first. `number_bytes` of contents is the same: for one line a crate below both would have to make it public.
 fn word(n: u64) -> [u8; 4]
     ensures { result ≡ bytes32 n }
 {
@@ -91,12 +86,14 @@ impl TrackReport {
     fn bytes(self) -> [u8; lengths::TRACK_INFORMATION_LENGTH]
         ensures { result ≡ track_bytes self }
     {
+        let [number_low, number_high] = halves(self.number);
+        let [session_low, session_high] = halves(self.session);
         let mut bytes = [0u8; lengths::TRACK_INFORMATION_LENGTH];
         bytes[..8].copy_from_slice(&[
             0x00,
             TRACK_INFORMATION_REST,
-            low(self.number),
-            low(self.session),
+            number_low,
+            session_low,
             0,
             0x04,
             self.flags(),
@@ -108,8 +105,8 @@ impl TrackReport {
         bytes[20..24].copy_from_slice(&word(fragments::sectors_in(1)));
         bytes[24..28].copy_from_slice(&word(self.size));
         bytes[28..32].copy_from_slice(&word(self.last.0));
-        bytes[32] = high(self.number);
-        bytes[33] = high(self.session);
+        bytes[32] = number_high;
+        bytes[33] = session_high;
         bytes
     }
 }
@@ -119,20 +116,23 @@ impl DiscReport {
     fn bytes(self) -> [u8; lengths::DISC_INFORMATION_LENGTH]
         ensures { result ≡ disc_bytes self }
     {
+        let [sessions_low, sessions_high] = halves(self.sessions);
+        let [first_low, first_high] = halves(self.first);
+        let [last_low, last_high] = halves(self.last);
         let mut bytes = [0u8; lengths::DISC_INFORMATION_LENGTH];
         bytes[..12].copy_from_slice(&[
             0x00,
             DISC_INFORMATION_REST,
             self.states,
             1,
-            low(self.sessions),
-            low(self.first),
-            low(self.last),
+            sessions_low,
+            first_low,
+            last_low,
             0,
             0,
-            high(self.sessions),
-            high(self.first),
-            high(self.last),
+            sessions_high,
+            first_high,
+            last_high,
         ]);
         bytes
     }

@@ -81,18 +81,20 @@ fn disc_report(disc: Disc) -> DiscReport
     let status = DiscStatus::of(disc.finalized, only & (session == 1));
     DiscReport {
         states: 4 * u8::from(state) + u8::from(status),
-        sessions: session as usize,
+        sessions: usize::from(session),
         first: disc.first_of_session(session),
         last: last.number,
     }
 }
 
-// READ DISC INFORMATION (51h): data type 0 alone is served.
+// READ DISC INFORMATION (51h): data type 0 alone is served. A Decision and no Result: the function is public, and its promise
+// `decided disc result` is of a decision, refused or not.
+#[tactic(auto, using(disc::proofs::Laws::Apply::verdicts), unfolding(crate::specs::Reports::read_disc_information))]
 pub fn read_disc_information(disc: Disc, data_type: u8, allocation: u16) -> Decision
     ensures { decided disc result ≡ read_disc_information disc data_type allocation }
 {
     if data_type == 0 {
-        let reply = Reply::of_disc(disc_report(disc), allocation as usize);
+        let reply = Reply::of_disc(disc_report(disc), usize::from(allocation));
         return Decision::unchanged(reply);
     }
     Decision::refused(DriveRefusal::InvalidFieldInCommand)

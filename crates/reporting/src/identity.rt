@@ -7,7 +7,8 @@ use decisions::Decision;
 use disc::Disc;
 use protocol::{DriveRefusal, Reply};
 
-// INQUIRY (12h): the standard data; no page is served.
+// INQUIRY (12h): the standard data; no page is served. A Decision and no Result, here and below: the functions are public, and their
+// promise `decided disc result` is of a decision, refused or not.
 #[tactic(auto, using(disc::proofs::Laws::Apply::verdicts), unfolding(crate::specs::Identity::inquiry))]
 pub fn inquiry(disc: Disc, page_bit: u8, allocation: u16) -> Decision
     ensures { decided disc result ≡ inquiry disc page_bit allocation }
@@ -23,7 +24,7 @@ pub fn inquiry(disc: Disc, page_bit: u8, allocation: u16) -> Decision
 pub fn get_configuration(disc: Disc, request_type: u8, start: u16, allocation: u16) -> Decision
     ensures { decided disc result ≡ get_configuration disc request_type start allocation }
 {
-    if request_type == 3 {
+    if request_type == protocol::FOURTH_REQUEST_TYPE {
         return Decision::refused(DriveRefusal::InvalidFieldInCommand);
     }
     Decision::unchanged(Reply::of_configuration(request_type, start, usize::from(allocation)))

@@ -9,7 +9,7 @@ use disc::Disc;
 use fragments::{Entry, Lba};
 use protocol::{DriveRefusal, Reply, TrackReport};
 
-// The number that stands for the tail.
+// The number that stands for the tail: the command's own (document 02), which `track_numbered` compares.
 const TAIL: usize = 0xFF;
 
 // A fragment of a disc. Its record is looked up once: each look-up costs a copy of the records.
@@ -83,7 +83,8 @@ fn track_decision(disc: &Disc, number: usize, allocation: u16) -> Decision
     Track { disc, entry }.decision(allocation)
 }
 
-// The report of the fragment that a search has found.
+// The report of the fragment that a search has found. A Decision and no Result, here and below: the functions are public, and their promise
+// `decided disc result` is of a decision, refused or not.
 #[tactic(auto, using(disc::proofs::Laws::Apply::verdicts), unfolding(crate::specs::Reports::track_found))]
 pub fn track_found(disc: Disc, found: Option<usize>, allocation: u16) -> Decision
     ensures { decided disc result ≡ track_found disc allocation found }

@@ -1,18 +1,19 @@
 -- Bytes compared, and what is read of the replies that are possible.
-use Prim.Native.Nat.{ℕ, ◌≤◌}
+use Prim.Native.Nat.{ℕ, ◌+◌, ◌≤◌, ◌<◌}
 use mathlib.Core.Path.{◌≡◌, refl, sym, ap, ◌∙◌, subst}
 use mathlib.Core.Bool.{Bool, true, false, cond, not, ◌&&◌, false≢true}
 use mathlib.Core.List.{List, [], ◌∷◌, ◌++◌}
 use mathlib.Core.Logic.{◌⊎◌, inl, inr, ⊎_elim}
 use native.Mathlib.Omega.{arith}
-use lib.ListN.{length, take}
-use lib.Seq.{take-length}
+use native.Mathlib.Numerals.{add-one}
+use lib.ListN.{length, take, drop, get_or, drop_of_length-le}
+use lib.Seq.{drop-cons, take-length}
 use native.Mathlib.Nat.{le_refl}
 use lib.Dec.{eqb, leb}
 use Rattle.std.specs.Prelude.{Option, Some, None}
 use Rattle.std.specs.Cmp.Lexicographic.{pointwise}
 use Rattle.std.proofs.lemmas.Slice.Eq.{IsBytesEq, compares_Decides}
-use borrow.Author.Tests.{eqb-true, leb-true}
+use borrow.Author.Tests.{eq-eqb, ne_eqb, eqb-true, leb-true}
 use Rattle.features.specs.Feature.{features, descriptors, asked, selected, Above, Rising}
 use Rattle.features.specs.declared.listing.Listing.{Listing}
 use Rattle.features.specs.Configuration.{configuration_of, configuration_bytes, listing}
@@ -184,6 +185,22 @@ read-all x f =
     by_cases (same_bytes x (configuration_bytes 0 (first_feature x)))
     (λ t. rw t (sym (read_answer x 0 (first_feature x) t)))
     (λ t. rw t (sym (read-neither x f t)))
+
+-- the comparison from byte to byte: no user, a law by itself
+module _ (x y : List ℕ) (i : ℕ) (size : length x ≡ length y) where
+  split : i < length x → same_bytes (drop i x) (drop i y) ≡ (eqb (get_or x i 0) (get_or y i 0) && same_bytes (drop (i + 1) x) (drop (i + 1) y))
+  unfolding same_bytes
+  split h = rw (add-one, drop-cons x i 0 h, drop-cons y i 0 (omega (arith, size)))
+
+  pub same-on : i < length x → get_or x i 0 ≡ get_or y i 0 → same_bytes (drop i x) (drop i y) ≡ same_bytes (drop (i + 1) x) (drop (i + 1) y)
+  same-on h e = split h ∙ rw (eq-eqb (get_or x i 0) (get_or y i 0) e)
+
+  pub same-off : i < length x → (get_or x i 0 ≡ get_or y i 0 → ⊥) → same_bytes (drop i x) (drop i y) ≡ false
+  same-off h e = split h ∙ rw (ne_eqb (get_or x i 0) (get_or y i 0) e)
+
+  pub same_end : length x ≤ i → same_bytes (drop i x) (drop i y) ≡ true
+  unfolding same_bytes
+  same_end h = rw (drop_of_length-le x {i = i} h, drop_of_length-le y {i = i} (omega (arith, size)))
 
 -- a listing's slice is the reply, so that `!=` says whether bytes differ from that
 listing_bytes : (x : List ℕ) (l : Listing) → l ≡ listing x → take l.length l.bytes ≡ x

@@ -1,0 +1,2 @@
+-- One file a topic, named as in specs/.
+pub mod Run

@@ -1,6 +1,0 @@
-use Rattle.decisions.specs.Decision.{accepting}
-use Rattle.decisions.proofs.decision.Decision.accepted.Goals as goal
-
-pub returns : goal.returns
-unfolding accepting
-returns c = rw c.none-sense.ensures

@@ -1,6 +1,5 @@
 // The reply's bytes, copied to the beginning of the lent reply buffer; the bytes past them stay.
-ghost use Rattle.std.specs.Prelude.{◌≡◌, ◌++◌, ◌≤◌, length, take};
-ghost use Rattle.features.specs.Configuration.{configuration_bytes};
+ghost use Rattle.std.specs.Prelude.{◌≡◌, ◌++◌, ◌≤◌, length};
 ghost use Rattle.protocol.specs.Reply.{said, reply_bytes};
 ghost use Rattle.decisions.specs.Run.{sent_within, pending_within};
 ghost use Rattle.drive.specs.Bytes.{splice};
@@ -10,25 +9,7 @@ use crate::bytes;
 use decisions::Transfer;
 use protocol::{Content, Reply};
 
-// The first bytes that a reply holds itself.
-fn send_own(bytes: [u8; Reply::LIMIT], sent: usize, reply: &mut [u8])
-    requires { (sent ≤ length bytes) × (sent ≤ length reply.old) }
-    ensures { reply.new ≡ splice reply.old 0 (take sent bytes) }
-{
-    bytes::put(reply, 0, &bytes[0..sent]);
-}
-
-// The first bytes of what GET CONFIGURATION says, which are made only here.
-fn send_configuration(request_type: u8, start: u16, sent: usize, reply: &mut [u8])
-    requires { (sent ≤ length (configuration_bytes request_type start)) × (sent ≤ length reply.old) }
-    ensures { reply.new ≡ splice reply.old 0 (take sent (configuration_bytes request_type start)) }
-{
-    let listing = features::configuration(request_type, start);
-    let bytes = listing.bytes;
-    bytes::put(reply, 0, &bytes[0..sent]);
-}
-
-// A report, cut to its length.
+// A report, cut to its length. What GET CONFIGURATION says is made only here.
 #[tactic(auto, unfolding(protocol::specs::Reply::said, protocol::specs::Reply::reply_bytes))]
 fn send_report(report: Reply, reply: &mut [u8]) -> usize
     requires { (report.length ≤ length (said report.content)) × (report.length ≤ length reply.old) }
@@ -37,11 +18,14 @@ fn send_report(report: Reply, reply: &mut [u8]) -> usize
 {
     let sent = report.length;
     match report.content {
-        Content::Own(bytes) => send_own(bytes, sent, reply),
+        Content::Own(said) => bytes::put(reply, 0, &said[..sent]),
         Content::Configuration {
             request_type,
             start,
-        } => send_configuration(request_type, start, sent, reply),
+        } => {
+            let said = features::configuration(request_type, start).bytes;
+            bytes::put(reply, 0, &said[..sent]);
+        }
     }
     sent
 }

@@ -93,7 +93,7 @@ fn ask_unsound(rt: &impl Print, disc: Disc) -> io::Result<()> {
         ..disc
     };
     let answer = decide(unsound, 0x00, 0, 0);
-    print(rt, "state with pending", TOO_MANY as usize, answer)
+    print(rt, "state with pending", usize::from(TOO_MANY), answer)
 }
 
 fn main(rt: HostRuntime) -> io::Result<()> {

@@ -2,9 +2,9 @@
 use mathlib.Core.Path.{◌≡◌, refl, sym, ap, ◌∙◌}
 use Prim.Native.Nat.{ℕ, ◌+◌, ◌-◌, ◌*◌, ◌≤◌, ◌<◌}
 use native.Mathlib.Omega.{arith}
-use borrow.Rule.Slice.PartMut.{put_mid}
+use borrow.Rule.Slice.PartMut.{put_mid, mid_of}
 use mathlib.Core.List.{List, [], ◌++◌, append-nil}
-use lib.ListN.{length, take, drop, length-append, length-drop, length-replicate, replicate-append-replicate}
+use lib.ListN.{length, take, drop, length-append, length-take, length-drop, drop_of_length-le, length-replicate, replicate-append-replicate}
 use lib.Seq.{paste, take_at, take-take, take-append-le, drop-drop, drop-append-le, drop-append-add}
 use Rattle.std.proofs.lemmas.List.{drop-take}
 use Rattle.std.proofs.lemmas.List.Edits.{paste_all, paste-paste}
@@ -78,6 +78,15 @@ pub padded-put :
 unfolding padded zeros splice
 padded-put m x p q a size room e f = grind (arith, common_steps)
 
+-- a block from what stands in two places
+pub padded_parts :
+    (m x y p p₁ q : List ℕ) → length m ≡ 32768 → length x + length y ≤ 32768 → p ≡ splice m 0 x → p₁ ≡ splice p (length x) y
+    → q ≡ take (length x + length y) p₁ ++ zeros (length p₁ - (length x + length y)) → q ≡ padded (x ++ y)
+padded_parts m x y p p₁ q hm h e d f =
+    let both : p₁ ≡ splice m 0 (x ++ y) = d ∙ (ap (λ (l : List ℕ). splice l (length x) y) e ∙ splice-splice m 0 (length x) x y (omega arith) (omega arith)) in
+    let l : length x + length y ≡ 0 + length (x ++ y) = omega (arith, length-append x y) in
+    padded-put m (x ++ y) p₁ q 0 hm (omega (arith, l)) both (rw l at f)
+
 -- a part of a run is a part of the whole
 pub run_in_run :
     (l : List ℕ) (a w b v : ℕ) → b + v ≤ w → a + b ≤ length l → take v (drop b (take w (drop a l))) ≡ take v (drop (a + b) l)
@@ -103,3 +112,11 @@ pub sector-after : (l x : List ℕ) (c i : ℕ) → length l ≡ 2048 * c → ta
 sector-after l x c i size =
     let place : 2048 * (c + i) ≡ length l + 2048 * i = omega (arith, size) in
     ap (λ (n : ℕ). take 2048 (drop n (l ++ x))) place ∙ ap (take 2048) (drop-append-add l x (2048 * i))
+
+-- the end of a slice lent to be cleared
+pub clear_end :
+    (p z : List ℕ) (a : ℕ) → a ≤ length p → z ≡ zeros (length (mid_of a (length p - a) p))
+    → put_mid a (length p - a) p z ≡ take a p ++ zeros (length p - a)
+clear_end p z a h e =
+    let n : length (mid_of a (length p - a) p) ≡ length p - a = simp (length-take, length-drop) (omega arith) in
+    rw (e, n, drop-drop, drop_of_length-le p {i = a + (length p - a)} (omega arith), append-nil)

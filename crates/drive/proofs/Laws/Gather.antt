@@ -1,14 +1,15 @@
 -- A WRITE's sectors: too few to complete the block, or those that complete it, whole blocks and a rest.
-use mathlib.Core.Path.{◌≡◌, sym, ap, ◌∙◌}
+use mathlib.Core.Path.{◌≡◌, refl, sym, ap, ◌∙◌}
 use Prim.Native.Nat.{ℕ, ◌+◌, ◌-◌, ◌*◌, ◌/◌, ◌%◌, ◌≤◌, ◌<◌}
 use native.Mathlib.Omega.{arith}
 use mathlib.Core.List.{List, [], ◌++◌, append-nil}
 use lib.ListN.{length, take, drop, length-append, length-drop}
-use lib.Seq.{take-add, take_at, drop_at, drop-drop, take-append-add, drop-append-add, length-take-le}
+use lib.Seq.{take-add, take_at, take_all, drop_at, drop-drop, take-append-add, drop-append-add, length-take-le}
 use Rattle.std.proofs.lemmas.Grind.{common_steps}
 use Rattle.drive.specs.Bytes.{zeros, splice, padded}
 use Rattle.drive.specs.Moves.{stream, gathered_medium, gathered_pending}
 use Rattle.drive.proofs.Laws.Bytes.{splice_nil, splice-splice, padded-whole, padded-put}
+use Rattle.drive.proofs.Laws.Moves.{length_rest, take-gathered-pending, cut-medium, cut-pending, stale_medium_lem, stale_pending_lem}
 
 -- whole blocks of x, recorded from block b on: one more after k of them, where c is the next one and the rest of x is left
 pub whole-more :
@@ -84,3 +85,75 @@ module _
         f
         ∙ ap padded
         (append-nil left ∙ (e ∙ rw (r, whole-blocks, parts) (sym (drop-append-add block z (32768 * (length z / 32768))))))
+
+-- i of the sectors x are gathered: what is recorded, and which sectors are pending (the bytes past them are free)
+pub record Gathered (b held i : ℕ) (m p x medium pending : List ℕ) : Type 0 where
+  pub recorded : medium ≡ gathered_medium b held i m p (take (2048 * i) x)
+  pub rest : take (2048 * ((held + i) % 16)) pending ≡ take (2048 * ((held + i) % 16)) (gathered_pending held i p (take (2048 * i) x))
+
+pub gathered_none : (b held : ℕ) (m p x : List ℕ) → 2048 * held ≤ length p → held < 16 → Gathered b held 0 m p x m p
+unfolding gathered_medium stream
+gathered_none b held m p x hp h =
+    let e : 32768 * ((held + 0) / 16) ≡ 0 = omega arith in
+    let f : 2048 * ((held + 0) % 16) ≡ 2048 * held = omega arith in
+    let same : take (2048 * ((held + 0) % 16)) p ≡ drop (32768 * ((held + 0) / 16)) (stream held p []) =
+    rw (e, f) (sym (append-nil (take (2048 * held) p))) in
+    record { recorded = rw e (sym (splice_nil m (32768 * b))); rest = same ∙ sym (take-gathered-pending held 0 p [] hp refl) }
+
+module _
+    (b held i k n : ℕ) (m p x medium pending : List ℕ) (hp : 2048 * held ≤ length p) (hx : length x ≡ 2048 * n) (hi : i + k ≤ n)
+    (hm : 32768 * b ≤ length m) (g : Gathered b held i m p x medium pending)
+  where
+    -- the next k sectors
+    abbrev next : List ℕ
+    next = take (2048 * k) (drop (2048 * i) x)
+
+    length_before : length (take (2048 * i) x) ≡ 2048 * i
+    length_before = length-take-le (2048 * i) x (omega arith)
+
+    length-next : length next ≡ 2048 * k
+    length-next = length-take-le (2048 * k) (drop (2048 * i) x) (omega (arith, length-drop (2048 * i) x))
+
+    joined : take (2048 * i) x ++ next ≡ take (2048 * (i + k)) x
+    joined = let j : 2048 * (i + k) ≡ 2048 * i + 2048 * k = omega arith in rw (j, take-add)
+
+    -- what they add, by the cut law, where z is the part of the data that is lent; of the pending bytes those of the pending sectors count
+    pub gathered-more :
+        (medium₁ pending₁ z : List ℕ) → z ≡ take (length x - 2048 * i) (drop (2048 * i) x)
+        → medium₁ ≡ gathered_medium (b + (held + i) / 16) ((held + i) % 16) k medium pending (take (2048 * k) z)
+        → take (2048 * (((held + i) % 16 + k) % 16)) pending₁
+        ≡ take (2048 * (((held + i) % 16 + k) % 16)) (gathered_pending ((held + i) % 16) k pending (take (2048 * k) z))
+        → Gathered b held (i + k) m p x medium₁ pending₁
+    gathered-more medium₁ pending₁ z l e f =
+        let w = gathered_pending held i p (take (2048 * i) x) in
+        let q = (held + i) % 16 in
+        let here : z ≡ drop (2048 * i) x = l ∙ take_all (length x - 2048 * i) (drop (2048 * i) x) (omega (arith, length-drop (2048 * i) x)) in
+        let same : 2048 * ((held + (i + k)) % 16) ≡ 2048 * ((q + k) % 16) = omega arith in
+        record {
+          recorded =
+              (rw here at e)
+              ∙ stale_medium_lem (b + (held + i) / 16) q k medium pending w next g.rest
+              ∙ rw g.recorded (cut-medium held i k p (take (2048 * i) x) next hp length_before length-next b m hm ∙ ap (gathered_medium b held (i + k) m p) joined);
+          rest =
+              rw same
+              ((rw here at f)
+              ∙ ap (take (2048 * ((q + k) % 16)))
+              (stale_pending_lem q k pending w next g.rest
+              ∙ cut-pending held i k p (take (2048 * i) x) next hp length_before length-next
+              ∙ ap (gathered_pending held (i + k) p) joined));
+        }
+
+-- all are gathered, and zeros stand after what is pending
+pub gathered_all :
+    (b held n : ℕ) (m p x medium pending : List ℕ) → 2048 * held ≤ length p → length x ≡ 2048 * n → length pending ≡ 32768
+    → Gathered b held n m p x medium pending
+    → (medium ≡ gathered_medium b held n m p x)
+    × (take (2048 * ((held + n) % 16)) pending ++ zeros (length pending - 2048 * ((held + n) % 16)) ≡ gathered_pending held n p x)
+unfolding gathered_pending padded
+gathered_all b held n m p x medium pending hp hx hq g =
+    let all : take (2048 * n) x ≡ x = take_all (2048 * n) x (omega arith) in
+    let r : take (2048 * ((held + n) % 16)) pending ≡ drop (32768 * ((held + n) / 16)) (stream held p x) =
+    (rw all at g.rest) ∙ take-gathered-pending held n p x hp hx in
+    let l : length pending - 2048 * ((held + n) % 16) ≡ 32768 - length (drop (32768 * ((held + n) / 16)) (stream held p x)) =
+    omega (arith, length_rest held n p x hp hx) in
+    (rw all at g.recorded, rw (r, l))

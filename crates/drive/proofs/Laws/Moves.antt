@@ -77,6 +77,12 @@ pub stale_stream :
 unfolding stream
 stale_stream held p q x e = ap (λ (l : List ℕ). l ++ x) e
 
+pub stale_medium_lem :
+    (b held n : ℕ) (medium p q x : List ℕ) → take (2048 * held) p ≡ take (2048 * held) q
+    → gathered_medium b held n medium p x ≡ gathered_medium b held n medium q x
+unfolding gathered_medium
+stale_medium_lem b held n medium p q x e = rw (stale_stream held p q x e)
+
 pub stale_pending_lem :
     (held n : ℕ) (p q x : List ℕ) → take (2048 * held) p ≡ take (2048 * held) q → gathered_pending held n p x ≡ gathered_pending held n q x
 unfolding gathered_pending

@@ -31,13 +31,9 @@ impl Entry {
     pub fn put(self, mut records: [Fragment; LIMIT]) -> [Fragment; LIMIT]
         ensures { result ≡ put self records }
     {
-        if self.number == 0 {
-            return records;
+        if (1..=LIMIT).contains(&self.number) {
+            records[self.number - 1] = self.fragment;
         }
-        if self.number > LIMIT {
-            return records;
-        }
-        records[self.number - 1] = self.fragment;
         records
     }
 

@@ -8,6 +8,7 @@ use disc::Disc;
 use protocol::{Answer, BLOCK_LENGTH, CDB_LENGTH, LinkRefusal, Sense};
 
 // The answer to a command: how it ended, the disc afterwards, the reply's length and the number of blocks recorded.
+// Two types, this one and the next: they differ in a field's name and meaning, `disc` and `change`. `length`: the C interface hands it out.
 #[derive(Clone, Copy)]
 pub struct Response {
     pub answer: Answer,

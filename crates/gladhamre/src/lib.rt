@@ -44,6 +44,7 @@ pub fn gladhamre_blank(capacity: u32, state: &mut [u32]) -> u32
 }
 
 // Serves one command on a state, whose words stay.
+// cdb, data, medium, pending and reply, here and in `answer`: the C function's parameters.
 fn serve(
     cdb: &[u8],
     data: &[u8],

@@ -10,7 +10,7 @@ use decisions::{Change, Effect};
 use disc::Disc;
 use fragments::Entry;
 
-// A record put under its number; under 0, or a number past the list, none is put.
+// A record put under its number; under 0, or a number past the list, none is put: both tests as `Entry::put` of `fragments` has them.
 fn put(words: &mut Image, entry: Entry)
     ensures { Turned words.old words.new (λ d. with_entry d entry) }
 {

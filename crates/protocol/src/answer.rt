@@ -69,7 +69,7 @@ pub enum DriveRefusal {
     EndOfUserArea,
 }
 
-// An enum, as document 01 binds it: a definition (`number`) gives its cases their numbers, and `Judged`, `Answered` and `Faced` name them.
+// An enum, as document 01 binds it: a definition (`number`) gives its cases their numbers, and `Judged`, `Answered` and `Faced` promise those.
 #[derive(Clone, Copy, PartialEq, Eq, Debug)]
 pub enum Answer {
     Accepted,

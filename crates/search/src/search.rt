@@ -47,8 +47,8 @@ pub fn halving(fragments: [Fragment; LIMIT], address: Lba) -> Sought
     let mut low: usize = 0;
     let mut high: usize = LIMIT;
     let mut looks: usize = 0;
-    // A count and no `for` over it: that is unrolled, and then a call takes 13,920 bytes of stack, as host/stack measures, in place of 10,624;
-    // the bar is GLADHAMRE_STACK_LENGTH of include/gladhamre.h, 11,264.
+    // A count and no `for` over it: that is unrolled, and then a call takes more stack than GLADHAMRE_STACK_LENGTH of include/gladhamre.h says;
+    // host/stack measures it.
     while looks < LOOKS && low < high {
         let index = low + (high - low) / 2;
         let f = fragments[index];

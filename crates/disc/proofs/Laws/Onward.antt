@@ -53,10 +53,7 @@ held_stays d e x k h = grind arith
 pub held_onward : (d e : Disc) (B : ℕ → Type 0) (x : ℕ) → Onward d e B → Held d x → Held e x
 held_onward d e B x o h = held_stays d e x o.stays h
 
--- on a disc with the same list, as one with another sense, the same is recorded
-held-list : (d e : Disc) (x : ℕ) → d.fragments ≡ e.fragments → Held d x → Held e x
-held-list d e x q h = grind arith
-
+-- a disc with the same list, as one with another sense
 pub list-onward : (d e k : Disc) (B : ℕ → Type 0) → e.fragments ≡ k.fragments → Onward d e B → Onward d k B
 list-onward d e k B q o = grind arith
 

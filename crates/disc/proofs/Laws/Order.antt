@@ -57,9 +57,6 @@ pub record Ordered (d : Disc) : Type 0 where
   pub none : d.pending ≡ 0 → d.owner ≡ 0
   pub owned : (d.pending ≡ 0 → ⊥) → Owned d
 
-pub sound_ordered : (d : Disc) → Sound d → Ordered d
-sound_ordered d s = grind arith
-
 -- the rules that are left: for a disc that is not finalized, and for one that is
 pub open_sound :
     (d : Disc) → Ordered d → d.finalized ≡ false → (has_tail d ≡ false → (used d ≡ limit) ⊎ (d.capacity ≤ (end (last_record d)).0 + 1)) → Sound d

@@ -11,7 +11,7 @@ use lib.ListN.{length, get_or, replicate}
 use Rattle.disc.specs.Types.{Lba, Fragment, Disc, Some, None}
 use Rattle.disc.specs.Blank.{blank}
 use Rattle.fragments.specs.Address.{lba, sectors_in, first_sector}
-use Rattle.fragments.specs.Fragment.{unused_record, end, complete, first_unrecorded, last_readable_of, holds_recorded, holds}
+use Rattle.fragments.specs.Fragment.{unused_record, end, first_unrecorded, last_readable_of, holds_recorded, holds}
 use Rattle.fragments.specs.List.{limit, pending_of, highest_readable}
 use Rattle.disc.specs.Records.{pending_in, next_writable, records, used, numbered, at_address, is_recorded, is_pending, is_readable, last_readable}
 use Rattle.disc.specs.Rules.{at, Sound}
@@ -102,9 +102,6 @@ module _ (d : Disc) (s : Sound d) where
   -- the record that the pending sectors belong to, by its index
   owner-index : (i : ℕ) → d.owner ≡ suc i → numbered d d.owner ≡ at d i
   owner-index i e = let k : d.owner - 1 ≡ i = omega (arith, e) in ap (λ (j : ℕ). get_or d.fragments j unused_record) k
-
-  complete-none : (i : ℕ) → complete (at d i) ≡ true → pending_in d (suc i) ≡ 0
-  complete-none i t = grind (arith, nat_tests)
 
   -- within the fragment
   pub reach-within : (i : ℕ) → i < used d → reach d i ≤ (first_sector (end (at d i))).0

@@ -9,8 +9,8 @@ use native.Mathlib.Omega.{arith}
 use borrow.Author.Tests.{eq-eqb, ne_eqb, eqb-true, eqb-false, le-leb, leb-true, ltb-true, not-true}
 use lib.Dec.{eqb, leb, ltb}
 use lib.ListN.{length, get_or}
-use Rattle.disc.specs.Types.{Fragment, Disc, Kind, Reserved, Appended}
-use Rattle.fragments.specs.Fragment.{unused_record, end, complete, is_reserved, is_tail, is_zero}
+use Rattle.disc.specs.Types.{Fragment, Disc}
+use Rattle.fragments.specs.Fragment.{unused_record, end, complete, is_tail, is_zero}
 use Rattle.fragments.specs.List.{limit, listed, every}
 use Rattle.disc.specs.Records.{records, used, is_listed, numbered, last_record, has_tail}
 use Rattle.disc.specs.Sound.{used_first, first_at_zero, follows, follows_from, in_order, ends_within, recorded_within, zeroed_within, incomplete_last, tail_last, tail_or_full, pending_named, finalized_complete, is_array, sound}
@@ -19,10 +19,6 @@ use Rattle.fragments.proofs.Laws.Bool.{and_left, and_right, and_both, by_cases, 
 use Rattle.fragments.proofs.Laws.List.{every-at, at_every, use_cases, listed_off, listed-on, listed_at}
 
 -- a record whose every field is zero
-zero_kind : (k : Kind) → is_reserved k ≡ true → k ≡ Reserved
-zero_kind Reserved e = refl
-zero_kind Appended e = absurd (contradiction e refl)
-
 pub zero_record : (f : Fragment) → is_zero f ≡ true → f ≡ unused_record
 zero_record f e = grind arith
 

@@ -1,11 +1,10 @@
 -- Bytes stored one after another, before zeros.
-use Prim.Native.Nat.{ℕ, suc, ◌+◌, ◌<◌}
+use Prim.Native.Nat.{ℕ, suc, ◌+◌}
 use mathlib.Core.Path.{◌≡◌, refl, sym, ap, ◌∙◌}
 use mathlib.Core.List.{List, [], ◌∷◌, ◌++◌, append_assoc}
 use native.Mathlib.Omega.{arith}
-use native.Mathlib.Numerals.{add-one}
-use lib.ListN.{length, take, set, get_or, length-set, length-append}
-use lib.Seq.{set-append_seam, append_snoc, length-take-le, take-suc}
+use lib.ListN.{length, set, length-set, length-append}
+use lib.Seq.{set-append_seam, append_snoc}
 use Rattle.features.specs.Bytes.{stored}
 
 -- in two parts
@@ -36,15 +35,6 @@ stored_four l i a b c d =
     let two : i + 1 + 1 ≡ i + 2 = omega arith in
     let three : i + 2 + 1 ≡ i + 3 = omega arith in
     rw (two, three)
-
--- one more
-pub stored_next :
-    (l : List ℕ) (i k d : ℕ) (x : List ℕ) → k < length x → set (stored l i (take k x)) (i + k) (get_or x k d) ≡ stored l i (take (k + 1) x)
-unfolding stored
-stored_next l i k d x h =
-    let size : k ≡ length (take k x) = sym (length-take-le k x (omega arith)) in
-    rw (add-one, take-suc x k d h)
-    (ap (λ (n : ℕ). set (stored l i (take k x)) (i + n) (get_or x k d)) size ∙ stored_parts l i (take k x) (get_or x k d ∷ []))
 
 pub length-stored : (l : List ℕ) (i : ℕ) (x : List ℕ) → length (stored l i x) ≡ length l
 unfolding stored

@@ -6,7 +6,7 @@ use mathlib.Core.List.{List, [], ◌∷◌, ◌++◌}
 use native.Mathlib.Omega.{arith}
 use lib.ListN.{length}
 use Rattle.fragments.specs.Address.{lba}
-use Rattle.protocol.specs.Command.{byte_at, word16, word32, decode}
+use Rattle.protocol.specs.Command.{byte_at, word32, decode}
 use Rattle.protocol.specs.Reports.{low, high, bytes32}
 use Rattle.drive.specs.Step.{request}
 use Rattle.drive.specs.Requests.{WriteOf}
@@ -29,13 +29,6 @@ HasForm b (ReadDiscInformation dataType allocation) = Unit {0}
 HasForm b (ReadTrackInformation addressType n allocation) = Unit {0}
 HasForm b Unlisted = Unit {0}
 
--- numbers of two and of four bytes
-two_bytes : (b : List ℕ) → IsBytes b → (i : ℕ) → word16 b i ≤ 0xFFFF
-two_bytes b h i = omega (arith, h.each i, h.each (i + 1))
-
-four_bytes : (b : List ℕ) → IsBytes b → (i : ℕ) → word32 b i ≤ 0xFFFFFFFF
-four_bytes b h i = omega (arith, two_bytes b h i, two_bytes b h (i + 2))
-
 has_form : (b : List ℕ) → IsBytes b → HasForm b (decode b)
 unfolding decode HasForm write_opcode longest
 has_form b h = grind arith
@@ -45,11 +38,6 @@ unfolding HasForm
 only_forms b h a n e = subst (HasForm b) e (has_form b h)
 
 -- a number by its four bytes
-of_bytes :
-    (a b c d : ℕ) → b ≡ a / 0x100 → c ≡ b / 0x100 → d ≡ c / 0x100 → d < 0x100
-    → 0x10000 * (0x100 * (d % 0x100) + c % 0x100) + (0x100 * (b % 0x100) + a % 0x100) ≡ a
-of_bytes a b c d e f g h = omega (arith, e, f, g, h)
-
 of_four : (a : ℕ) → a < addresses → 0x10000 * (0x100 * (a / 0x1000000 % 0x100) + a / 0x10000 % 0x100) + (0x100 * (a / 0x100 % 0x100) + a % 0x100) ≡ a
 of_four a h = grind arith
 

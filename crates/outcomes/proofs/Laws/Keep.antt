@@ -2,7 +2,7 @@
 use Rattle.std.proofs.lemmas.Bool.Decides.{nat_tests}
 use Prim.Native.Nat.{ℕ, suc, ◌+◌, ◌-◌, ◌*◌, ◌/◌, ◌%◌, ◌≤◌, ◌<◌}
 use mathlib.Core.Path.{◌≡◌, refl, sym, ◌∙◌, ap}
-use mathlib.Core.Bool.{Bool, true, false, not, ◌&&◌, and-false as and_zero}
+use mathlib.Core.Bool.{Bool, true, false, not, ◌&&◌}
 use mathlib.Core.List.{List, [], ◌∷◌}
 use mathlib.Core.Logic.{◌⊎◌, inl, inr}
 use native.Mathlib.Omega.{arith}
@@ -12,7 +12,7 @@ use lib.ListN.{length, get_or, set}
 use lib.Seq.{get_or-set_same, get_or-set_other}
 use Rattle.outcomes.specs.Types.{Block, Lba, Fragment, Disc}
 use Rattle.fragments.specs.Address.{first_sector}
-use Rattle.fragments.specs.Fragment.{unused_record, end, complete, is_reserved, is_tail, is_incomplete_reserved, next_fragment_start, next_session_start, tail_from, reserved_at, shortened_record}
+use Rattle.fragments.specs.Fragment.{unused_record, end, complete, is_tail, is_incomplete_reserved, next_fragment_start, next_session_start, tail_from, reserved_at, shortened_record}
 use Rattle.disc.specs.Records.{pending_in, is_blank, records, used, numbered, last_record, with_record, has_tail, has_blank_tail, blank_tail_only}
 use Rattle.fragments.specs.List.{limit, some, first_of_session}
 use Rattle.disc.specs.Rules.{at, Sound}
@@ -119,10 +119,6 @@ fill_sound d n s p from to =
     s.none
     (λ q. absurd (q p))
     (λ q. p)
-
--- a complete fragment is no tail
-complete_tailless : (f : Fragment) → complete f ≡ true → is_tail f ≡ false
-complete_tailless f c = rw c (and_zero (not (is_reserved f.kind)))
 
 -- a written tail that ends with its recorded blocks
 shorten_replaces : (d : Disc) → Sound d → d.pending ≡ 0 → ((last_record d).recorded ≡ 0 → ⊥) → Replaces d (shortened_record (last_record d))

@@ -36,10 +36,6 @@ moved_within d c t medium l (sends a n m i k q h w) =
 moved_within d c t medium l (gathers a b p n q few u) = refl
 moved_within d c t medium l (fills b n u) = refl
 
--- what is served has a medium of that length
-served_medium : (d : Disc) (b m : ℕ) → served d b m ≡ true → m ≡ 32768 * d.capacity
-served_medium d b m e = grind arith
-
 -- every sector of what it sends is recorded
 pub sent_recorded :
     (d : Disc) (a : Lba) (n : ℕ) (medium : List ℕ) (k : ℕ)

@@ -170,22 +170,12 @@ joined_zero a b k e =
     (and_rows (eqb a.session 0) (eqb a.start.0 0) (eqb a.length 0) (eqb a.recorded 0) (eqb a.zeroed 0) (is_reserved a.kind)
     (eqb b.session 0) (eqb b.start.0 0) (eqb b.length 0) (eqb b.recorded 0) (eqb b.zeroed 0) (is_reserved b.kind))
 
--- the rest of the records, joined: one more of them
+-- the rest of the records, joined, beside an outcome `e` that is known: one more of them, and all
 pub rest_more :
-    (fs : List Fragment) (i : ℕ) (d rest r : Fragment)
-    → i < length fs → every is_zero fs ≡ (is_zero rest && every is_zero (drop i fs)) → is_zero r ≡ (is_zero rest && is_zero (get_or fs i d))
-    → every is_zero fs ≡ (is_zero r && every is_zero (drop (i + 1) fs))
-rest_more fs i d rest r h so j =
-    so
-    ∙ (ap (λ b. is_zero rest && b) (every-step is_zero fs i d h)
-    ∙ (and_assoc (is_zero rest) (is_zero (get_or fs i d)) (every is_zero (drop (i + 1) fs)) ∙ ap (λ b. b && every is_zero (drop (i + 1) fs)) (sym j)))
-
--- the same beside an outcome `e` that is known: one more of them, and all
-pub rest-next :
     (fs : List Fragment) (i : ℕ) (d rest r : Fragment) (s e : Bool)
     → i < length fs → s ≡ (e && (is_zero rest && every is_zero (drop i fs))) → is_zero r ≡ (is_zero rest && is_zero (get_or fs i d))
     → s ≡ (e && (is_zero r && every is_zero (drop (i + 1) fs)))
-rest-next fs i d rest r s e h so j =
+rest_more fs i d rest r s e h so j =
     so
     ∙ ap (λ b. e && b)
     (ap (λ b. is_zero rest && b) (every-step is_zero fs i d h)

@@ -1,16 +1,29 @@
--- The texts of a record's line and of the last one.
-use Rattle.std.specs.Prelude.{ℕ, Option, None, Some, List, []}
-use Rattle.playback.specs.Types.{Line, LastLine, Bad, Cut}
-use Rattle.playback.specs.Text.{record_text, bad_text, cut_text}
+-- A line by value: its text, zeros after it, and its length.
+use Rattle.std.specs.Prelude.{◌≡◌, ℕ, ◌+◌, ◌-◌, ◌≤◌, cond, List, [], ◌∷◌, ◌++◌, length, replicate, take, nat_lt, slice_set, Option, Some, None}
+use Rattle.playback.specs.Types.{Line}
 
+-- the line of a text
+unfoldable pub line_of : List ℕ → Line
+line_of text = record { bytes = text ++ replicate (80 - length text) 0; length = length text }
+
+-- the text of a line
 abbrev pub text_of : Line → List ℕ
-text_of l = record_text l.number l.opcode l.sense l.next
+text_of l = take l.length l.bytes
 
-abbrev pub last_of : LastLine → List ℕ
-last_of (Bad n) = bad_text n
-last_of (Cut n) = cut_text n
+-- one byte more, and many; a full line stays as it is
+unfoldable pub push : Line → ℕ → Line
+push l b = cond (nat_lt l.length 80) (record { bytes = slice_set l.bytes l.length b; length = l.length + 1 }) l
+
+unfoldable pub append : Line → List ℕ → Line
+append l [] = l
+append l (b ∷ bs) = append (push l b) bs
+
+-- the promise of the code that makes a line: its text, whole
+pub record Printed (text : List ℕ) (r : Line) : Type 0 where
+  pub line : r ≡ line_of text
+  pub fits : r.length ≤ length r.bytes
 
 -- of a last line, if there is one
-abbrev pub shown : Option LastLine → List ℕ
-shown None = []
-shown (Some l) = last_of l
+abbrev pub LastPrinted : List ℕ → Option Line → Type 0
+LastPrinted text None = text ≡ []
+LastPrinted text (Some l) = Printed text l

@@ -1,11 +1,11 @@
 -- A replay: the disc from record to record, and what each prints.
-use Rattle.std.specs.Prelude.{◌≡◌, ℕ, ◌+◌, ◌%◌, ◌^◌, Option, None, Some, List, [], ◌∷◌, slice_index}
+use Rattle.std.specs.Prelude.{◌≡◌, ℕ, ◌+◌, ◌%◌, ◌^◌, ◌≤◌, Option, None, Some, List, [], ◌∷◌, length, slice_index}
 use Rattle.disc.specs.Blank.{blank}
 use Rattle.commands.specs.Judge.{judge_as_asked}
 use Rattle.disc.specs.Records.{tail_next}
-use Rattle.playback.specs.Types.{Disc, Reason, BadMark, CutShort, End, Line, Replay, Played}
+use Rattle.playback.specs.Types.{Disc, Reason, BadMark, CutShort, End, Replay, Played}
 use Rattle.playback.specs.Text.{record_text, bad_text, cut_text}
-use Rattle.playback.specs.Line.{text_of}
+use Rattle.playback.specs.Line.{line_of, text_of}
 
 -- a blank disc of 300 blocks, and records counted from 1
 abbrev pub start : Replay
@@ -23,12 +23,8 @@ line_text r b = record_text r.number (slice_index b 0) (after r.disc b).sense (t
 abbrev pub onward : Replay → List ℕ → Replay
 onward r b = record { disc = after r.disc b; number = (r.number + 1) % 2 ^ 64 }
 
--- what is printed for a record
-abbrev pub said : Replay → List ℕ → Line
-said r b = record { number = r.number; opcode = slice_index b 0; sense = (after r.disc b).sense; next = tail_next (after r.disc b) }
-
 unfoldable pub played : Replay → List ℕ → Played
-played r b = record { line = said r b; replay = onward r b }
+played r b = record { line = line_of (line_text r b); replay = onward r b }
 
 -- the last line, by why there is no record where the records end: none at the end
 unfoldable pub last_text : Replay → Option Reason → List ℕ
@@ -42,7 +38,8 @@ unfoldable pub replayed : Replay → List (List ℕ) → Replay
 replayed r [] = r
 replayed r (b ∷ bs) = replayed (onward r b) bs
 
--- the promise of the code that plays a record: the line, and the replay after it
+-- the promise of the code that plays a record: the line, whole, and the replay after it
 pub record Plays (before : Replay) (b : List ℕ) (r : Played) : Type 0 where
   pub result : r ≡ played before b
+  pub fits : r.line.length ≤ length r.line.bytes
   pub text : text_of r.line ≡ line_text before b

@@ -3,8 +3,6 @@ pub use Rattle.protocol.specs.declared.answer.Sense.{Sense}
 pub use Rattle.std.specs.Prelude.{Option, Some, None}
 pub use Rattle.fragments.specs.declared.address.Lba.{Lba}
 pub use Rattle.playback.specs.declared.line.Line.{Line}
-pub use Rattle.playback.specs.declared.line.LastLine.{LastLine}
-pub use Rattle.playback.specs.declared.line.LastLine.TheVariants.{Bad, Cut}
 pub use Rattle.disc.specs.declared.state.Disc.{Disc}
 pub use Rattle.trace.specs.declared.record.Record.{Record}
 pub use Rattle.trace.specs.declared.record.Stop.{Stop}

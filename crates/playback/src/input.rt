@@ -1,19 +1,33 @@
-// Replays an input of any length, a record at a time.
-ghost use Rattle.std.specs.Prelude.{◌≡◌, ◌⊎◌, IfOk, IfSome, OnOk, Some, false};
+// Replays an input of any length through one fixed buffer: what is left of a record at the end of the bytes held goes to the front, and more is
+// read after it.
+ghost use Rattle.std.specs.Prelude.{◌≡◌, ◌⊎◌, ◌≤◌, IfOk, IfSome, OnOk, Some, false, length};
 ghost use Rattle.std.specs.Io.KnownBytes.{Appends};
+ghost use Rattle.playback.specs.Line.{text_of};
 ghost use Rattle.playback.specs.Replay.{last_text};
 ghost use Rattle.playback.specs.Output.{Reported, BrokenOff, Reached, unreadable, whole};
 
+use crate::line::Line;
 use crate::replay::{Played, Replay};
 use std::io;
 use std::io::{Read, Write};
-use trace::{RECORD_LENGTH, Reason, Stop};
+use trace::{Reason, Stop};
+
+// Bytes of the buffer that an input of any length goes through.
+const BUFFER_LENGTH: usize = 4096;
 
 // Where a replay led, and whether its trace was whole and could be read.
 #[derive(Clone, Copy)]
 pub struct Ending {
     pub replay: Replay,
     pub whole: bool,
+}
+
+// A line goes out as a whole.
+fn print<W: Write>(to: &mut W, line: Line) -> io::Result<()>
+    requires { line.length ≤ length line.bytes }
+    ensures { OnOk result (Appends (W.contents to.old) (W.contents to.new) (text_of line)) }
+{
+    to.write_all(&line.bytes[..line.length])
 }
 
 // Prints the last line, among the errors too: `replay` has no exit status to tell that a trace is damaged.
@@ -30,8 +44,8 @@ fn finish<W: Write, E: Write>(
 {
     let whole = matches!(stop.reason, Reason::End);
     if let Some(last) = replay.last_line(Err(stop)) {
-        write!(report, "{last}")?;
-        write!(errors, "{last}")?;
+        print(report, last)?;
+        print(errors, last)?;
     }
     Ok(Ending { replay, whole })
 }
@@ -51,7 +65,7 @@ fn break_off<E: Write>(replay: Replay, errors: &mut E) -> io::Result<Ending>
 // Replays the trace that a reader gives: a line for each record goes to the report, and why a trace is not whole to the errors too. Where it
 // leads is where its records lead, whatever they are; and where the bytes that the reader gives are known, what is printed for them is
 // known too. A read that fails is told among the errors, and ends a trace that is not whole. An error is that of a line that could not be
-// written: nothing is read or played after it. It reads a record at a time at the most and writes a line in parts, so lend it buffered streams.
+// written: nothing is read or played after it.
 pub fn replay_from<R: Read, W: Write, E: Write>(
     input: &mut R,
     report: &mut W,
@@ -64,20 +78,21 @@ pub fn replay_from<R: Read, W: Write, E: Write>(
 {
     report.write_all(b"n op key asc ascq next\n")?;
     let mut replay = Replay::start();
-    // The bytes of a record so far, and how many: a buffer of the library's needs an allocator, and the signature, which has none, may not change.
-    let mut record = [0u8; RECORD_LENGTH];
-    let mut held = 0;
+    let mut buffer = [0u8; BUFFER_LENGTH];
+    // The bytes held that are not played yet.
+    let mut at = 0;
+    let mut end = 0;
     // A proved loop has to end, and nothing says that an input does: no run uses up these turns.
     for _ in 0..u64::MAX {
-        let stop = match trace::read_at(&record[..held], 0) {
+        let stop = match trace::read_at(&buffer[at..end], 0) {
             Ok(found) => {
                 let Played {
                     line,
                     replay: after,
                 } = replay.play(found.cdb);
-                write!(report, "{line}")?;
+                print(report, line)?;
                 replay = after;
-                held = 0;
+                at += found.next;
                 continue;
             }
             Err(stop) => stop,
@@ -85,9 +100,12 @@ pub fn replay_from<R: Read, W: Write, E: Write>(
         if let Reason::BadMark = stop.reason {
             return finish(replay, stop, report, errors);
         }
-        match input.read(&mut record[held..]) {
+        buffer.copy_within(at..end, 0);
+        end -= at;
+        at = 0;
+        match input.read(&mut buffer[end..]) {
             Ok(0) => return finish(replay, stop, report, errors),
-            Ok(count) => held += count,
+            Ok(count) => end += count,
             Err(_) => return break_off(replay, errors),
         }
     }

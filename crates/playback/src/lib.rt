@@ -7,5 +7,5 @@ mod line;
 mod replay;
 
 pub use input::{Ending, replay_from};
-pub use line::{LastLine, Line};
+pub use line::Line;
 pub use replay::{Played, Replay};

@@ -1,10 +1,10 @@
 // A replay: the disc from command to command, and what is printed for what stands in the trace.
 ghost use Rattle.std.specs.Prelude.{◌≡◌};
 ghost use Rattle.trace.specs.Record.{reason_of};
-ghost use Rattle.playback.specs.Line.{shown};
+ghost use Rattle.playback.specs.Line.{LastPrinted};
 ghost use Rattle.playback.specs.Replay.{start, last_text, Plays};
 
-use crate::line::{LastLine, Line};
+use crate::line::Line;
 use disc::Disc;
 use trace::{Reason, Step};
 
@@ -36,17 +36,11 @@ impl Replay {
     }
 
     // The command of a record, with data and a reply buffer of the lengths that it asks for.
-    #[tactic(auto, unfolding(crate::specs::Replay::played))]
     pub fn play(self, cdb: [u8; trace::CDB_LENGTH]) -> Played
         ensures { Plays self cdb result }
     {
         let disc = commands::judge_as_asked(self.disc, &cdb).disc;
-        let line = Line {
-            number: self.number,
-            opcode: cdb[0],
-            sense: disc.sense,
-            next: disc.tail_next(),
-        };
+        let line = Line::of_record(self.number, cdb[0], disc.sense, disc.tail_next());
         let number = self.number.wrapping_add(1);
         let replay = Replay { disc, number };
         Played { line, replay }
@@ -54,13 +48,12 @@ impl Replay {
 
     // The last line, by what stands in the trace where the records end: none at its end.
     #[tactic(auto, unfolding(crate::specs::Replay::last_text))]
-    pub fn last_line(self, step: Step) -> Option<LastLine>
-        ensures { shown result ≡ last_text self (reason_of step) }
+    pub fn last_line(self, step: Step) -> Option<Line>
+        ensures { LastPrinted (last_text self (reason_of step)) result }
     {
-        let number = self.number;
         match step.err()?.reason {
-            Reason::BadMark => Some(LastLine::Bad(number)),
-            Reason::CutShort => Some(LastLine::Cut(number)),
+            Reason::BadMark => Some(Line::bad(self.number)),
+            Reason::CutShort => Some(Line::cut(self.number)),
             Reason::End => None,
         }
     }

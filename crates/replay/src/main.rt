@@ -2,12 +2,8 @@
 #![tactic(auto)]
 
 use std::io;
-use std::io::{BufReader, LineWriter};
 
 fn main(rt: HostRuntime) -> io::Result<()> {
-    let mut input = BufReader::new(rt.alloc(), rt.stdin())?;
-    let mut report = LineWriter::new(rt.alloc(), rt.stdout())?;
-    let mut errors = LineWriter::new(rt.alloc(), rt.stderr())?;
-    playback::replay_from(&mut input, &mut report, &mut errors)?;
+    playback::replay_from(&mut rt.stdin(), &mut rt.stdout(), &mut rt.stderr())?;
     Ok(())
 }

@@ -3,7 +3,7 @@
 
 use std::env::{Env, FillError};
 use std::fs::File;
-use std::io::{BufReader, LineWriter, Write};
+use std::io::Write;
 use std::{io, str};
 
 // Bytes that hold any path.
@@ -21,33 +21,25 @@ fn words(text: &str) -> &str {
 }
 
 // Tells why a file cannot be opened.
-fn tell<E: Write>(
-    rt: &HostRuntime,
-    name: &[u8],
-    error: io::Error,
-    errors: &mut E,
-) -> io::Result<()> {
+fn tell(rt: &HostRuntime, name: &[u8], error: io::Error) -> io::Result<()> {
     let text = format!(in rt.alloc(); "{error}")?;
     let reason = words(text.as_str());
+    let mut errors = rt.stderr();
     errors.write_all(name)?;
     writeln!(errors, ": {reason}")
 }
 
 // The trace that an argument names, or why it cannot be opened.
-fn replay_argument<W: Write, E: Write>(
-    rt: &HostRuntime,
-    name: &[u8],
-    report: &mut W,
-    errors: &mut E,
-) -> io::Result<()> {
-    let file = match open(rt, name) {
+fn replay_argument(rt: &HostRuntime, name: &[u8]) -> io::Result<()> {
+    let mut file = match open(rt, name) {
         Ok(file) => file,
-        Err(error) => return tell(rt, name, error, errors),
+        Err(error) => return tell(rt, name, error),
     };
+    let mut report = rt.stdout();
+    let mut errors = rt.stderr();
     report.write_all(name)?;
     report.write_all(b":\n")?;
-    let mut input = BufReader::new(rt.alloc(), file)?;
-    let ending = playback::replay_from(&mut input, report, errors)?;
+    let ending = playback::replay_from(&mut file, &mut report, &mut errors)?;
     if !ending.whole {
         errors.write_all(b"in ")?;
         errors.write_all(name)?;
@@ -57,8 +49,6 @@ fn replay_argument<W: Write, E: Write>(
 }
 
 fn main(rt: HostRuntime) -> io::Result<()> {
-    let mut report = LineWriter::new(rt.alloc(), rt.stdout())?;
-    let mut errors = LineWriter::new(rt.alloc(), rt.stderr())?;
     // By its number into a buffer, and not by `env::args`, which gives no argument at all where one is not UTF-8: what is printed then may not change.
     for index in 1..usize::MAX {
         let mut name = [0u8; PATH_LENGTH];
@@ -67,7 +57,7 @@ fn main(rt: HostRuntime) -> io::Result<()> {
             Err(FillError::TooLong) => 0,
             Err(FillError::NotPresent) => break,
         };
-        replay_argument(&rt, &name[..length], &mut report, &mut errors)?;
+        replay_argument(&rt, &name[..length])?;
     }
     Ok(())
 }

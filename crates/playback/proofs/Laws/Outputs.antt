@@ -1,13 +1,13 @@
 -- What a replay prints: the heading and a line for each record so far, and the last line.
-use Rattle.std.proofs.Common.{◌≡◌, ℕ, ◌⊎◌, inl, inr, ◌≤◌, List, [], ◌∷◌, ◌++◌, Option, None, Some, Result, Ok, Err, IfOk, OnOk, IfSome, length, take, drop, refl, sym, ap, ◌∙◌, subst, append_assoc, append-nil, arith}
-use lib.ListN.{drop_of_length-le}
+use Rattle.std.proofs.Common.{◌≡◌, ℕ, ◌⊎◌, inl, inr, ◌≤◌, List, [], ◌∷◌, ◌++◌, Option, None, Some, Result, Ok, Err, IfOk, OnOk, IfSome, length, length-drop, take, drop, refl, sym, ap, ◌∙◌, subst, append_assoc, append-nil, arith}
+use lib.Seq.{drop-append-le}
 use Rattle.std.specs.Io.KnownBytes.{Keeps, Appends, Consumes, IsAtEnd, prepend_known}
 use Rattle.std.proofs.KnownBytes.{Appends-trans, Keeps-refl, prepend_known-nil}
 use Rattle.trace.specs.Record.{reading_of, step_at}
 use Rattle.trace.specs.Whole.{whole_cdbs, whole_end}
-use Rattle.trace.proofs.Laws.Record.{step_end, step_stop}
-use Rattle.trace.proofs.Laws.Whole.{record_found, whole_next, whole_stop}
-use Rattle.trace.proofs.Laws.Parts.{in_parts, bad_early}
+use Rattle.trace.proofs.Laws.Record.{step_stop}
+use Rattle.trace.proofs.Laws.Whole.{record_found, whole_stop}
+use Rattle.trace.proofs.Laws.Parts.{after_first, bad_early, record_early}
 use Rattle.playback.specs.Types.{Record, Stop, Replay, Played, BadMark, Ending}
 use Rattle.playback.specs.Line.{text_of}
 use Rattle.playback.specs.Replay.{start, played, replayed, last_text, Plays}
@@ -25,28 +25,24 @@ left_first : (x : Option (List ℕ)) → LeftOf x x []
 left_first None = tt
 left_first (Some t) = (refl, refl)
 
--- bytes that are one record, and those after them
+-- bytes that begin with a record, and those after them
 one_record :
-    (h xs : List ℕ) (f : Record) → step_at h 0 ≡ Ok f → length h ≤ 14
-    → (whole_cdbs (h ++ xs) ≡ f.cdb ∷ whole_cdbs xs) × (end_reading (h ++ xs) ≡ end_reading xs)
-one_record h xs f e few =
-    let p = in_parts h xs in
-    let n = whole_next h 0 f e in
+    (h xs : List ℕ) (f : Record) → step_at h 0 ≡ Ok f
+    → (whole_cdbs (h ++ xs) ≡ f.cdb ∷ whole_cdbs (drop f.next h ++ xs)) × (end_reading (h ++ xs) ≡ end_reading (drop f.next h ++ xs))
+one_record h xs f e =
+    let a = after_first (h ++ xs) f (record_early h xs 0 f e) in
     let r = record_found h 0 f e in
-    let z = whole_stop h f.next _ (step_end h f.next (omega (arith, r.next))) in
-    let d : drop (whole_end h) h ≡ [] = drop_of_length-le h {i = whole_end h} (omega (arith, r.next, n.onward ∙ z.1)) in (
-      p.cdbs ∙ rw (n.more, z.0, d),
-      p.reason ∙ ap (λ (l : List ℕ). end_reading (l ++ xs)) d,
-    )
+    let d : drop f.next (h ++ xs) ≡ drop f.next h ++ xs = drop-append-le f.next h xs (omega (arith, r.next, r.marked.long, length-drop 0 h)) in
+    (a.cdbs ∙ ap (λ (l : List ℕ). f.cdb ∷ whole_cdbs l) d, a.reason ∙ ap end_reading d)
 
 left_played :
-    (a x : Option (List ℕ)) (h : List ℕ) (ps : List (List ℕ)) (f : Record) → step_at h 0 ≡ Ok f → length h ≤ 14
-    → LeftOf a (prepend_known h x) ps → LeftOf a (prepend_known [] x) (ps ++ f.cdb ∷ [])
-left_played None x h ps f e few w = tt
-left_played (Some t) None h ps f e few w = absurd w
-left_played (Some t) (Some xs) h ps f e few w =
-    let o = one_record h xs f e few in
-    (w.0 ∙ rw o.0 (sym (append_assoc ps (f.cdb ∷ []) (whole_cdbs xs))), w.1 ∙ o.1)
+    (a x : Option (List ℕ)) (h : List ℕ) (ps : List (List ℕ)) (f : Record) → step_at h 0 ≡ Ok f
+    → LeftOf a (prepend_known h x) ps → LeftOf a (prepend_known (drop f.next h) x) (ps ++ f.cdb ∷ [])
+left_played None x h ps f e w = tt
+left_played (Some t) None h ps f e w = absurd w
+left_played (Some t) (Some xs) h ps f e w =
+    let o = one_record h xs f e in
+    (w.0 ∙ rw o.0 (sym (append_assoc ps (f.cdb ∷ []) (whole_cdbs (drop f.next h ++ xs)))), w.1 ∙ o.1)
 
 left_read :
     (a x x' : Option (List ℕ)) (h came all : List ℕ) (ps : List (List ℕ)) → all ≡ h ++ came → Consumes x x' came
@@ -115,12 +111,12 @@ sofar_first x y0 y z r e printed =
     }
 
 module _ (x0 x y0 y z0 z : Option (List ℕ)) (h : List ℕ) (r : Replay) (w : Sofar x0 x y0 y z0 z h r) where
-  -- the bytes held are a record, and are played
+  -- the bytes held begin with a record, which is played
   pub sofar_played :
-      (y' : Option (List ℕ)) (f : Record) (p : Played) → step_at h 0 ≡ Ok f → length h ≤ 14 → Plays r f.cdb p
-      → Appends y y' (text_of p.line) → Sofar x0 x y0 y' z0 z [] p.replay
+      (y' : Option (List ℕ)) (f : Record) (p : Played) (rest : List ℕ) → step_at h 0 ≡ Ok f → rest ≡ drop f.next h → Plays r f.cdb p
+      → Appends y y' (text_of p.line) → Sofar x0 x y0 y' z0 z rest p.replay
   unfolding lines replayed played
-  sofar_played y' f p e few v printed =
+  sofar_played y' f p rest e q v printed =
       let more : (heading ++ lines start w.done) ++ text_of p.line ≡ heading ++ lines start (w.done ++ f.cdb ∷ []) =
       append_assoc heading (lines start w.done) (text_of p.line)
       ∙ ap (λ (l : List ℕ). heading ++ l)
@@ -130,7 +126,7 @@ module _ (x0 x y0 y z0 z : Option (List ℕ)) (h : List ℕ) (r : Replay) (w : S
         report = subst (Appends y0 y') more (Appends-trans y0 y y' (heading ++ lines start w.done) (text_of p.line) w.report printed);
         errors = w.errors;
         replay = rw (v.result, w.replay) (sym (replayed-append start w.done (f.cdb ∷ [])));
-        left = left_played x0 x h w.done f e few w.left;
+        left = rw q (left_played x0 x h w.done f e w.left);
       }
 
   -- more bytes are held

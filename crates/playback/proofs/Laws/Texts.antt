@@ -1,8 +1,6 @@
--- Digits: the library prints numbers as the definitions say; and how long a line is.
-use Rattle.std.proofs.Common.{◌≡◌, ℕ, zero, suc, ◌+◌, ◌-◌, ◌/◌, ◌%◌, ◌^◌, ◌<◌, ◌≤◌, Bool, true, false, ltb, List, [], ◌∷◌, ◌++◌, length, length-append, refl, sym, ◌∙◌, arith, le-ltb, lt-ltb}
-use Rattle.std.proofs.lemmas.Fmt.{AppendsLastDigit, decimal_from_appends, decimal_step, length-decimal-le, hex_byte}
-use borrow.Author.Tests.{ltb-false}
-use Rattle.std.specs.Fmt as fmt
+-- Digits: how many there are, and that more places change nothing.
+use Rattle.std.proofs.Common.{◌≡◌, ℕ, zero, suc, ◌+◌, ◌/◌, ◌%◌, ◌^◌, ◌<◌, ◌≤◌, Bool, true, false, ltb, List, [], ◌∷◌, ◌++◌, length, refl, ap, arith, length-append, le-ltb, lt-ltb}
+use native.Mathlib.Nat.{pow-succ'}
 use Rattle.playback.specs.Types.{Sense, Lba, Option, Some, None}
 use Rattle.playback.specs.Text.{digit, digits, decimal, hex, next_text, words, record_text}
 
@@ -10,26 +8,23 @@ by_cases {ℓ} : {P : Type ℓ} (b : Bool) → (b ≡ true → P) → (b ≡ fal
 by_cases true yes-case no-case = yes-case refl
 by_cases false yes-case no-case = no-case refl
 
-by_last_digit : AppendsLastDigit digits
+-- a number that places hold has the same digits with one place more
+digits_more : (k n : ℕ) → n < 10 ^ suc k → digits (suc k) n ≡ digits (suc (suc k)) n
 unfolding digits
-by_last_digit = record { one = λ k n h. rw (lt-ltb n 10 h); more = λ k n h. rw (le-ltb n 10 h, lt-ltb (n % 10) 10 (omega arith)) }
-
--- what `{}` writes of a number of 64 bits
-pub printed_decimal : (n : ℕ) → n < 2 ^ 64 → fmt.decimal n ≡ decimal n
-printed_decimal n h = sym (decimal_from_appends digits by_last_digit 20 n h (length-decimal-le 20 n (omega arith) (omega arith) h))
-
-glyph : (d : ℕ) → fmt.digit_glyph true d ≡ digit d
-glyph d = by_cases (ltb d 10) (λ h. rw h) (λ h. rw h (omega (arith, ltb-false d 10 h)))
-
--- and what `{:02X}` writes of a byte
-pub printed_hex : (b : ℕ) → b < 256
-    → fmt.padded_integral (fmt.format_spec 32 0 4 2 (2 ^ 64 - 1)) false [] (fmt.digits 16 true b) ≡ hex b
-printed_hex b h = hex_byte true b h ∙ rw (glyph (b / 16), glyph (b % 16))
+digits_more zero n h = rw (lt-ltb n 10 h)
+digits_more (suc k) n h =
+    by_cases (ltb n 10)
+    (λ t. rw t)
+    (λ t. rw t (ap (λ (x : List ℕ). x ++ (digit (n % 10) ∷ [])) (digits_more k (n / 10) (omega (arith, pow-succ' 10 (suc k))))))
 
 -- the digits of a number of 64 bits from 10 up: those of its tenth, and the last one
 pub decimal_more : (n : ℕ) → n < 2 ^ 64 → 10 ≤ n → decimal n ≡ decimal (n / 10) ++ (digit (n % 10) ∷ [])
-decimal_more n h k =
-    sym (printed_decimal n h) ∙ decimal_step n k h ∙ rw (printed_decimal (n / 10) (omega arith), lt-ltb (n % 10) 10 (omega arith))
+unfolding digits
+decimal_more n h k = rw (le-ltb n 10 k) (ap (λ (x : List ℕ). x ++ (digit (n % 10) ∷ [])) (digits_more 18 (n / 10) (omega arith)))
+
+pub decimal_one : (n : ℕ) → n < 10 → decimal n ≡ digit n ∷ []
+unfolding digits
+decimal_one n h = rw (lt-ltb n 10 h)
 
 -- no more digits than places
 digits-length : (k n : ℕ) → length (digits k n) ≤ k

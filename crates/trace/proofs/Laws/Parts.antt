@@ -111,6 +111,23 @@ left_from (suc k) t p at h =
     })
     (λ w e. left_stop t p at w e)
 
+-- a trace that begins with a record: that record, and then those of what is left after it; the whole stops as that does
+pub record AfterFirst (t : List ℕ) (r : Record) : Type 0 where
+  pub cdbs : whole_cdbs t ≡ r.cdb ∷ whole_cdbs (drop r.next t)
+  pub reason : reason_of (step_at t (whole_end t)) ≡ reason_of (step_at (drop r.next t) (whole_end (drop r.next t)))
+
+pub after_first : (t : List ℕ) (r : Record) → step_at t 0 ≡ Ok r → AfterFirst t r
+after_first t r e =
+    let n = whole_next t 0 r e in
+    let f = left_from (length t) t r.next 0 (omega arith) in
+    let q : r.next + 0 ≡ r.next = omega arith in
+    record {
+      cdbs = n.more ∙ ap (λ (x : List (List ℕ)). r.cdb ∷ x) (ap (all_from t) (sym q) ∙ f.cdbs);
+      reason =
+          ap (λ (x : ℕ). reason_of (step_at t x)) (n.onward ∙ ap (end_from t) (sym q) ∙ f.end)
+          ∙ alike_reason t r.next (whole_end (drop r.next t));
+    }
+
 -- where the reader stops it has not gone past the end
 end-within : (k : ℕ) (t : List ℕ) (at : ℕ) → length t ≤ at + k → at ≤ length t → end_from t at ≤ length t
 end-within zero t at h l = rw (whole_stop t at _ (step_end t at (omega arith))).1 l

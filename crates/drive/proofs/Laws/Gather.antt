@@ -8,7 +8,7 @@ use lib.Seq.{take-add, take_at, take_all, drop_at, drop-drop, take-append-add, d
 use Rattle.std.proofs.lemmas.Grind.{common_steps}
 use Rattle.drive.specs.Bytes.{zeros, splice, padded}
 use Rattle.drive.specs.Moves.{stream, gathered_medium, gathered_pending}
-use Rattle.drive.proofs.Laws.Bytes.{splice_nil, splice-splice, padded-whole, padded-put}
+use Rattle.drive.proofs.Laws.Bytes.{splice_nil, splice-take, splice-splice, padded-whole, padded-put}
 use Rattle.drive.proofs.Laws.Moves.{length_rest, take-gathered-pending, cut-medium, cut-pending, stale_medium_lem, stale_pending_lem}
 
 -- whole blocks of x, recorded from block b on: one more after k of them, where c is the next one and the rest of x is left
@@ -85,6 +85,40 @@ module _
         f
         ∙ ap padded
         (append-nil left ∙ (e ∙ rw (r, whole-blocks, parts) (sym (drop-append-add block z (32768 * (length z / 32768))))))
+
+-- The next four are of sectors that complete the block at the most, and of the bytes of the pending sectors alone. They ask nothing of the
+-- length of medium or pending buffer, but that the sectors held are there.
+-- sectors that do not complete the block record nothing: as above, with the block first
+pub few_medium : (b held k : ℕ) (m p x : List ℕ) → held + k < 16 → m ≡ gathered_medium b held k m p x
+few_medium b held k m p x few = few-medium held k p x few b m
+
+-- and are pending after those held: in a buffer of any length, its end cleared or not
+pub few_pending :
+    (held k : ℕ) (p x q : List ℕ) → 2048 * held ≤ length p → length x ≡ 2048 * k → held + k < 16 → q ≡ splice p (2048 * held) x
+    → take (2048 * ((held + k) % 16)) q ≡ take (2048 * ((held + k) % 16)) (gathered_pending held k p x)
+unfolding stream
+few_pending held k p x q hp hx few e =
+    let n : 2048 * ((held + k) % 16) ≡ 2048 * held + length x = omega arith in
+    let z : 32768 * ((held + k) / 16) ≡ 0 = omega arith in
+    let t : take (2048 * ((held + k) % 16)) q ≡ take (2048 * held) p ++ x = rw (n, e) (splice-take p (2048 * held) x hp) in
+    let d : drop (32768 * ((held + k) / 16)) (take (2048 * held) p ++ x) ≡ take (2048 * held) p ++ x = rw z refl in
+    t ∙ sym (take-gathered-pending held k p x hp hx ∙ d)
+
+-- sectors that complete the block, and no others: it is recorded, in a medium of any length
+pub full_medium :
+    (b held k : ℕ) (m p x : List ℕ) → 2048 * held ≤ length p → length x ≡ 2048 * k → held + k ≡ 16
+    → splice m (32768 * b) (padded (take (2048 * held) p ++ x)) ≡ gathered_medium b held k m p x
+unfolding gathered_medium stream
+full_medium b held k m p x hp hx full =
+    let n : 32768 * ((held + k) / 16) ≡ 32768 = omega arith in
+    let l : length (take (2048 * held) p ++ x) ≡ 32768 =
+    length-append (take (2048 * held) p) x ∙ omega (arith, length-take-le (2048 * held) p hp) in
+    ap (splice m (32768 * b)) (padded-whole (take (2048 * held) p ++ x) l ∙ rw n (sym (take_all 32768 (take (2048 * held) p ++ x) (omega arith))))
+
+-- and none are pending: any two buffers have the same pending sectors
+pub full_pending :
+    (held k : ℕ) (p q : List ℕ) → held + k ≡ 16 → take (2048 * ((held + k) % 16)) p ≡ take (2048 * ((held + k) % 16)) q
+full_pending held k p q full = let z : 2048 * ((held + k) % 16) ≡ 0 = omega arith in rw z refl
 
 -- i of the sectors x are gathered: what is recorded, and which sectors are pending (the bytes past them are free)
 pub record Gathered (b held i : ℕ) (m p x medium pending : List ℕ) : Type 0 where

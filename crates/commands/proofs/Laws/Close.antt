@@ -7,13 +7,13 @@ use borrow.Author.Tests.{ltb-true}
 use lib.Dec.{ltb}
 use lib.ListN.{length, get_or, set, length-set}
 use lib.Seq.{get_or-set_other}
-use Rattle.commands.specs.Types.{Kind, Disc, Appended}
+use Rattle.commands.specs.Types.{Kind, Disc, Appended, EmptyTrack}
 use Rattle.fragments.specs.Fragment.{unused_record, end, complete, is_reserved, is_tail, next_fragment_start, tail_from, shortened_record}
 use Rattle.disc.specs.Records.{is_blank, used, is_listed, numbered, with_record}
 use Rattle.fragments.specs.List.{limit, sum_recorded}
 use Rattle.disc.specs.Rules.{Sound}
 use Rattle.disc.specs.Ready.{Ready}
-use Rattle.disc.specs.Verdict.{rise}
+use Rattle.disc.specs.Verdict.{rise, refuse}
 use Rattle.commands.specs.Flush.{flush, flush_count, synchronize_cache}
 use Rattle.commands.specs.Close.{filled_record, append_tail, close_incomplete, close_fragment}
 use Rattle.fragments.proofs.Laws.Bool.{and_right, and_both, by_cases, cond_yes, cond_no}
@@ -67,6 +67,10 @@ shorten_count d n r last =
 
 -- the outcomes of 001
 module _ (d : Disc) (n : ℕ) (l : is_listed d n ≡ true) where
+  pub close-blank : is_blank d n (numbered d n) ≡ true → close_fragment d n ≡ refuse d EmptyTrack
+  unfolding close_fragment
+  close-blank b = cond_no (not (is_listed d n)) _ _ (ap not l) ∙ cond_yes (is_blank d n (numbered d n)) _ _ b
+
   module _ (b : is_blank d n (numbered d n) ≡ false) where
     pub close-complete : complete (numbered (flush d) n) ≡ true → close_fragment d n ≡ synchronize_cache d
     unfolding close_fragment synchronize_cache

@@ -83,6 +83,10 @@ pub flush-length : (d : Disc) → length (flush d).fragments ≡ length d.fragme
 unfolding flush
 flush-length d = by_cases (eqb d.pending 0) (λ z. rw z) (λ z. rw z (simp length-set))
 
+-- nothing recorded, nothing counted
+pub rise_same : (d : Disc) → rise d d ≡ 0
+rise_same d = omega arith
+
 -- a flush keeps a list sound and the capacity
 flush_grown : (n : ℕ) (f : Fragment) → n < 16 → f.recorded < f.length → f.zeroed ≤ 16 * f.recorded → GrownRecord f (flushed_record n f)
 flush_grown n f few room z =

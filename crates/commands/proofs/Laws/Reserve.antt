@@ -3,7 +3,7 @@ use Prim.Native.Nat.{ℕ, ◌+◌, ◌-◌, ◌≤◌, ◌<◌}
 use mathlib.Core.Path.{◌≡◌, ◌∙◌, ap}
 use mathlib.Core.Bool.{true, false, not}
 use native.Mathlib.Omega.{arith}
-use borrow.Author.Tests.{eqb-true, eqb-false, ne_eqb, lt-leb, leb-false, not-false}
+use borrow.Author.Tests.{eqb-true, eqb-false, eq-eqb, ne_eqb, le-leb, lt-leb, leb-false, not-false}
 use lib.Dec.{eqb, leb}
 use lib.ListN.{get_or, set, length-set}
 use lib.Seq.{get_or-set_other}
@@ -51,21 +51,31 @@ split_sum d b s t h =
     let second = sum-set fs n g unused_record (omega (arith, s.array)) in
     rw next-index (omega (arith, blank_recorded d t))
 
--- an accepted RESERVE
-module _ (d : Disc) (size : ℕ) (f : d.finalized ≡ false) (z : invalid_size size ≡ false) (b : has_blank_tail d ≡ true) (u : used d ≡ limit → ⊥) where
-  pub reserve-done :
-      Sound d → (next_fragment_start (end (reserved_at (last_record d) (whole_blocks size)))).0 < d.capacity
-      → reserve d size ≡ accepted (split_tail d (whole_blocks size)) 0 no_reply no_plan
+-- the outcomes of RESERVE after its first tests
+module _ (d : Disc) (size : ℕ) (f : d.finalized ≡ false) (z : invalid_size size ≡ false) (b : has_blank_tail d ≡ true) where
+  pub reserve-full : used d ≡ limit → reserve d size ≡ refuse d NoMoreReservations
   unfolding reserve
-  reserve-done s h =
-      let few : used d < limit = omega (arith, s.array, listed_le d.fragments) in
-      let none : rise d (split_tail d (whole_blocks size)) ≡ 0 = omega (arith, split_sum d (whole_blocks size) s b few) in
-      cond_no d.finalized _ _ f
-      ∙ (cond_no (invalid_size size) _ _ z
-      ∙ (cond_no (not (has_blank_tail d)) _ _ (ap not b)
-      ∙ (cond_no (eqb (used d) limit) _ _ (ne_eqb _ _ u)
-      ∙ (cond_no (leb d.capacity (next_fragment_start (end (reserved_at (last_record d) (whole_blocks size)))).0) _ _ (lt-leb _ _ h)
-      ∙ accept_count d (split_tail d (whole_blocks size)) no_reply no_plan 0 none))))
+  reserve-full u = rw (f, z, b, eq-eqb _ _ u)
+
+  module _ (u : used d ≡ limit → ⊥) where
+    pub reserve-past :
+        d.capacity ≤ (next_fragment_start (end (reserved_at (last_record d) (whole_blocks size)))).0 → reserve d size ≡ refuse d EndOfUserArea
+    unfolding reserve
+    reserve-past h = rw (f, z, b, ne_eqb _ _ u, le-leb _ _ h)
+
+    pub reserve-done :
+        Sound d → (next_fragment_start (end (reserved_at (last_record d) (whole_blocks size)))).0 < d.capacity
+        → reserve d size ≡ accepted (split_tail d (whole_blocks size)) 0 no_reply no_plan
+    unfolding reserve
+    reserve-done s h =
+        let few : used d < limit = omega (arith, s.array, listed_le d.fragments) in
+        let none : rise d (split_tail d (whole_blocks size)) ≡ 0 = omega (arith, split_sum d (whole_blocks size) s b few) in
+        cond_no d.finalized _ _ f
+        ∙ (cond_no (invalid_size size) _ _ z
+        ∙ (cond_no (not (has_blank_tail d)) _ _ (ap not b)
+        ∙ (cond_no (eqb (used d) limit) _ _ (ne_eqb _ _ u)
+        ∙ (cond_no (leb d.capacity (next_fragment_start (end (reserved_at (last_record d) (whole_blocks size)))).0) _ _ (lt-leb _ _ h)
+        ∙ accept_count d (split_tail d (whole_blocks size)) no_reply no_plan 0 none))))
 
 -- a size that is not refused has a block
 blocks_some : (size : ℕ) → invalid_size size ≡ false → 1 ≤ whole_blocks size

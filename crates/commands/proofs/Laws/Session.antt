@@ -3,18 +3,18 @@ use Prim.Native.Nat.{◌+◌, ◌-◌, ◌≤◌, ◌<◌}
 use mathlib.Core.Path.{◌≡◌, refl, ◌∙◌, ap}
 use mathlib.Core.Bool.{true, false, ◌&&◌, ◌||◌}
 use native.Mathlib.Omega.{arith}
-use borrow.Author.Tests.{eq-eqb, ne_eqb, le-ltb}
+use borrow.Author.Tests.{eq-eqb, ne_eqb, le-ltb, lt-ltb}
 use lib.Dec.{eqb, ltb}
 use lib.ListN.{length, get_or, set, length-set}
 use lib.Seq.{get_or-set_same, get_or-set_other}
-use Rattle.commands.specs.Types.{Fragment, Disc, Nothing}
+use Rattle.commands.specs.Types.{Fragment, Disc, Nothing, IncompleteTrackInSession, EmptyTrack, NoMoreReservations, EndOfUserArea}
 use Rattle.fragments.specs.Fragment.{unused_record, end, next_session_start, tail_from, shortened_record}
 use Rattle.disc.specs.Records.{is_blank, used, last_record, with_record, has_tail, has_blank_tail, blank_tail_only}
 use Rattle.fragments.specs.List.{limit, sum_recorded}
 use Rattle.disc.specs.Rules.{at, Sound}
 use Rattle.disc.specs.Ready.{Ready}
-use Rattle.decisions.specs.Plan.{plan}
-use Rattle.disc.specs.Verdict.{rise, accepted}
+use Rattle.decisions.specs.Plan.{no_plan, plan}
+use Rattle.disc.specs.Verdict.{rise, accepted, accept, refuse}
 use Rattle.protocol.specs.Reply.{no_reply}
 use Rattle.commands.specs.Flush.{flush, flush_plan, flush_count}
 use Rattle.commands.specs.Close.{has_incomplete_reserved, close_tail, open_session, close_session, finalized, finalize}
@@ -136,38 +136,80 @@ open_sum k e h =
     let m = sum-set k.fragments n g unused_record (omega (arith, e.array)) in
     rw next-index (omega (arith, ap (λ f. f.recorded) e.free))
 
--- an accepted 010
-module _ (d : Disc) (h : (d.finalized || blank_tail_only d) ≡ false) (i : has_incomplete_reserved (flush d) ≡ false) (u : used (close_tail (flush d)) ≡ limit → ⊥) where
-  pub session-done :
-      Ready d → (next_session_start (end (last_record (close_tail (flush d))))).0 + 1 ≤ d.capacity
-      → close_session d ≡ accepted (open_session (close_tail (flush d))) (flush_count d) no_reply (plan (flush_plan d) Nothing)
+-- the outcomes of 010
+module _ (d : Disc) where
+  pub session-idle : (d.finalized || blank_tail_only d) ≡ true → close_session d ≡ accept d d no_reply no_plan
   unfolding close_session
-  session-done r l =
-      let e = flush d in
-      let k = close_tail e in
-      let s = flush-sound d r in
-      let few = kept_few e s (flush_pending d) u in
-      let count : rise d (open_session k) ≡ flush_count d =
-      omega (arith, open_sum k (kept e s (flush_pending d)) few, close_tail-sum e s, flush-sum d r) in
-      cond_no (d.finalized || blank_tail_only d) _ _ h
-      ∙ (cond_no (has_incomplete_reserved (flush d)) _ _ i
-      ∙ (cond_no (eqb (used k) limit) _ _ (ne_eqb _ _ u)
-      ∙ (cond_no (ltb d.capacity ((next_session_start (end (last_record k))).0 + 1)) _ _ (le-ltb _ _ l)
-      ∙ accept_count d (open_session k) no_reply (plan (flush_plan d) Nothing) (flush_count d) count)))
+  session-idle h = cond_yes (d.finalized || blank_tail_only d) _ _ h
 
--- an accepted 110
-module _ (d : Disc) (f : d.finalized ≡ false) (i : has_incomplete_reserved (flush d) ≡ false) where
-  pub finalize-done :
-      Ready d → (blank_tail_only d && eqb (last_record d).session 1) ≡ false
-      → finalize d ≡ accepted (finalized (close_tail (flush d))) (flush_count d) no_reply (plan (flush_plan d) Nothing)
+  module _ (h : (d.finalized || blank_tail_only d) ≡ false) where
+    pub session-incomplete : has_incomplete_reserved (flush d) ≡ true → close_session d ≡ refuse d IncompleteTrackInSession
+    unfolding close_session
+    session-incomplete i = cond_no (d.finalized || blank_tail_only d) _ _ h ∙ cond_yes (has_incomplete_reserved (flush d)) _ _ i
+
+    module _ (i : has_incomplete_reserved (flush d) ≡ false) where
+      pub session-full : used (close_tail (flush d)) ≡ limit → close_session d ≡ refuse d NoMoreReservations
+      unfolding close_session
+      session-full u =
+          cond_no (d.finalized || blank_tail_only d) _ _ h
+          ∙ (cond_no (has_incomplete_reserved (flush d)) _ _ i ∙ cond_yes (eqb (used (close_tail (flush d))) limit) _ _ (eq-eqb _ _ u))
+
+      module _ (u : used (close_tail (flush d)) ≡ limit → ⊥) where
+        pub session-past :
+            d.capacity < (next_session_start (end (last_record (close_tail (flush d))))).0 + 1 → close_session d ≡ refuse d EndOfUserArea
+        unfolding close_session
+        session-past l =
+            cond_no (d.finalized || blank_tail_only d) _ _ h
+            ∙ (cond_no (has_incomplete_reserved (flush d)) _ _ i
+            ∙ (cond_no (eqb (used (close_tail (flush d))) limit) _ _ (ne_eqb _ _ u)
+            ∙ cond_yes (ltb d.capacity ((next_session_start (end (last_record (close_tail (flush d))))).0 + 1)) _ _ (lt-ltb _ _ l)))
+
+        pub session-done :
+            Ready d → (next_session_start (end (last_record (close_tail (flush d))))).0 + 1 ≤ d.capacity
+            → close_session d ≡ accepted (open_session (close_tail (flush d))) (flush_count d) no_reply (plan (flush_plan d) Nothing)
+        unfolding close_session
+        session-done r l =
+            let e = flush d in
+            let k = close_tail e in
+            let s = flush-sound d r in
+            let few = kept_few e s (flush_pending d) u in
+            let count : rise d (open_session k) ≡ flush_count d =
+            omega (arith, open_sum k (kept e s (flush_pending d)) few, close_tail-sum e s, flush-sum d r) in
+            cond_no (d.finalized || blank_tail_only d) _ _ h
+            ∙ (cond_no (has_incomplete_reserved (flush d)) _ _ i
+            ∙ (cond_no (eqb (used k) limit) _ _ (ne_eqb _ _ u)
+            ∙ (cond_no (ltb d.capacity ((next_session_start (end (last_record k))).0 + 1)) _ _ (le-ltb _ _ l)
+            ∙ accept_count d (open_session k) no_reply (plan (flush_plan d) Nothing) (flush_count d) count)))
+
+-- the outcomes of 110
+module _ (d : Disc) where
+  pub finalize-idle : d.finalized ≡ true → finalize d ≡ accept d d no_reply no_plan
   unfolding finalize
-  finalize-done r b =
-      let e = flush d in
-      let count : rise d (finalized (close_tail e)) ≡ flush_count d = omega (arith, close_tail-sum e (flush-sound d r), flush-sum d r) in
-      cond_no d.finalized _ _ f
-      ∙ (cond_no (has_incomplete_reserved (flush d)) _ _ i
-      ∙ (cond_no (blank_tail_only d && eqb (last_record d).session 1) _ _ b
-      ∙ accept_count d (finalized (close_tail e)) no_reply (plan (flush_plan d) Nothing) (flush_count d) count))
+  finalize-idle f = cond_yes d.finalized _ _ f
+
+  module _ (f : d.finalized ≡ false) where
+    pub finalize-incomplete : has_incomplete_reserved (flush d) ≡ true → finalize d ≡ refuse d IncompleteTrackInSession
+    unfolding finalize
+    finalize-incomplete i = cond_no d.finalized _ _ f ∙ cond_yes (has_incomplete_reserved (flush d)) _ _ i
+
+    module _ (i : has_incomplete_reserved (flush d) ≡ false) where
+      pub finalize-blank : (blank_tail_only d && eqb (last_record d).session 1) ≡ true → finalize d ≡ refuse d EmptyTrack
+      unfolding finalize
+      finalize-blank b =
+          cond_no d.finalized _ _ f
+          ∙ (cond_no (has_incomplete_reserved (flush d)) _ _ i ∙ cond_yes (blank_tail_only d && eqb (last_record d).session 1) _ _ b)
+
+      pub finalize-done :
+          Ready d → (blank_tail_only d && eqb (last_record d).session 1) ≡ false
+          → finalize d ≡ accepted (finalized (close_tail (flush d))) (flush_count d) no_reply (plan (flush_plan d) Nothing)
+      unfolding finalize
+      finalize-done r b =
+          let e = flush d in
+          let count : rise d (finalized (close_tail e)) ≡ flush_count d = omega (arith, close_tail-sum e (flush-sound d r), flush-sum d r) in
+          cond_no d.finalized _ _ f
+          ∙ (cond_no (has_incomplete_reserved (flush d)) _ _ i
+          ∙ (cond_no (blank_tail_only d && eqb (last_record d).session 1) _ _ b
+          ∙ accept_count d (finalized (close_tail e)) no_reply (plan (flush_plan d) Nothing) (flush_count d) count))
 
 pub kept_capacity : (d : Disc) → (close_tail d).capacity ≡ d.capacity
 kept_capacity d =

@@ -5,8 +5,8 @@ use mathlib.Core.List.{List, [], ◌∷◌, ◌++◌, append-nil}
 use mathlib.Core.Logic.{⊎_elim}
 use native.Mathlib.Omega.{arith}
 use native.Mathlib.Nat.{eq-zero-or-pos}
-use lib.ListN.{length, take, drop, set, length-drop, take-append-drop, drop_of_length-le}
-use lib.Seq.{set_comm, set_out, length-take-le}
+use lib.ListN.{length, take, drop, set, length-set, length-take, length-drop, take-append-drop, drop_of_length-le}
+use lib.Seq.{set-append_left, set_comm, set_out, length-take-le, take_all}
 use borrow.Author.Tests.{leb-true, leb-false}
 use borrow.Rule.Slice.PartMut.{put_mid}
 use lib.Dec.{leb}
@@ -77,3 +77,23 @@ stored_part l x y at from n k e h same part =
     omega (arith, length-take-le n (drop from l) (omega (arith, length-drop from l, h)), length-take-le n x (omega (arith, h))) in
     let parts : take from l ++ (u ++ r) ≡ l = rw (take-append-drop n (drop from l)) (take-append-drop from l) in
     rw (same, part) (sym (stored_cut l x at from n e h ∙ rw (size, parts) at (stored-over (take from l) u r (take n x) fit)))
+
+-- what is stored into the first part of a list, and the rest after it
+stored_left : (p q : List ℕ) (i : ℕ) (x : List ℕ) → i + length x ≤ length p → stored (p ++ q) i x ≡ stored p i x ++ q
+unfolding stored
+stored_left p q i [] h = refl
+stored_left p q i (b ∷ x) h =
+    rw (set-append_left p q i b (omega arith)) (stored_left (set p i b) q (i + 1) x (omega (arith, length-set p i b)))
+
+pub stored_first : (l x : List ℕ) (n : ℕ) → n ≤ length l → stored (take n l) 0 x ++ drop n l ≡ stored l 0 (take n x)
+stored_first l x n h =
+    let p = take n l in
+    let size : length p ≡ n = length-take-le n l h in
+    let whole : p ++ drop n l ≡ l = take-append-drop n l in
+    let cut : stored p 0 x ≡ stored p 0 (take n x) =
+    ⊎_elim
+    (λ short. ap (stored p 0) (sym (take_all n x (omega (arith, short)))))
+    (λ long. sym (stored_room p 0 n x (omega (arith, long, size))))
+    (eq-zero-or-pos (length x - n)) in
+    let left = stored_left p (drop n l) 0 (take n x) (omega (arith, size, length-take n x)) in
+    ap (λ (k : List ℕ). k ++ drop n l) cut ∙ (sym left ∙ ap (λ (k : List ℕ). stored k 0 (take n x)) whole)

@@ -1,10 +1,13 @@
 -- Laws of zeros, splices and padded blocks.
 use mathlib.Core.Path.{◌≡◌, refl, sym, ap, ◌∙◌}
-use Prim.Native.Nat.{ℕ, ◌+◌, ◌-◌, ◌*◌, ◌≤◌, ◌<◌}
+use Prim.Native.Nat.{ℕ, zero, suc, ◌+◌, ◌-◌, ◌*◌, ◌≤◌, ◌<◌}
+use native.Mathlib.Numerals.{add-one}
+use native.Mathlib.Nat.{not-suc-le-zero, le_of_suc-le-suc}
 use native.Mathlib.Omega.{arith}
 use borrow.Rule.Slice.PartMut.{put_mid, mid_of}
-use mathlib.Core.List.{List, [], ◌++◌, append-nil}
-use lib.ListN.{length, take, drop, length-append, length-take, length-drop, drop_of_length-le, length-replicate, replicate-append-replicate}
+use borrow.Author.Fill.{fill_more}
+use mathlib.Core.List.{List, [], ◌∷◌, ◌++◌, append-nil}
+use lib.ListN.{length, get_or, set, take, drop, length-append, length-take, length-drop, drop_of_length-le, length-replicate, replicate-append-replicate}
 use lib.Seq.{paste, take_at, take-take, take-append-le, drop-drop, drop-append-le, drop-append-add}
 use Rattle.std.proofs.lemmas.List.{drop-take}
 use Rattle.std.proofs.lemmas.List.Edits.{paste_all, paste-paste}
@@ -112,6 +115,28 @@ pub sector-after : (l x : List ℕ) (c i : ℕ) → length l ≡ 2048 * c → ta
 sector-after l x c i size =
     let place : 2048 * (c + i) ≡ length l + 2048 * i = omega (arith, size) in
     ap (λ (n : ℕ). take 2048 (drop n (l ++ x))) place ∙ ap (take 2048) (drop-append-add l x (2048 * i))
+
+-- one turn of a copy
+copy_suc :
+    (s t : List ℕ) (i : ℕ) → i < length s → i < length t → set (take i s ++ drop i t) i (get_or s i 0) ≡ take (suc i) s ++ drop (suc i) t
+copy_suc [] t i h k = absurd (not-suc-le-zero h)
+copy_suc (x ∷ xs) [] i h k = absurd (not-suc-le-zero k)
+copy_suc (x ∷ xs) (y ∷ ys) zero h k = refl
+copy_suc (x ∷ xs) (y ∷ ys) (suc i) h k = ap (λ (l : List ℕ). x ∷ l) (copy_suc xs ys i (le_of_suc-le-suc h) (le_of_suc-le-suc k))
+
+pub copy_more :
+    (s t : List ℕ) (i : ℕ) → i < length s → i < length t
+    → set (take i s ++ drop i t) i (get_or s i 0) ≡ take (i + 1) s ++ drop (i + 1) t
+copy_more s t i h k = rw add-one (copy_suc s t i h k)
+
+-- one turn of the clearing
+pub zeros_none : (t : List ℕ) → t ≡ zeros 0 ++ drop 0 t
+unfolding zeros
+zeros_none t = refl
+
+pub zeros_more : (n : ℕ) (t : List ℕ) → n < length t → set (zeros n ++ drop n t) n 0 ≡ zeros (n + 1) ++ drop (n + 1) t
+unfolding zeros
+zeros_more n t h = fill_more n 0 t h
 
 -- the end of a slice lent to be cleared
 pub clear_end :

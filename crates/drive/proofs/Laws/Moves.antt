@@ -1,13 +1,18 @@
 -- Laws of the bytes of a WRITE, a flush and a fill.
-use mathlib.Core.Path.{◌≡◌, sym, ap, ◌∙◌}
-use Prim.Native.Nat.{ℕ, ◌+◌, ◌*◌, ◌/◌, ◌%◌, ◌≤◌}
+use mathlib.Core.Path.{◌≡◌, refl, sym, ap, ◌∙◌}
+use Prim.Native.Nat.{ℕ, ◌+◌, ◌-◌, ◌*◌, ◌/◌, ◌%◌, ◌≤◌}
 use native.Mathlib.Omega.{arith}
-use mathlib.Core.List.{List, [], ◌++◌, append_assoc}
+use mathlib.Core.List.{List, [], ◌∷◌, ◌++◌, append_assoc}
 use lib.ListN.{length, take, drop, length-drop}
 use lib.Seq.{drop-drop, take-add, drop-append-le, length-take-le}
 use Rattle.std.proofs.lemmas.Grind.{common_steps}
+use types.Run.{OneOf, miss}
+use denote.Enum.Declared.{tag_of}
+use Rattle.decisions.specs.contracts.plan.Transfer.{the_type}
+use Rattle.decisions.specs.Plan.{recording}
+use Rattle.drive.specs.Types.{Block, Option, Some, Flush, Transfer, Nothing, Send, Gather, Fill, Plan}
 use Rattle.drive.specs.Bytes.{zeros, splice, padded}
-use Rattle.drive.specs.Moves.{stream, gathered_medium, gathered_pending}
+use Rattle.drive.specs.Moves.{transferred_medium, transferred_pending, moved_medium, moved_pending, flushed_medium, flushed_pending, stream, gathered_medium, gathered_pending}
 use Rattle.drive.proofs.Laws.Bytes.{length-zeros, zeros_add, padded_nil, splice_nil, splice-splice, length-splice, length-padded, take-padded}
 
 -- what n sectors after those held come to
@@ -101,3 +106,31 @@ fill_more m medium medium₁ b i h e f =
 pub fill_none : (m : List ℕ) (a : ℕ) → m ≡ splice m a (zeros (32768 * 0))
 unfolding zeros
 fill_none m a = sym (splice_nil m a)
+
+-- a flush, from what its two steps leave
+pub flushed_record_lem :
+    (f : Option Flush) (b : Block) (n : ℕ) (m p medium pending : List ℕ) → f ≡ Some (recording b n) → length p ≡ 32768
+    → medium ≡ splice m (32768 * b.0) (padded (take (2048 * n - 0) p)) → pending ≡ zeros (length p)
+    → (medium ≡ flushed_medium f m p) × (pending ≡ flushed_pending f p)
+unfolding flushed_medium flushed_pending
+flushed_record_lem f b n m p medium pending e h d z =
+    let k : 2048 * n - 0 ≡ 2048 * n = omega arith in
+    (rw e (rw k at d), rw e (z ∙ (ap zeros h ∙ sym padded_nil)))
+
+-- a transfer that moves nothing of medium and pending buffer
+pub nothing_moved :
+    (t : Transfer) (m p x : List ℕ) → OneOf (0 ∷ 1 ∷ []) (tag_of the_type t)
+    → (m ≡ transferred_medium t m p x) × (p ≡ transferred_pending t p x)
+unfolding transferred_medium transferred_pending
+nothing_moved Nothing m p x h = (refl, refl)
+nothing_moved (Send a n i k) m p x h = (refl, refl)
+nothing_moved (Gather b q n) m p x h = absurd (miss (0 ∷ 1 ∷ []) 2 tt h)
+nothing_moved (Fill b n) m p x h = absurd (miss (0 ∷ 1 ∷ []) 3 tt h)
+
+-- a plan is its flush, then its transfer
+pub moved_both :
+    (w : Plan) (m p x m₁ p₁ m₂ p₂ : List ℕ) → m₁ ≡ flushed_medium w.flush m p → p₁ ≡ flushed_pending w.flush p
+    → m₂ ≡ transferred_medium w.transfer m₁ p₁ x → p₂ ≡ transferred_pending w.transfer p₁ x
+    → (m₂ ≡ moved_medium w m p x) × (p₂ ≡ moved_pending w p x)
+unfolding moved_medium moved_pending
+moved_both w m p x m₁ p₁ m₂ p₂ d e f g = (f ∙ rw (d, e), g ∙ rw e)

@@ -1,17 +1,20 @@
 -- The bytes that a reply sends, by the kind of transfer.
-use mathlib.Core.Path.{◌≡◌, sym, ap, ◌∙◌}
+use mathlib.Core.Path.{◌≡◌, refl, sym, ap, ◌∙◌}
 use Prim.Native.Nat.{ℕ, ◌+◌, ◌-◌, ◌≤◌}
 use native.Mathlib.Omega.{arith}
-use mathlib.Core.List.{List, ◌++◌}
+use mathlib.Core.List.{List, [], ◌∷◌, ◌++◌}
 use lib.ListN.{length, take, length-append}
 use Rattle.features.specs.declared.listing.Listing.{Listing}
 use Rattle.features.specs.Configuration.{listing}
 use Rattle.features.proofs.Laws.Configuration.{listing-first}
 use lib.Seq.{length-take-le}
 use Rattle.protocol.specs.Reply.{said, reply_bytes}
+use types.Run.{OneOf, miss}
+use denote.Enum.Declared.{tag_of}
+use Rattle.decisions.specs.contracts.plan.Transfer.{the_type}
 use Rattle.decisions.specs.Run.{sent_within, pending_within}
 use borrow.Author.Tests.{le-ltb}
-use Rattle.drive.specs.Types.{Lba, Reply, Transfer, Send}
+use Rattle.drive.specs.Types.{Lba, Reply, Transfer, Nothing, Send, Gather, Fill}
 use Rattle.drive.specs.Bytes.{splice}
 use Rattle.drive.specs.Reply.{sent_bytes, Sendable}
 use Rattle.drive.proofs.Laws.Bytes.{length-splice, splice-splice}
@@ -58,3 +61,13 @@ module _ (buffer first x y one two : List ℕ) (e : one ≡ x) (f : two ≡ y) (
         ∙ (splice-splice buffer 0 (length one) one two (omega arith) (omega arith)
         ∙ ap (splice buffer 0) (ap (λ (l : List ℕ). l ++ two) e ∙ ap (λ (l : List ℕ). x ++ l) f))),
   )
+
+-- every other command sends its report
+pub report-sent :
+    (t : Transfer) (r : Reply) (medium pending : List ℕ) → OneOf (0 ∷ 2 ∷ 3 ∷ []) (tag_of the_type t)
+    → reply_bytes r ≡ sent_bytes t r medium pending
+unfolding sent_bytes
+report-sent Nothing r medium pending h = refl
+report-sent (Send a n i k) r medium pending h = absurd (miss (0 ∷ 2 ∷ 3 ∷ []) 1 tt h)
+report-sent (Gather b p n) r medium pending h = refl
+report-sent (Fill b n) r medium pending h = refl

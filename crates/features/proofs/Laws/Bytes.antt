@@ -1,10 +1,11 @@
 -- Bytes stored one after another, before zeros.
-use Prim.Native.Nat.{ℕ, suc, ◌+◌}
+use Prim.Native.Nat.{ℕ, suc, ◌+◌, ◌<◌}
 use mathlib.Core.Path.{◌≡◌, refl, sym, ap, ◌∙◌}
 use mathlib.Core.List.{List, [], ◌∷◌, ◌++◌, append_assoc}
 use native.Mathlib.Omega.{arith}
-use lib.ListN.{length, set, length-set, length-append}
-use lib.Seq.{set-append_seam, append_snoc}
+use native.Mathlib.Numerals.{add-one}
+use lib.ListN.{length, take, set, get_or, length-set, length-append}
+use lib.Seq.{set-append_seam, append_snoc, length-take-le, take-suc}
 use Rattle.features.specs.Bytes.{stored}
 
 -- in two parts
@@ -28,13 +29,30 @@ stored-over x (a ∷ u) l (b ∷ y) h =
     ∙ (ap (λ (k : ℕ). stored ((x ++ (b ∷ [])) ++ (u ++ l)) k y) (sym longer)
     ∙ (stored-over (x ++ (b ∷ [])) u l y (omega (arith, h)) ∙ append_assoc x (b ∷ []) (y ++ l)))
 
--- four stores
+-- four stores, and eight bytes more in two parts
 pub stored_four : (l : List ℕ) (i a b c d : ℕ) → set (set (set (set l i a) (i + 1) b) (i + 2) c) (i + 3) d ≡ stored l i (a ∷ b ∷ c ∷ d ∷ [])
 unfolding stored
 stored_four l i a b c d =
     let two : i + 1 + 1 ≡ i + 2 = omega arith in
     let three : i + 2 + 1 ≡ i + 3 = omega arith in
     rw (two, three)
+
+pub stored_twelve :
+    (l : List ℕ) (i : ℕ) (x y z : List ℕ) {l₁ l₂ l₃ : List ℕ} → length x ≡ 4 → length y ≡ 4
+    → l₁ ≡ stored l i x → l₂ ≡ stored l₁ (i + 4) y → l₃ ≡ stored l₂ (i + 8) z → l₃ ≡ stored l i (x ++ (y ++ z))
+stored_twelve l i x y z hx hy e₁ e₂ e₃ =
+    let b : i + 8 ≡ i + length (x ++ y) = omega (arith, length-append x y) in
+    let two = e₂ ∙ (ap (λ (k : List ℕ). stored k (i + 4) y) e₁ ∙ (ap (λ (k : ℕ). stored (stored l i x) (i + k) y) (sym hx) ∙ stored_parts l i x y)) in
+    e₃ ∙ (ap (λ (k : List ℕ). stored k (i + 8) z) two ∙ (ap (λ (k : ℕ). stored (stored l i (x ++ y)) k z) b ∙ (stored_parts l i (x ++ y) z ∙ ap (stored l i) (append_assoc x y z))))
+
+-- one more
+pub stored_next :
+    (l : List ℕ) (i k d : ℕ) (x : List ℕ) → k < length x → set (stored l i (take k x)) (i + k) (get_or x k d) ≡ stored l i (take (k + 1) x)
+unfolding stored
+stored_next l i k d x h =
+    let size : k ≡ length (take k x) = sym (length-take-le k x (omega arith)) in
+    rw (add-one, take-suc x k d h)
+    (ap (λ (n : ℕ). set (stored l i (take k x)) (i + n) (get_or x k d)) size ∙ stored_parts l i (take k x) (get_or x k d ∷ []))
 
 pub length-stored : (l : List ℕ) (i : ℕ) (x : List ℕ) → length (stored l i x) ≡ length l
 unfolding stored

@@ -1,6 +1,6 @@
 -- Tests joined by `&&`, taken apart and put together; a proof by the two cases of a test.
 use mathlib.Core.Path.{◌≡◌, refl, sym, ◌∙◌, ap}
-use mathlib.Core.Bool.{Bool, true, false, cond, ◌&&◌, ◌||◌, and-eq-true_iff, false≢true, or-true}
+use mathlib.Core.Bool.{Bool, true, false, cond, ◌&&◌, ◌||◌, and-eq-true_iff, false≢true, or-true, or_assoc, or-false}
 
 pub and_left : (a b : Bool) → (a && b) ≡ true → a ≡ true
 and_left a b h = ((and-eq-true_iff a b).0 h).0
@@ -45,6 +45,12 @@ and_rows a b c d e f g h i j k l =
 pub by_cases {ℓ} : {P : Type ℓ} (b : Bool) → (b ≡ true → P) → (b ≡ false → P) → P
 by_cases true yes-case no-case = yes-case refl
 by_cases false yes-case no-case = no-case refl
+
+-- a row of tests joined from the left, as code joins them, and from the right, as a list of tests is joined
+pub or_row :
+    (t a b c d e f g h i j : Bool)
+    → (t || a || b || c || d || e || f || g || h || i || j) ≡ (t || (a || (b || (c || (d || (e || (f || (g || (h || (i || (j || false)))))))))))
+or_row t a b c d e f g h i j = simp (or_assoc, or-false)
 
 pub or_left : {a : Bool} (b : Bool) → a ≡ true → (a || b) ≡ true
 or_left b h = rw h

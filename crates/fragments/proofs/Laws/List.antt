@@ -1,7 +1,7 @@
 -- The list of records: its length, the records in use, tests of every record, and one step along it.
 use Prim.Native.Nat.{ℕ, zero, suc, ◌+◌, ◌≤◌, ◌<◌}
 use mathlib.Core.Path.{◌≡◌, refl, sym, ◌∙◌, ap}
-use mathlib.Core.Bool.{Bool, true, not, ◌&&◌, ◌||◌}
+use mathlib.Core.Bool.{Bool, true, false, not, ◌&&◌, ◌||◌}
 use mathlib.Core.List.{List, [], ◌∷◌, map}
 use native.Mathlib.Numerals.{add-one}
 use native.Mathlib.Omega.{arith}
@@ -138,16 +138,53 @@ listed_stop [] = refl
 listed_stop (f ∷ fs) =
     use_cases f (λ e. rw (listed_off f fs e) e) (λ e. rw (listed-on f fs e) (listed_stop fs))
 
--- one step along the records in use for a session's first one: a record of another session is passed by
+-- one step along the records in use: none in use there, or one, for a session's first record and for the highest readable address
 module _ (fs : List Fragment) (i : ℕ) (d : Fragment) (h : i < length fs) where
+  pub listed-drop-off : (get_or fs i d).length ≡ 0 → listed (drop i fs) ≡ []
+  listed-drop-off e = rw (drop-cons fs i d h) (listed_off (get_or fs i d) (drop (suc i) fs) e)
+
   pub listed-drop-on : ((get_or fs i d).length ≡ 0 → ⊥) → listed (drop i fs) ≡ get_or fs i d ∷ listed (drop (i + 1) fs)
   listed-drop-on e = rw (add-one, drop-cons fs i d h) (listed-on (get_or fs i d) (drop (suc i) fs) e)
 
+  pub session-off : (s n : ℕ) → (get_or fs i d).length ≡ 0 → first_of_session s n (listed (drop i fs)) ≡ n
+  unfolding first_of_session
+  session-off s n e = rw (listed-drop-off e)
+
+  pub session-here :
+      (s n : ℕ) → ((get_or fs i d).length ≡ 0 → ⊥) → (get_or fs i d).session ≡ s → first_of_session s n (listed (drop i fs)) ≡ n
+  unfolding first_of_session
+  session-here s n e t = rw (listed-drop-on e) (rw (eq-eqb _ _ t))
+
+  -- a record of another session is passed by
   pub session-on :
       (s n : ℕ) → ((get_or fs i d).length ≡ 0 → ⊥) → ((get_or fs i d).session ≡ s → ⊥)
       → first_of_session s n (listed (drop i fs)) ≡ first_of_session s (n + 1) (listed (drop (i + 1) fs))
   unfolding first_of_session
   session-on s n e t = rw (listed-drop-on e) (rw (ne_eqb _ _ t))
+
+  pub highest-off : (p o n : ℕ) → (get_or fs i d).length ≡ 0 → highest_readable p o n (listed (drop i fs)) ≡ lba 0
+  unfolding highest_readable
+  highest-off p o n e = rw (listed-drop-off e)
+
+  pub highest-more :
+      (p o n : ℕ) → ((get_or fs i d).length ≡ 0 → ⊥)
+      → highest_readable p o n (listed (drop i fs))
+      ≡ later (last_readable_of (pending_of p o n) (get_or fs i d)) (highest_readable p o (n + 1) (listed (drop (i + 1) fs)))
+  unfolding highest_readable
+  highest-more p o n e = rw (listed-drop-on e)
+
+-- and past the last record
+pub listed-drop-end : (fs : List Fragment) (i : ℕ) → length fs ≤ i → listed (drop i fs) ≡ []
+unfolding listed
+listed-drop-end fs i h = rw (drop_of_length-le fs h)
+
+pub session_end : (fs : List Fragment) (i s n : ℕ) → length fs ≤ i → first_of_session s n (listed (drop i fs)) ≡ n
+unfolding first_of_session
+session_end fs i s n h = rw (listed-drop-end fs i h)
+
+pub highest-past : (fs : List Fragment) (i p o n : ℕ) → length fs ≤ i → highest_readable p o n (listed (drop i fs)) ≡ lba 0
+unfolding highest_readable
+highest-past fs i p o n h = rw (listed-drop-end fs i h)
 
 -- the sum of the recorded blocks with one record changed
 pub sum-set :
@@ -206,6 +243,24 @@ highest-on fs i d h p o n = let e : i + 1 ≡ suc i = omega arith in rw (e, drop
 pub highest_end : (fs : List Fragment) (i p o n : ℕ) → length fs ≤ i → highest_readable p o n (drop i fs) ≡ lba 0
 unfolding highest_readable
 highest_end fs i p o n h = rw (drop_of_length-le fs h)
+
+-- a test that some record in use passes, one step along the list, and past the last record
+module _ (p : Fragment → Bool) (fs : List Fragment) (i : ℕ) (d : Fragment) (h : i < length fs) where
+  pub some-off : (get_or fs i d).length ≡ 0 → some p (listed (drop i fs)) ≡ false
+  unfolding some
+  some-off e = rw (listed-drop-off fs i d h e)
+
+  pub some-here : ((get_or fs i d).length ≡ 0 → ⊥) → p (get_or fs i d) ≡ true → some p (listed (drop i fs)) ≡ true
+  unfolding some
+  some-here e t = rw (listed-drop-on fs i d h e) (rw t)
+
+  pub some-on : ((get_or fs i d).length ≡ 0 → ⊥) → p (get_or fs i d) ≡ false → some p (listed (drop i fs)) ≡ some p (listed (drop (i + 1) fs))
+  unfolding some
+  some-on e t = rw (listed-drop-on fs i d h e) (rw t)
+
+pub some_end : (p : Fragment → Bool) (fs : List Fragment) (i : ℕ) → length fs ≤ i → some p (listed (drop i fs)) ≡ false
+unfolding some
+some_end p fs i h = rw (listed-drop-end fs i h)
 
 -- a test that some record passes, at an index and back
 pub some_cases :

@@ -1,14 +1,14 @@
 -- Words written and read one by one, records one by one, and that an encoded state is read back.
 use mathlib.Core.Path.{◌≡◌, refl, sym, ap, ◌∙◌}
-use Prim.Native.Nat.{ℕ, zero, suc, ◌+◌, ◌*◌, ◌≤◌, ◌<◌}
+use Prim.Native.Nat.{ℕ, zero, suc, ◌+◌, ◌-◌, ◌*◌, ◌≤◌, ◌<◌}
 use native.Mathlib.Numerals.{add-one}
 use native.Mathlib.Nat.{not-suc-le-zero, le_of_suc-le-suc}
 use native.Mathlib.Omega.{arith}
 use Rattle.std.proofs.lemmas.Bool.Decides.{nat_tests}
 use mathlib.Core.Bool.{Bool, true, false, ◌&&◌}
-use mathlib.Core.List.{List, [], ◌∷◌, ◌++◌}
-use lib.ListN.{length, get_or, set, take, drop, length-append, length-drop}
-use lib.Seq.{drop-cons, drop-drop, get_or-take, take_all, length-take-le}
+use mathlib.Core.List.{List, [], ◌∷◌, ◌++◌, append-nil}
+use lib.ListN.{length, get_or, set, take, drop, length-append, length-drop, drop_of_length-le}
+use lib.Seq.{drop-cons, drop-drop, get_or-take, take_all, length-take-le, sets, sets-eq}
 use lib.Dec.{eqb, ltb}
 use Rattle.std.specs.List.{list_all}
 use Rattle.std.specs.Simd.{first_chunks}
@@ -19,6 +19,10 @@ use Rattle.drive.specs.Bytes.{splice}
 use Rattle.drive.proofs.Laws.Bytes.{splice-splice, splice-end}
 use Rattle.gladhamre.specs.Types.{Kind, Reserved, Appended, Fragment, Disc}
 use Rattle.gladhamre.specs.Image.{image_length, flag_word, kind_word, kind_of, decode, word, record_of, record_words, list_of, list_fits, list_words, head_words, head_fits, encode, is_state, StateWords, records_of}
+
+-- as many words stored as there are: only they are left
+pub fill_all : (xs w : List ℕ) → length w ≡ length xs → sets w 0 xs ≡ xs
+fill_all xs w h = sets-eq xs w 0 (omega arith) ∙ rw (drop_of_length-le w {i = 0 + length xs} (omega arith)) (append-nil xs)
 
 -- the six words of a record, as the part of the image that is lent
 pub part_record : (v : List ℕ) → record_of (take 6 v) ≡ record_of v
@@ -31,6 +35,9 @@ drop-sum v a b c h = drop-drop a b v ∙ ap (λ (n : ℕ). drop n v) h
 -- the record at an index begins after the head and the records before it
 pub record_at : (w : List ℕ) (i : ℕ) → drop (7 + 6 * i) w ≡ drop (6 * i) (drop 7 w)
 record_at w i = sym (drop-sum w (6 * i) 7 (7 + 6 * i) refl)
+
+pub next_record : (v : List ℕ) (i : ℕ) → drop 6 (drop (6 * i) v) ≡ drop (6 * (i + 1)) v
+next_record v i = drop-sum v 6 (6 * i) (6 * (i + 1)) (omega arith)
 
 pub record_after : (v : List ℕ) (i : ℕ) → drop (6 * suc i) v ≡ drop (6 * i) (drop 6 v)
 record_after v i = sym (drop-sum v (6 * i) 6 (6 * suc i) (omega arith))
@@ -119,6 +126,15 @@ words_suc (suc i) (f ∷ fs) d h = ap (λ (l : List ℕ). record_words f ++ l) (
 pub words_more :
     (i : ℕ) (fs : List Fragment) (d : Fragment) → i < length fs → list_words (take i fs) ++ record_words (get_or fs i d) ≡ list_words (take (i + 1) fs)
 words_more i fs d h = rw add-one (words_suc i fs d h)
+
+-- the six words of a record by the place that they have in the image
+pub lent_part : (w : List ℕ) (i : ℕ) → take (7 + 6 * i + 6 - (7 + 6 * i)) (drop (7 + 6 * i) w) ≡ take 6 (drop (6 * i) (drop 7 w))
+lent_part w i =
+    let k : 7 + 6 * i + 6 - (7 + 6 * i) ≡ 6 = omega arith in
+    rw (k, record_at w i)
+
+pub lent_record : (w : List ℕ) (i : ℕ) → record_of (take (7 + 6 * i + 6 - (7 + 6 * i)) (drop (7 + 6 * i) w)) ≡ record_of (drop (6 * i) (drop 7 w))
+lent_record w i = ap record_of (lent_part w i) ∙ part_record (drop (6 * i) (drop 7 w))
 
 -- one turn of the writing
 pub write_more :

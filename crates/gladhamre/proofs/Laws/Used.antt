@@ -3,6 +3,7 @@ use mathlib.Core.Path.{◌≡◌, refl, sym, ap, ◌∙◌}
 use mathlib.Core.Bool.{Bool, true, false, cond, not, ◌&&◌}
 use mathlib.Core.List.{List, [], ◌∷◌, ◌++◌}
 use Prim.Native.Nat.{ℕ, zero, suc, ◌+◌, ◌-◌, ◌*◌, ◌≤◌, ◌<◌}
+use native.Mathlib.Numerals.{add-one}
 use native.Mathlib.Omega.{arith}
 use Rattle.std.proofs.lemmas.Bool.Decides.{nat_tests}
 use borrow.Author.Tests.{eq-eqb, ne_eqb, ltb-false}
@@ -11,8 +12,8 @@ use Rattle.std.specs.List.{fold, position, position_or_len}
 use Rattle.std.specs.Option.{unwrap_or}
 use Rattle.std.specs.Simd.{first_chunks}
 use lib.Dec.{eqb, ltb}
-use lib.ListN.{length, get_or, take, drop, replicate, length-drop}
-use lib.Seq.{get_or-take, take_all}
+use lib.ListN.{length, get_or, take, drop, replicate, length-drop, drop_of_length-le}
+use lib.Seq.{drop-cons, get_or-take, take_all}
 use Rattle.fragments.specs.Fragment.{unused_record, is_reserved, is_zero}
 use Rattle.fragments.specs.List.{limit, every}
 use Rattle.fragments.proofs.Laws.Bool.{and_left, and_right, and_both, and-false, and_true, and_assoc, by_cases, cond_yes, cond_no}
@@ -23,7 +24,7 @@ use Rattle.gladhamre.specs.Types.{Fragment}
 use Rattle.std.specs.Prelude.{None, Some}
 use Rattle.gladhamre.specs.Image.{image_length, word, kind_of, record_of, record_fits, list_of, list_fits, head_fits, decode, is_state, records_of}
 use Rattle.gladhamre.specs.Used.{record_used, used_of, used_in, all_zero, words_of, Taken}
-use Rattle.gladhamre.proofs.Laws.Image.{record_at, record_after, six_words, state-words, length-chunks, record-at}
+use Rattle.gladhamre.proofs.Laws.Image.{record_at, next_record, record_after, lent_part, six_words, state-words, length-chunks, record-at}
 
 -- the words joined by `or`
 zero_from : (w : List ℕ) (a : ℕ) → eqb (fold bit_or a w) 0 ≡ (eqb a 0 && all_zero w)
@@ -34,9 +35,51 @@ zero_from (x ∷ w) a = zero_from w (bit_or a x) ∙ rw or_zero (sym (and_assoc 
 pub zero_fold : (w : List ℕ) → eqb (fold bit_or 0 w) 0 ≡ all_zero w
 zero_fold w = zero_from w 0
 
+-- one word more, and all: `all` joins the first i words
+pub zero_more :
+    (w : List ℕ) (i all : ℕ) → i < length w → all_zero w ≡ (eqb all 0 && all_zero (drop i w))
+    → all_zero w ≡ (eqb (bit_or all (word w i)) 0 && all_zero (drop (i + 1) w))
+unfolding all_zero
+zero_more w i all h so =
+    so ∙ rw (or_zero, add-one, drop-cons w i 0 h) (and_assoc (eqb all 0) (eqb (word w i) 0) (all_zero (drop (suc i) w)))
+
+pub zero_all : (w : List ℕ) (i all : ℕ) → length w ≤ i → all_zero w ≡ (eqb all 0 && all_zero (drop i w)) → eqb all 0 ≡ all_zero w
+unfolding all_zero
+zero_all w i all h so = sym (so ∙ rw (drop_of_length-le w {i = i} h) (and_true (eqb all 0)))
+
 -- the six words of a record, as the part of the image that is lent
 part_used : (v : List ℕ) → record_used (take 6 v) ≡ record_used v
 part_used v = rw (get_or-take 6 v 0 0 (omega arith), get_or-take 6 v 2 0 (omega arith), get_or-take 6 v 5 0 (omega arith))
+
+pub lent-used : (w : List ℕ) (i : ℕ) → record_used (take (7 + 6 * i + 6 - (7 + 6 * i)) (drop (7 + 6 * i) w)) ≡ record_used (drop (6 * i) (drop 7 w))
+lent-used w i = ap record_used (lent_part w i) ∙ part_used (drop (6 * i) (drop 7 w))
+
+-- records counted up to index i, which is in use or is not
+used_step :
+    (n i : ℕ) (v : List ℕ) → i < n
+    → used_of (n - i) (drop (6 * i) v) ≡ cond (record_used (drop (6 * i) v)) (suc (used_of (n - (i + 1)) (drop (6 * (i + 1)) v))) 0
+unfolding used_of
+used_step n i v h =
+    let k : n - i ≡ suc (n - (i + 1)) = omega arith in
+    rw (k, next_record v i)
+
+module _ (n i : ℕ) (v : List ℕ) (so : used_of n v ≡ i + used_of (n - i) (drop (6 * i) v)) where
+  pub used-more : i < n → record_used (drop (6 * i) v) ≡ true → used_of n v ≡ i + 1 + used_of (n - (i + 1)) (drop (6 * (i + 1)) v)
+  used-more h t =
+      let e : used_of (n - i) (drop (6 * i) v) ≡ suc (used_of (n - (i + 1)) (drop (6 * (i + 1)) v)) = used_step n i v h ∙ cond_yes _ _ _ t in
+      omega arith
+
+  pub used-stop : i < n → record_used (drop (6 * i) v) ≡ false → i ≡ used_of n v
+  used-stop h t =
+      let e : used_of (n - i) (drop (6 * i) v) ≡ 0 = used_step n i v h ∙ cond_no _ _ _ t in
+      omega arith
+
+  pub used_all : i ≡ n → i ≡ used_of n v
+  unfolding used_of
+  used_all h =
+      let k : n - i ≡ 0 = omega arith in
+      let e : used_of n v ≡ i + 0 = rw k at so in
+      omega arith
 
 -- where the first record that is not in use stands
 first_unused : (n : ℕ) (v : List ℕ) → position_or_len (λ r. not (record_used r)) (first_chunks 6 n v) ≡ used_of n v

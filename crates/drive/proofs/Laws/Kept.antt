@@ -25,12 +25,8 @@ use Rattle.decisions.specs.Plan.{recording}
 outside_blocks : (b n i : ℕ) → (b ≤ i / 32768 → i / 32768 < b + n → ⊥) → (i < 32768 * b) ⊎ (32768 * b + 32768 * n ≤ i)
 outside_blocks b n i h = grind arith
 
--- how many sectors a flush records
-abbrev sectors-flushed : Flush → ℕ
-sectors-flushed f = f.sectors
-
--- a block of sectors, of which some may be missing
-sectors-padded : (n : ℕ) (p : List ℕ) → n ≤ 16 → length (padded (take (2048 * n) p)) ≡ 32768
+-- a block of sectors of which some are missing
+sectors-padded : (n : ℕ) (p : List ℕ) → n < 16 → length (padded (take (2048 * n) p)) ≡ 32768
 sectors-padded n p h = length-padded (take (2048 * n) p) (grind (arith, common_steps))
 
 -- lengths stay
@@ -38,8 +34,8 @@ pub length-flushed_medium : (f : Option Flush) (m p : List ℕ) → length p ≡
 unfolding flushed_medium
 length-flushed_medium None m p h w = refl
 length-flushed_medium (Some f) m p h w =
-    let l = sectors-padded (sectors-flushed f) p (omega arith) in
-    length-splice m (32768 * f.block.0) (padded (take (2048 * sectors-flushed f) p)) (omega (arith, l, w.2))
+    let l = sectors-padded f.sectors p (omega arith) in
+    length-splice m (32768 * f.block.0) (padded (take (2048 * f.sectors) p)) (omega (arith, l, w.2))
 
 pub length-flushed_pending : (f : Option Flush) (p : List ℕ) → length p ≡ 32768 → length (flushed_pending f p) ≡ 32768
 unfolding flushed_pending
@@ -70,9 +66,9 @@ pub flushed_kept :
 unfolding flushed_medium flushes
 flushed_kept None m p i h w none = refl
 flushed_kept (Some f) m p i h w none =
-    let l = sectors-padded (sectors-flushed f) p (omega arith) in
+    let l = sectors-padded f.sectors p (omega arith) in
     let out = outside_blocks f.block.0 1 i (λ u v. contradiction (eq-eqb (i / 32768) f.block.0 (omega arith)) none) in
-    kept_splice m (32768 * f.block.0) (padded (take (2048 * sectors-flushed f) p)) i (omega (arith, w.2))
+    kept_splice m (32768 * f.block.0) (padded (take (2048 * f.sectors) p)) i (omega (arith, w.2))
     (⊎_elim (λ u. inl u) (λ u. inr (omega (arith, l, u))) out)
 
 pub transferred_kept :
@@ -133,9 +129,9 @@ module _ (R : ℕ → Type 0) (m n p q : List ℕ) (hp : length p ≡ 32768) (hq
   unfolding flushed_medium flushes
   flushed-agree None w payload = λ i r. ⊎_elim (λ u. same i u) (λ u. absurd (contradiction u refl)) r
   flushed-agree (Some f) w sectors =
-      let x = padded (take (2048 * sectors-flushed f) p) in
-      let y : padded (take (2048 * sectors-flushed f) q) ≡ x = ap padded (sym (sectors f.block f.sectors refl)) in
-      let l = sectors-padded (sectors-flushed f) p (omega arith) in
+      let x = padded (take (2048 * f.sectors) p) in
+      let y : padded (take (2048 * f.sectors) q) ≡ x = ap padded (sym (sectors f.block f.sectors refl)) in
+      let l = sectors-padded f.sectors p (omega arith) in
       rw y
       (agree_splice R (λ i. (R i) ⊎ (eqb (i / 32768) f.block.0 ≡ true)) m n (32768 * f.block.0) x (omega (arith, w.2)) (omega (arith, w.2, hm))
       (λ i r out. ⊎_elim (λ u. u) (λ u. absurd (let e = eqb-true (i / 32768) f.block.0 u in ⊎_elim (λ v. omega (arith, e, v)) (λ v. omega (arith, e, v, l)) out)) r) same)

@@ -92,7 +92,7 @@ module _
 pub few_medium : (b held k : ℕ) (m p x : List ℕ) → held + k < 16 → m ≡ gathered_medium b held k m p x
 few_medium b held k m p x few = few-medium held k p x few b m
 
--- and are pending after those held: in a buffer of any length, its end cleared or not
+-- and are pending after those held: in a buffer of any length, before its end is cleared
 pub few_pending :
     (held k : ℕ) (p x q : List ℕ) → 2048 * held ≤ length p → length x ≡ 2048 * k → held + k < 16 → q ≡ splice p (2048 * held) x
     → take (2048 * ((held + k) % 16)) q ≡ take (2048 * ((held + k) % 16)) (gathered_pending held k p x)

@@ -9,8 +9,11 @@ fn stretch_within<'a>(first: u64, sectors: u32, bytes: &'a [u8]) -> &'a [u8]
     ensures { result.now ≡ stretch_within first sectors bytes.now }
 {
     let end = (bytes.len() / protocol::SECTOR_LENGTH) as u64;
-    if first > end || end - first < u64::from(sectors) {
-        return &[];
+    if first > end {
+        return &bytes[..0];
+    }
+    if end - first < u64::from(sectors) {
+        return &bytes[..0];
     }
     let from = protocol::SECTOR_LENGTH * (first as usize);
     let to = from + protocol::SECTOR_LENGTH * (sectors as usize);
@@ -30,7 +33,7 @@ impl Transfer {
                 recorded,
                 ..
             } => stretch_within(address.0, recorded, medium),
-            _ => &[],
+            _ => &medium[..0],
         }
     }
 
@@ -46,7 +49,7 @@ impl Transfer {
                 pending,
                 buffer,
             ),
-            _ => &[],
+            _ => &buffer[..0],
         }
     }
 }

@@ -14,9 +14,9 @@ impl Disc {
             return self.owner == 0;
         }
         let owner = usize::from(self.owner);
-        fragments::whole_blocks(usize::from(self.pending)) == 0
-            && (1..=Disc::LIMIT).contains(&owner)
-            && !self.numbered(owner).is_complete()
+        (fragments::whole_blocks(usize::from(self.pending)) == 0)
+            & (1..=Disc::LIMIT).contains(&owner)
+            & !self.numbered(owner).is_complete()
     }
 
     // The list is sound.
@@ -25,7 +25,7 @@ impl Disc {
         ensures { result ≡ sound self }
     {
         fragments::list_is_sound(self.capacity, self.finalized, self.fragments)
-            && self.owner_is_incomplete()
+            & self.owner_is_incomplete()
     }
 
     // The list is sound and the sense is one that a command can leave.
@@ -33,6 +33,6 @@ impl Disc {
     pub fn is_allowed(self) -> bool
         ensures { result ≡ allowed_state self }
     {
-        self.is_sound() && self.sense.is_allowed()
+        self.is_sound() & self.sense.is_allowed()
     }
 }

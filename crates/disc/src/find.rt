@@ -58,7 +58,7 @@ impl Disc {
     pub fn is_blank(self, number: usize, f: Fragment) -> bool
         ensures { result ≡ is_blank self number f }
     {
-        f.recorded == 0 && self.pending_in(number) == 0
+        (f.recorded == 0) & (self.pending_in(number) == 0)
     }
 
     // The next writable address of the fragment with a number.
@@ -86,13 +86,13 @@ impl Disc {
     pub fn is_blank_tail(self, last: Entry) -> bool
         ensures { result ≡ is_blank_tail self last }
     {
-        last.fragment.is_tail() && self.is_blank(last.number, last.fragment)
+        last.fragment.is_tail() & self.is_blank(last.number, last.fragment)
     }
 
     // The same, and it is its session's one record.
     pub fn is_only_tail(self, last: Entry) -> bool
         ensures { result ≡ is_only_tail self last }
     {
-        self.is_blank_tail(last) && self.first_of_session(last.fragment.session) == last.number
+        self.is_blank_tail(last) & (self.first_of_session(last.fragment.session) == last.number)
     }
 }

@@ -1,5 +1,5 @@
 -- The search for the fragment that an address lies in, computed: what it finds, and which records it looks at on the way.
-use Rattle.std.specs.Prelude.{ℕ, zero, suc, ◌+◌, ◌-◌, ◌*◌, ◌≤◌, ◌≡◌, refl, true, false, List, [], ◌∷◌, ◌++◌, map, replicate}
+use Rattle.std.specs.Prelude.{ℕ, zero, suc, ◌+◌, ◌-◌, ◌*◌, ◌≤◌, ◌≡◌, refl, true, false, List, [], ◌∷◌, ◌++◌, map, replicate, Bool, is_some}
 use Rattle.examples.specs.Types.{Lba, Fragment, Appended, Reserved, Option, Some, None, Entry, Disc, Left, Right, Here}
 use Rattle.fragments.specs.Address.{lba}
 use Rattle.fragments.specs.Fragment.{fragment, unused_record}
@@ -34,16 +34,22 @@ record_of None = unused_record
 abbrev number : List Fragment → ℕ → ℕ
 number fs a = number_of (finds fs (halving (lba a)))
 
+-- whether anything is found: an entry under 0 has the number and may have the record of nothing
+abbrev found : List Fragment → ℕ → Bool
+found fs a = is_some (finds fs (halving (lba a)))
+
 -- first and last sectors, the dividing block, Closure and Intro, the end of the disc and addresses past it; the record comes with its number
 pub few_records :
     (map (number three) (0 ∷ 31 ∷ 32 ∷ 47 ∷ 48 ∷ 79 ∷ 80 ∷ 1104 ∷ 2127 ∷ 2128 ∷ 4799 ∷ 4800 ∷ 0xFFFFFFFF ∷ [])
     ≡ (1 ∷ 1 ∷ 0 ∷ 0 ∷ 2 ∷ 2 ∷ 0 ∷ 0 ∷ 0 ∷ 3 ∷ 3 ∷ 0 ∷ 0 ∷ []))
+    × (map (found three) (0 ∷ 31 ∷ 32 ∷ 47 ∷ 48 ∷ 79 ∷ 80 ∷ 1104 ∷ 2127 ∷ 2128 ∷ 4799 ∷ 4800 ∷ 0xFFFFFFFF ∷ [])
+    ≡ (true ∷ true ∷ false ∷ false ∷ true ∷ true ∷ false ∷ false ∷ false ∷ true ∷ true ∷ false ∷ false ∷ []))
     × (map (λ a. (record_of (finds three (halving (lba a)))).start.0) (0 ∷ 48 ∷ 80 ∷ 4799 ∷ []) ≡ (0 ∷ 3 ∷ 0 ∷ 133 ∷ []))
     × (map (λ a. (record_of (finds three (halving (lba a)))).length) (0 ∷ 48 ∷ 80 ∷ 4799 ∷ []) ≡ (2 ∷ 2 ∷ 0 ∷ 167 ∷ []))
     × (seen three (halving (lba 0)) ≡ (80 ∷ 40 ∷ 20 ∷ 10 ∷ 5 ∷ 2 ∷ 1 ∷ 0 ∷ []))
     × (seen three (halving (lba 80)) ≡ (80 ∷ 40 ∷ 20 ∷ 10 ∷ 5 ∷ 2 ∷ 1 ∷ []))
 unfolding finds seen halve
-few_records = (refl, refl, refl, refl, refl)
+few_records = (refl, refl, refl, refl, refl, refl)
 
 -- the numbers below n
 unfoldable pub indices : ℕ → List ℕ
@@ -54,8 +60,9 @@ indices (suc n) = indices n ++ (n ∷ [])
 pub every_record :
     (map (λ i. number full_of_tail (32 * i)) (indices limit) ≡ map (λ i. i + 1) (indices limit))
     × (map (λ i. number full_of_tail (32 * i + 16)) (indices (limit - 1)) ≡ replicate (limit - 1) 0)
+    × (map (λ i. found full_of_tail (32 * i + 16)) (indices (limit - 1)) ≡ replicate (limit - 1) false)
 unfolding finds halve column indices
-every_record = (refl, refl)
+every_record = (refl, refl, refl)
 
 -- the last one is found by the seventh look, and an address past its end is found nowhere after seven; the first one needs eight
 pub looks_needed :
@@ -63,9 +70,10 @@ pub looks_needed :
     × (sought full_of_tail (halving (lba (16 * (last_start + 130)))) ≡ record { holder = None; looks = 7 })
     × (seen full_of_tail (halving (lba 0)) ≡ (80 ∷ 40 ∷ 20 ∷ 10 ∷ 5 ∷ 2 ∷ 1 ∷ 0 ∷ []))
     × (number_of (finds full_of_tail (halve 8 (lba 0) 0 limit)) ≡ 1) × (number_of (finds full_of_tail (halve 7 (lba 0) 0 limit)) ≡ 0)
+    × (is_some (finds full_of_tail (halve 7 (lba 0) 0 limit)) ≡ false)
     × (enough ≡ 8)
 unfolding finds seen halve column
-looks_needed = (refl, refl, refl, refl, refl, refl)
+looks_needed = (refl, refl, refl, refl, refl, refl, refl)
 
 -- what the reader's statement says of a disc with those three fragments, drawn from it as a hypothesis: a weaker statement would not do
 abbrev disc : Disc

@@ -1,13 +1,13 @@
-// The check of the records against the rules of a sound list: along those in use, then along the rest.
+// The check of the records against the rules of a sound list, in one pass: along those in use, then along the rest.
 // It is total: the fields may hold any numbers, and no sum wraps.
 ghost use Rattle.std.specs.Prelude.{◌≡◌, ◌&&◌};
 ghost use Rattle.fragments.specs.Fragment.{is_zero};
 ghost use Rattle.fragments.specs.List.{every};
-ghost use Rattle.fragments.specs.Check.{within, begins_list, continues, open_after, ends_list, in_use_sound, list_sound};
+ghost use Rattle.fragments.specs.Check.{within, begins_list, continues, open_after, ends_list, list_sound};
 
 use crate::address::{self, Block, WideBlock};
-use crate::fragment::Fragment;
-use crate::list::{LIMIT, in_use};
+use crate::fragment::{Fragment, Kind};
+use crate::list::LIMIT;
 
 impl Fragment {
     // The fields of both joined bit by bit: all zero where those of both are.
@@ -15,10 +15,10 @@ impl Fragment {
         ensures { is_zero result ≡ (is_zero self && is_zero other) }
     {
         // No `max` of the kinds: along a list each turn waits for the one before then, and a command on a short list takes a sixth longer (host/bench).
-        let kind = if other.kind.is_reserved() {
-            self.kind
-        } else {
+        let kind = if self.kind.is_reserved() {
             other.kind
+        } else {
+            Kind::Appended
         };
         Fragment {
             start: Block(self.start.0 | other.start.0),
@@ -74,30 +74,8 @@ impl Fragment {
         if self.is_tail() {
             return self.end().0 == u64::from(capacity);
         }
-        full || u64::from(capacity) <= self.end().0 + 1
+        full | (u64::from(capacity) <= self.end().0 + 1)
     }
-}
-
-// The rules of the records in use; `full` says that no record is free.
-fn in_use_is_sound(capacity: u32, finalized: bool, full: bool, records: &[Fragment]) -> bool
-    ensures { result ≡ in_use_sound capacity finalized full records.now }
-{
-    let [first, others @ ..] = records else {
-        return false;
-    };
-    if !(first.begins_list() & first.is_within(capacity)) {
-        return false;
-    }
-    let mut before = *first;
-    let mut incomplete = !first.is_complete();
-    for f in others {
-        if !(f.is_within(capacity) & f.continues(before, incomplete)) {
-            return false;
-        }
-        incomplete = f.leaves_open(before, incomplete);
-        before = *f;
-    }
-    before.ends_list(capacity, finalized, full, incomplete)
 }
 
 // Every field of every record is zero. The bits are joined, so that no record makes a branch.
@@ -111,11 +89,28 @@ fn are_zero(records: &[Fragment]) -> bool
     joined == Fragment::unused()
 }
 
-// The rules that speak of the records alone, for a disc of a capacity that is finalized or not.
+// The rules that speak of the records alone, for a disc of a capacity that is finalized or not, in one pass: a record is tried as one in use or,
+// from the first one without a length on, as one of the rest. The one before is read where it stands: a copy carried along takes longer.
 pub fn list_is_sound(capacity: u32, finalized: bool, fragments: [Fragment; LIMIT]) -> bool
     ensures { result ≡ list_sound capacity finalized fragments }
 {
-    let records = in_use(&fragments);
-    let rest = &fragments[records.len()..];
-    in_use_is_sound(capacity, finalized, rest.is_empty(), records) && are_zero(rest)
+    let [first, others @ ..] = &fragments[..] else {
+        return false;
+    };
+    if !(first.begins_list() & first.is_within(capacity)) {
+        return false;
+    }
+    let mut incomplete = !first.is_complete();
+    for (index, f) in others.iter().enumerate() {
+        let before = &fragments[index];
+        if f.length == 0 {
+            return before.ends_list(capacity, finalized, false, incomplete)
+                & are_zero(&others[index..]);
+        }
+        if !(f.is_within(capacity) & f.continues(*before, incomplete)) {
+            return false;
+        }
+        incomplete = f.leaves_open(*before, incomplete);
+    }
+    fragments[LIMIT - 1].ends_list(capacity, finalized, true, incomplete)
 }

@@ -67,8 +67,9 @@ pub fn pending_of(pending: u8, owner: u8, number: usize) -> u8
 pub fn first_of_session(fragments: [Fragment; LIMIT], session: u8) -> usize
     ensures { result ≡ first_of_session session 1 (listed fragments) }
 {
-    let before = in_use(&fragments)
+    let before = fragments
         .iter()
+        .take_while(|f| f.length != 0)
         .take_while(|f| f.session != session);
     before.count() + 1
 }
@@ -77,8 +78,9 @@ pub fn first_of_session(fragments: [Fragment; LIMIT], session: u8) -> usize
 pub fn has_incomplete_reserved(fragments: [Fragment; LIMIT]) -> bool
     ensures { result ≡ some is_incomplete_reserved (listed fragments) }
 {
-    in_use(&fragments)
+    fragments
         .iter()
+        .take_while(|f| f.length != 0)
         .any(|f| f.is_incomplete_reserved())
 }
 

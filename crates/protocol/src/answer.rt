@@ -29,8 +29,8 @@ impl Sense {
     pub fn is_allowed(self) -> bool
         ensures { result ≡ allowed_sense self }
     {
-        self == Sense::none()
-            || DriveRefusal::ALL
+        (self == Sense::none())
+            | DriveRefusal::ALL
                 .iter()
                 .any(|refusal| self == refusal.sense())
     }

@@ -95,6 +95,6 @@ impl Command {
     pub fn lengths_fit(self, data: usize, reply: usize) -> bool
         ensures { result ≡ lengths_fit self «data» reply }
     {
-        data == self.data_length() && self.reply_room() <= reply
+        (data == self.data_length()) & (self.reply_room() <= reply)
     }
 }

@@ -10,10 +10,6 @@ pub returns-then-is_tail : goal.returns-then-is_tail
 unfolding ends_list
 returns-then-is_tail c = search rules
 
-pub returns-then-full : goal.returns-then-full
+pub returns : goal.returns
 unfolding ends_list
-returns-then-full c = search rules
-
-pub returns-else-full : goal.returns-else-full
-unfolding ends_list
-returns-else-full c = search rules
+returns c = search rules

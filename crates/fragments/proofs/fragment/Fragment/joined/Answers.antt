@@ -1,7 +1,5 @@
 use Rattle.std.proofs.Common.{◌≡◌, ◌&&◌, sym, ◌∙◌}
-use mathlib.Core.Bool.{and-false}
 use Rattle.fragments.specs.Fragment.{is_reserved}
-use Rattle.fragments.proofs.Laws.Bool.{and_true}
 use Rattle.fragments.proofs.Laws.Check.{joined_zero}
 use Rattle.fragments.proofs.fragment.Fragment.joined.Goals as goal
 use Rattle.fragments.proofs.fragment.Fragment.joined.Goals.{then-is_reserved, else-is_reserved}
@@ -12,9 +10,11 @@ returns c =
     let b = c.args.other.kind in
     let kind =
     elim c.if-is_reserved.branch as (λ _. is_reserved c.if-is_reserved.kind ≡ (is_reserved a && is_reserved b)) [
-      | then-is_reserved t ↦ rw (t.kind-is, sym c.is_reserved.ensures ∙ t.if-is_reserved.true) (sym (and_true (is_reserved a)))
+      | then-is_reserved t ↦
+          let reserved = sym c.is_reserved.ensures ∙ t.if-is_reserved.true in
+          rw (t.kind-is, reserved)
       | else-is_reserved t ↦
           let no = sym c.is_reserved.ensures ∙ t.if-is_reserved.false in
-          rw (t.kind-is, no) (sym (and-false (is_reserved a)))
+          rw (t.kind-is, no)
     ] in
     joined_zero c.args.self c.args.other c.if-is_reserved.kind kind

@@ -35,14 +35,14 @@ abbrev number : List Fragment → ℕ → ℕ
 number fs a = number_of (finds fs (halving (lba a)))
 
 -- whether anything is found: an entry under 0 has the number and may have the record of nothing
-abbrev found : List Fragment → ℕ → Bool
-found fs a = is_some (finds fs (halving (lba a)))
+abbrev is_found : List Fragment → ℕ → Bool
+is_found fs a = is_some (finds fs (halving (lba a)))
 
 -- first and last sectors, the dividing block, Closure and Intro, the end of the disc and addresses past it; the record comes with its number
 pub few_records :
     (map (number three) (0 ∷ 31 ∷ 32 ∷ 47 ∷ 48 ∷ 79 ∷ 80 ∷ 1104 ∷ 2127 ∷ 2128 ∷ 4799 ∷ 4800 ∷ 0xFFFFFFFF ∷ [])
     ≡ (1 ∷ 1 ∷ 0 ∷ 0 ∷ 2 ∷ 2 ∷ 0 ∷ 0 ∷ 0 ∷ 3 ∷ 3 ∷ 0 ∷ 0 ∷ []))
-    × (map (found three) (0 ∷ 31 ∷ 32 ∷ 47 ∷ 48 ∷ 79 ∷ 80 ∷ 1104 ∷ 2127 ∷ 2128 ∷ 4799 ∷ 4800 ∷ 0xFFFFFFFF ∷ [])
+    × (map (is_found three) (0 ∷ 31 ∷ 32 ∷ 47 ∷ 48 ∷ 79 ∷ 80 ∷ 1104 ∷ 2127 ∷ 2128 ∷ 4799 ∷ 4800 ∷ 0xFFFFFFFF ∷ [])
     ≡ (true ∷ true ∷ false ∷ false ∷ true ∷ true ∷ false ∷ false ∷ false ∷ true ∷ true ∷ false ∷ false ∷ []))
     × (map (λ a. (record_of (finds three (halving (lba a)))).start.0) (0 ∷ 48 ∷ 80 ∷ 4799 ∷ []) ≡ (0 ∷ 3 ∷ 0 ∷ 133 ∷ []))
     × (map (λ a. (record_of (finds three (halving (lba a)))).length) (0 ∷ 48 ∷ 80 ∷ 4799 ∷ []) ≡ (2 ∷ 2 ∷ 0 ∷ 167 ∷ []))
@@ -60,7 +60,7 @@ indices (suc n) = indices n ++ (n ∷ [])
 pub every_record :
     (map (λ i. number full_of_tail (32 * i)) (indices limit) ≡ map (λ i. i + 1) (indices limit))
     × (map (λ i. number full_of_tail (32 * i + 16)) (indices (limit - 1)) ≡ replicate (limit - 1) 0)
-    × (map (λ i. found full_of_tail (32 * i + 16)) (indices (limit - 1)) ≡ replicate (limit - 1) false)
+    × (map (λ i. is_found full_of_tail (32 * i + 16)) (indices (limit - 1)) ≡ replicate (limit - 1) false)
 unfolding finds halve column indices
 every_record = (refl, refl, refl)
 

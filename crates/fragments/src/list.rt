@@ -64,6 +64,7 @@ pub fn pending_of(pending: u8, owner: u8, number: usize) -> u8
 }
 
 // The number of a session's first record; one more than the last record's where it has none. No Option: `first_of_session` holds that number.
+// One walk, here and in the next function, which ends at the hit: `in_use` would go along all of them first.
 pub fn first_of_session(fragments: [Fragment; LIMIT], session: u8) -> usize
     ensures { result ≡ first_of_session session 1 (listed fragments) }
 {

@@ -57,7 +57,7 @@ list-is (f ∷ fs) c fin =
     ∙ (and_assoc (begins_list f && within c f) (walk_in_use c fin (eqb (length (rest fs)) 0) (not (complete f)) f (listed fs)) (every is_zero (rest fs))
     ∙ rw (listed-on f fs e)))
 
--- the same of the parts that the code has made
+-- the same of two parts that are given
 pub list-parts :
     (fs rs part : List Fragment) (c : ℕ) (fin empty sound : Bool)
     → rs ≡ listed fs → part ≡ drop (length rs) fs → empty ≡ eqb (length part) 0 → sound ≡ in_use_sound c fin empty rs

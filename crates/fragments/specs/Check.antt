@@ -1,4 +1,4 @@
--- The check of the list as one walk along the records, and at the end in two parts, as the code makes it. A law of the disc has that it is
+-- The check of the list as one walk along the records, and at the end in two parts. A law of the disc has that it is
 -- the rules of a sound list, joined (`check_sound`): a reader who believes those need not believe this file.
 use Rattle.std.specs.Prelude.{ℕ, ◌+◌, Bool, true, false, not, cond, ◌&&◌, ◌||◌, List, [], ◌∷◌, eqb, leb}
 use Rattle.fragments.specs.Types.{Fragment}
@@ -41,7 +41,7 @@ unfoldable pub list_sound : ℕ → Bool → List Fragment → Bool
 list_sound capacity fin [] = false
 list_sound capacity fin (f ∷ fs) = begins_list f && within capacity f && walk capacity fin (not (complete f)) f fs
 
--- the same rules in two parts, as the code goes along them: those of the records in use, of which p is the one before, and that the rest is zero
+-- the same rules in two parts: those of the records in use, of which p is the one before, and that the rest is zero
 unfoldable pub walk_in_use : ℕ → Bool → Bool → Bool → Fragment → List Fragment → Bool
 walk_in_use capacity fin full o p [] = ends_list capacity fin full o p
 walk_in_use capacity fin full o p (f ∷ fs) = within capacity f && continues o p f && walk_in_use capacity fin full (open_after o p f) f fs

@@ -82,7 +82,10 @@ impl Lba {
     pub fn passes(self, sectors: u32, end: Lba) -> bool
         ensures { result ≡ passes self sectors «end» }
     {
-        self > end || end.0 - self.0 < u64::from(sectors)
+        if self > end {
+            return true;
+        }
+        end.0 - self.0 < u64::from(sectors)
     }
 
     // Of a run of sectors, how many lie before an end.

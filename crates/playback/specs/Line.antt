@@ -23,7 +23,7 @@ pub record Printed (text : List ℕ) (r : Line) : Type 0 where
   pub line : r ≡ line_of text
   pub fits : r.length ≤ length r.bytes
 
--- of a last line, if there is one
+-- of a last line, if there is one: there is none where there is no text, and then alone
 abbrev pub LastPrinted : List ℕ → Option Line → Type 0
 LastPrinted text None = text ≡ []
-LastPrinted text (Some l) = Printed text l
+LastPrinted text (Some l) = Printed text l × (text ≡ [] → ⊥)

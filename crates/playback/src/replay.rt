@@ -47,7 +47,7 @@ impl Replay {
     }
 
     // The last line, by what stands in the trace where the records end: none at its end.
-    #[tactic(auto, unfolding(crate::specs::Replay::last_text))]
+    #[tactic(auto, using(crate::proofs::Laws::Texts::some_text), unfolding(crate::specs::Replay::last_text))]
     pub fn last_line(self, step: Step) -> Option<Line>
         ensures { LastPrinted (last_text self (reason_of step)) result }
     {

@@ -30,7 +30,7 @@ pub enum Side {
 fn step(address: Lba, f: Fragment) -> Side
     ensures { result ≡ step address f }
 {
-    if f.length == 0 || address < f.start.first_sector() {
+    if (f.length == 0) | (address < f.start.first_sector()) {
         Side::Left
     } else if address < f.end_address() {
         Side::Here

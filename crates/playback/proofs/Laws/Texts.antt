@@ -51,6 +51,10 @@ words_more_length : (w v : List ℕ) (vs : List (List ℕ)) → length (words w 
 unfolding words
 words_more_length w v vs = length-append w (0x20 ∷ words v vs)
 
+-- words have a byte at least
+pub some_text : (w v : List ℕ) (vs : List (List ℕ)) → words w (v ∷ vs) ≡ [] → ⊥
+some_text w v vs e = omega (arith, ap length e, words_more_length w v vs)
+
 -- every line fits
 pub record_fits_lem : (n op : ℕ) (s : Sense) (next : Option Lba) → length (record_text n op s next) ≤ 80
 record_fits_lem n op s next =

@@ -15,7 +15,10 @@ fn put(words: &mut Image, entry: Entry)
     ensures { Turned words.old words.new (λ d. with_entry d entry) }
 {
     let number = entry.number;
-    if (number == 0) | (number > Disc::LIMIT) {
+    if number == 0 {
+        return;
+    }
+    if number > Disc::LIMIT {
         return;
     }
     put_record(words, number - 1, entry.fragment);

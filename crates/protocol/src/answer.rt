@@ -30,9 +30,16 @@ impl Sense {
         ensures { result ≡ allowed_sense self }
     {
         (self == Sense::none())
-            | DriveRefusal::ALL
-                .iter()
-                .any(|refusal| self == refusal.sense())
+            | (self == DriveRefusal::InvalidOperationCode.sense())
+            | (self == DriveRefusal::WriteProtected.sense())
+            | (self == DriveRefusal::InvalidFieldInCommand.sense())
+            | (self == DriveRefusal::AddressOutOfRange.sense())
+            | (self == DriveRefusal::BlankCheck.sense())
+            | (self == DriveRefusal::InvalidAddressForWrite.sense())
+            | (self == DriveRefusal::IncompleteTrackInSession.sense())
+            | (self == DriveRefusal::EmptyTrack.sense())
+            | (self == DriveRefusal::NoMoreReservations.sense())
+            | (self == DriveRefusal::EndOfUserArea.sense())
     }
 }
 
@@ -86,20 +93,6 @@ impl From<LinkRefusal> for u32 {
 }
 
 impl DriveRefusal {
-    // Every one of them, in the table's order.
-    const ALL: [DriveRefusal; 10] = [
-        DriveRefusal::InvalidOperationCode,
-        DriveRefusal::WriteProtected,
-        DriveRefusal::InvalidFieldInCommand,
-        DriveRefusal::AddressOutOfRange,
-        DriveRefusal::BlankCheck,
-        DriveRefusal::InvalidAddressForWrite,
-        DriveRefusal::IncompleteTrackInSession,
-        DriveRefusal::EmptyTrack,
-        DriveRefusal::NoMoreReservations,
-        DriveRefusal::EndOfUserArea,
-    ];
-
     // The sense that the refusal leaves.
     pub fn sense(self) -> Sense
         ensures { result ≡ refusal_sense self }

@@ -1,4 +1,4 @@
-// The check of a disc state (L3): the rules of a sound list, and the sense.
+// The check of a disc state (L3): the rules of a sound list, and the sense. Flags are joined by `&` here and in find.rt, with no branches.
 ghost use Rattle.std.specs.Prelude.{◌≡◌};
 ghost use Rattle.disc.specs.Sound.{sound, owner_incomplete, allowed_state};
 

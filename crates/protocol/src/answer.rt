@@ -25,7 +25,7 @@ impl Sense {
         Sense::new(0x0, 0x00, 0x00)
     }
 
-    // Whether a command can leave it: none, or a drive refusal's.
+    // Whether a command can leave it: none, or a drive refusal's. A row of tests with no branch: a walk over the refusals takes ten times as long.
     pub fn is_allowed(self) -> bool
         ensures { result ≡ allowed_sense self }
     {
